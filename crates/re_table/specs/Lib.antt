@@ -1,0 +1,5 @@
+pub mod Closure
+pub mod Constraints
+pub mod GoodRows
+pub mod Laws
+pub mod Strength

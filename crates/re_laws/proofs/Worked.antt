@@ -1,5 +1,5 @@
--- A problem that one round solves, and one that no number of rounds solves.
-use Rattle.std.proofs.Common.{◌<◌, ◌≡◌, ℕ, zero, suc, List, [], ◌∷◌, length, refl, sym, subst, arith, ◌⊎◌, inl, inr}
+-- A problem with its table of 0 rounds, a problem that one round solves, and one that no number of rounds solves.
+use Rattle.std.proofs.Common.{◌<◌, ◌≡◌, ℕ, zero, suc, List, [], ◌∷◌, length, map, refl, sym, subst, arith, ◌⊎◌, inl, inr}
 use Rattle.std.specs.Prelude.{Contains}
 use Rattle.std.specs.List.{AllByRecursion}
 use Rattle.re_laws.specs.Chains as chain
@@ -8,26 +8,21 @@ use Rattle.re_labels.proofs.Membership.{Contains-cases, Contains-none}
 use Rattle.re_labels.specs.Sets.{set_of}
 use Rattle.re_laws.proofs.ChainRounds.{Solvable-rounds, fixed_point}
 use Rattle.re_laws.proofs.Relaxing.{IsRelaxed-itself}
-use Rattle.re_laws.proofs.ZeroRounds.{Solvable-zero}
-use Rattle.re_laws.specs.Algorithms.{Solvable}
+use Rattle.re_laws.proofs.ZeroRounds.{Solvable-zero, SolvesBy-zero}
+use Rattle.re_laws.specs.Algorithms.{Entry, Plain, Solvable, Solves, answer}
+use Rattle.re_laws.specs.Examples.{trivial_table}
 use Rattle.re_laws.specs.Chains.{IsLowerChain}
 use Rattle.re_problem.proofs.DerivedProblem.{IsProblem-derived}
-use Rattle.re_problem.proofs.Examples.{IsProblem-sinkless, sinkless, sinkless_twice}
+use Rattle.re_problem.proofs.Examples.{IsProblem-sinkless, sinkless_twice}
 use Rattle.re_problem.proofs.StepLaws.{IsRelaxed-renamed}
 use Rattle.re_problem.specs.Derived.{derived, derived_by}
+use Rattle.re_problem.specs.Examples.{orientation, sinkless, trivial}
 use Rattle.re_problem.specs.Problems.{IsProblem, Problem}
 use Rattle.re_config.specs.Configs.{image_at}
 use Rattle.re_problem.specs.Steps.{IsRelaxed, IsRenamed}
 use Rattle.re_problem.specs.Zero.{Zero}
 use Rattle.re_table.specs.Constraints.{Has}
-
--- any orientation of the edges: around a node of degree 3 everything is allowed, and each edge has an I, which is 0, and an O
-abbrev orientation : Problem
-orientation = record {
-  labels = 2;
-  active = record { degree = 3; configs = (0 ∷ 0 ∷ 0 ∷ []) ∷ (0 ∷ 0 ∷ 1 ∷ []) ∷ (0 ∷ 1 ∷ 1 ∷ []) ∷ (1 ∷ 1 ∷ 1 ∷ []) ∷ [] };
-  passive = record { degree = 2; configs = (0 ∷ 1 ∷ []) ∷ [] };
-}
+use Rattle.re_views.specs.Trees.{IsView, end, leaf, more}
 
 IsProblem-orientation : IsProblem orientation
 IsProblem-orientation = record {
@@ -85,7 +80,7 @@ Zero-orientation = subst Zero (sym orientation_once) (0 ∷ 1 ∷ [], (0, omega 
     drawn_is (x ∷ y ∷ z ∷ w ∷ drawn) e h = absurd (omega (arith, e))
 
 -- one round is enough for an orientation
-orientation_solvable : Solvable orientation 1
+pub orientation_solvable : Solvable orientation 1
 orientation_solvable = (Solvable-rounds orientation 1 IsProblem-orientation).1 Zero-orientation
 
 -- and none isn't
@@ -108,7 +103,7 @@ orientation_not_Zero (config, held, drawn) =
     first_label config (suc (suc (suc zero)), l, e) = (1, (rw (← e) (0, omega arith, refl)), inr refl)
     first_label config (suc (suc (suc (suc k))), l, e) = absurd (omega (arith, l))
 
-orientation_not_solvable : Solvable orientation 0 → ⊥
+pub orientation_not_solvable : Solvable orientation 0 → ⊥
 orientation_not_solvable h = orientation_not_Zero ((Solvable-zero orientation IsProblem-orientation).0 h)
 
 -- ---- sinkless orientation
@@ -152,7 +147,43 @@ two_steps =
     chain.IsLowerChain.step once (IsRelaxed-itself (derived sinkless) once) (chain.IsLowerChain.step twice (IsRelaxed-itself (derived (derived sinkless)) twice) chain.IsLowerChain.done)
 
 -- no number of rounds is enough for a sinkless orientation
-sinkless_not_solvable : (T : ℕ) → Solvable sinkless T → ⊥
+pub sinkless_not_solvable : (T : ℕ) → Solvable sinkless T → ⊥
 sinkless_not_solvable T h =
     fixed_point IsProblem-sinkless chain.IsLowerChain.done two_steps (subst (λ last. IsRelaxed last sinkless (image_at (1 ∷ 0 ∷ []))) (sym sinkless_twice) (IsRelaxed-renamed turned sinkless (1 ∷ 0 ∷ []) turned_renamed))
     (λ holds. turned_not_Zero (subst Zero sinkless_twice holds)) T h
+
+-- ---- one label everywhere
+IsProblem-trivial : IsProblem trivial
+IsProblem-trivial = record {
+  active = record { least = omega arith; most = omega arith; configs = (record { count = refl; below = (omega arith, (omega arith, (omega arith, tt))); ascends = (omega arith, (omega arith, tt)) }, tt); ascends = tt };
+  passive = record { least = omega arith; most = omega arith; configs = (record { count = refl; below = (omega arith, (omega arith, tt)); ascends = (omega arith, tt) }, tt); ascends = tt };
+}
+
+trivial_drawn : (drawn : List ℕ) → length drawn ≡ 2 → AllByRecursion (Contains (0 ∷ 0 ∷ 0 ∷ [])) drawn → Has trivial.passive drawn
+trivial_drawn = drawn_is
+  where
+    always_zero : (x : ℕ) → Contains (0 ∷ 0 ∷ 0 ∷ []) x → x ≡ 0
+    always_zero x (zero, l, e) = sym e
+    always_zero x (suc zero, l, e) = sym e
+    always_zero x (suc (suc zero), l, e) = sym e
+    always_zero x (suc (suc (suc k)), l, e) = absurd (omega (arith, l))
+
+    drawn_is : (drawn : List ℕ) → length drawn ≡ 2 → AllByRecursion (Contains (0 ∷ 0 ∷ 0 ∷ [])) drawn → Has trivial.passive drawn
+    drawn_is [] e h = absurd (omega (arith, e))
+    drawn_is (x ∷ []) e h = absurd (omega (arith, e))
+    drawn_is (x ∷ y ∷ []) e h = rw (always_zero x h.0, always_zero y h.1.0) (0, omega arith, refl)
+    drawn_is (x ∷ y ∷ z ∷ drawn) e h = absurd (omega (arith, e))
+
+-- its table has an entry for the one view of radius 0, and solves it
+pub trivial_solved : Solves trivial 0 trivial_table
+trivial_solved = record { entries = entries; solves = record { active = active; passive = (SolvesBy-zero trivial IsProblem-trivial (0 ∷ 0 ∷ 0 ∷ [], (0, omega arith, refl), trivial_drawn)).passive } }
+  where
+    entries : (v : Plain) → IsView 3 2 0 v → Contains (map (λ (entry : Entry). entry.view) trivial_table) v
+    entries leaf view = (0, omega arith, refl)
+    entries end view = absurd view
+    entries (more back payload branch rest) view = absurd view
+
+    active : (v : Plain) → IsView 3 2 0 v → Has trivial.active (answer trivial_table v)
+    active leaf view = (0, omega arith, refl)
+    active end view = absurd view
+    active (more back payload branch rest) view = absurd view

@@ -169,7 +169,7 @@ sorted-from_sort xs ys p s =
     same_times ys (sorted xs) (rising_at ys (IsNonDecreasingBy-from_sort (λ x. x) ys s)) (sorted_rises xs)
     (λ x. times-sum x ys ∙ sum_by-IsPermutation (λ y. cond (eqb y x) 1 0) xs ys p ∙ sym (times-sum x xs) ∙ times-Perm x (Rearranged-sorted xs))
 
-take_front : {X : Type 0} (ws zs : List X) → take (length ws) (ws ++ zs) ≡ ws
+pub take_front : {X : Type 0} (ws zs : List X) → take (length ws) (ws ++ zs) ≡ ws
 take_front [] zs = refl
 take_front (w ∷ ws) zs = ap (λ l. w ∷ l) (take_front ws zs)
 

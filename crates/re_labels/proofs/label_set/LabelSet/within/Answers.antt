@@ -1,0 +1,5 @@
+use Rattle.re_labels.proofs.Bits.{set_of-within}
+use Rattle.re_labels.proofs.label_set.LabelSet.within.Goals as goal
+
+pub returns : goal.returns
+returns c = rw (← c.self.view_is, ← c.other.view_is) (set_of-within 64 c.self.inside.0 c.other.inside.0 c.self.invariant c.other.invariant)

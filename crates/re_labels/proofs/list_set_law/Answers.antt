@@ -1,5 +1,0 @@
-use Rattle.re_labels.proofs.ListSets.{law}
-use Rattle.re_labels.proofs.list_set_law.Goals as goal
-
-pub returns : goal.returns
-returns c = law

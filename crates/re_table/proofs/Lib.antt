@@ -4,4 +4,4 @@ pub mod Goodness
 pub mod MaxRows
 mod Examples
 pub mod MaxSets
-pub mod Listing
+pub mod Insertions

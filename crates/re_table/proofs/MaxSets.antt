@@ -16,10 +16,8 @@ use Rattle.re_labels.proofs.Rising.{rising-filter, rising-map}
 use Rattle.re_labels.specs.Inverse.{number-set_of}
 use Rattle.re_labels.specs.Lists.{IsBefore, IsRising, count_from, same_list}
 use Rattle.re_labels.specs.Sets.{IsLabelSet, number, set_of}
-use Rattle.re_labels.proofs.ListSets.{In-list_set, list_set-In, rising-list_set}
 use Rattle.re_table.proofs.Goodness.{Has-has_config, IsAllowed-is_allowed, IsDominated-is_dominated, IsGood-is_good, has_config-Has, is_allowed-IsAllowed, is_dominated-IsDominated, is_good-IsGood}
 use Rattle.re_table.proofs.MaxRows.{max_rows-IsMaximal}
-use Rattle.re_labels.specs.ListSets.{list_set}
 use Rattle.re_table.specs.Constraints.{Constraint}
 use Rattle.re_table.specs.GoodRows.{IsAllowed, IsMaximal, allowed, is_allowed, max_rows, max_sets}
 use Rattle.re_table.specs.Laws.{AllowedLaw, MaxSetsLaw, TestLaw}

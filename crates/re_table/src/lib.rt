@@ -4,9 +4,9 @@
 ghost use Rattle.re_table.specs.Closure.{ClosureLaw, DominationLaw};
 ghost use Rattle.re_table.specs.Laws.{AllowedLaw, MaxSetsLaw, MaximalLaw, TestLaw};
 
-mod listed;
+mod constraint_table;
 
-pub use listed::{Constraint, InsertFault};
+pub use constraint_table::{Constraint, InsertFault, MAX_CONFIGURATIONS};
 
 /// The tests of a constraint are the facts.
 pub fn test_law()

@@ -1,0 +1,6 @@
+pub mod Check
+pub mod Command
+pub mod Meaning
+pub mod Outcome
+pub mod Output
+pub mod Run

@@ -1,0 +1,14 @@
+//! The tool as one call: `run` does what the words ask, from the bytes of a source to the text in a sink.
+#![tactic(auto)]
+
+mod answer;
+mod check;
+mod command;
+mod output;
+mod status;
+mod sure;
+mod tool;
+
+pub use status::Status;
+pub use sure::run_sure;
+pub use tool::run;

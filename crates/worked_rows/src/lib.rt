@@ -1,0 +1,7 @@
+//! Worked rows: what the tool answers for words and bytes, at sources and sinks that fail or don't.
+#![tactic(auto)]
+
+#[cfg(test)]
+mod check;
+#[cfg(test)]
+mod faults;

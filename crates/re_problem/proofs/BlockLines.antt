@@ -1,18 +1,16 @@
 -- One more line of a block.
-use Rattle.std.proofs.Common.{◌≡◌, ℕ, suc, ◌<◌, ◌≤◌, ◌+◌, Bool, true, false, cond, ◌&&◌, eqb, ltb, List, [], ◌∷◌, ◌++◌, length, map, refl, sym, ap, ◌∙◌, arith, Option, Some, None}
-use Rattle.std.specs.Cmp.Lexicographic.{slice_cmp}
+use Rattle.std.proofs.Common.{◌≡◌, ℕ, suc, ◌<◌, ◌≤◌, ◌+◌, Bool, true, ◌&&◌, eqb, ltb, List, [], ◌∷◌, ◌++◌, length, map, refl, sym, ap, ◌∙◌, arith, Option, Some, None}
 use Rattle.std.specs.List.{cons_option}
-use Rattle.std.specs.Ordering.{is_lt, nat_cmp}
 use Rattle.std.proofs.lemmas.List.{length-map, map-append}
 use Rattle.std.proofs.lemmas.List.Elements.{filter_map-append}
 use Rattle.std.proofs.lemmas.Bool.Decides.{nat_tests}
 use Rattle.re_labels.proofs.ListSets.{list_set_push}
 use Rattle.re_labels.specs.ListSets.{list_set, with_list}
-use Rattle.re_labels.specs.Lists.{same_list}
 use Rattle.re_problem.specs.Blocks.{StandsBlock}
 use Rattle.re_problem.specs.PlainTexts.{all_labels, degree_of, fits, fits_as, line_labels}
 use Rattle.re_problem.specs.TemporaryLabels.{temporary, temporary_config}
 use Rattle.re_problem.specs.declared.block.Block.{Block}
+use Rattle.re_table.proofs.Insertions.{length-with_list_most}
 use Rattle.re_table.specs.Constraints.{Constraint}
 
 pub labels_more : (lines : List (List ℕ)) (l c : List ℕ) → line_labels l ≡ Some c → all_labels (lines ++ l ∷ []) ≡ all_labels lines ++ c ∷ []
@@ -69,18 +67,9 @@ block_more b new lines l c e s some same room count degree configs =
     )
 
 -- ---- no more configurations than lines
-with_list-one : (ks : List (List ℕ)) (c : List ℕ) → length (with_list ks c) ≤ length ks + 1
-with_list-one [] c = omega arith
-with_list-one (k ∷ ks) c = go (is_lt (slice_cmp nat_cmp c k)) (same_list c k) (with_list-one ks c)
-  where
-    go : (a b : Bool) → length (with_list ks c) ≤ length ks + 1 → length (cond a (c ∷ k ∷ ks) (cond b (k ∷ ks) (k ∷ with_list ks c))) ≤ suc (length ks) + 1
-    go true b h = omega arith
-    go false true h = omega arith
-    go false false h = omega (arith, h)
-
 pub length-list_set : (cs : List (List ℕ)) → length (list_set cs) ≤ length cs
 length-list_set [] = omega arith
-length-list_set (c ∷ cs) = omega (arith, with_list-one (list_set cs) c, length-list_set cs)
+length-list_set (c ∷ cs) = omega (arith, length-with_list_most (list_set cs) c, length-list_set cs)
 
 length-all_labels : (lines : List (List ℕ)) → length (all_labels lines) ≤ length lines
 length-all_labels [] = omega arith

@@ -1,8 +1,9 @@
 -- A line's labels, one at a time.
-use Rattle.std.proofs.Common.{drop-cons, add-one, ◌≡◌, ℕ, zero, suc, ◌<◌, ◌≤◌, ◌+◌, ◌%◌, Bool, true, false, cond, ◌&&◌, eqb, leb, List, [], ◌∷◌, ◌++◌, length, drop, get_or, refl, sym, ap, ◌∙◌, subst, inl, inr, arith, Option, Some, None, append_assoc}
+use Rattle.std.proofs.Common.{drop-cons, add-one, ◌≡◌, ℕ, ◌<◌, ◌≤◌, ◌+◌, ◌%◌, Bool, true, false, cond, ◌&&◌, eqb, leb, List, [], ◌∷◌, ◌++◌, length, drop, get_or, refl, sym, ap, ◌∙◌, subst, inl, inr, arith, Option, Some, None, append_assoc, append-nil, length-append}
 use Rattle.std.specs.Option.{option_and_then}
 use Rattle.std.specs.List.{AllByRecursion}
 use Rattle.re_problem.specs.TemporaryLabels.{IsLabelByte}
+use Rattle.std.proofs.lemmas.List.{drop_all}
 use Rattle.std.proofs.lemmas.Bool.{false≢true}
 use Rattle.std.proofs.lemmas.Bool.Decides.{eqb_tells, leb_tells, nat_tests}
 use Rattle.std.specs.Char.{is_ascii_alphanumeric}
@@ -59,10 +60,6 @@ wrong_label line i labels r h even isnt =
     no_config line (r.0 (omega arith) ∙ nothing_first labels _ (ap spaced_labels (drop_here line i h) ∙ first_step (get_or line i 0) (drop (i + 1) line)
     ∙ ap (λ b. cond b (with_label_first (get_or line i 0) (after_label (drop (i + 1) line))) None) isnt))
 
-pub length-append' : (xs ys : List ℕ) → length (xs ++ ys) ≡ length xs + length ys
-length-append' [] ys = omega arith
-length-append' (x ∷ xs) ys = ap suc (length-append' xs ys) ∙ omega arith
-
 over_six : (c : List ℕ) → 6 < length c → of_degree c ≡ None
 over_six c h = let isnt : leb (length c) 6 ≡ false = grind (arith, nat_tests) in let is : leb 2 (length c) ≡ true = grind (arith, nat_tests) in rw (is, isnt) refl
 
@@ -74,7 +71,7 @@ in_degree c h k = let isnt : leb (length c) 6 ≡ true = grind (arith, nat_tests
 
 longer : (labels : List ℕ) (x : ℕ) (o : Option (List ℕ)) → length labels ≡ 6 → option_and_then of_degree (fronted labels (with_label_first x o)) ≡ None
 longer labels x None e = refl
-longer labels x (Some c) e = over_six (labels ++ x ∷ c) (let l = length-append' labels (x ∷ c) in omega (arith, l))
+longer labels x (Some c) e = over_six (labels ++ x ∷ c) (let l = length-append labels (x ∷ c) in omega (arith, l))
 
 pub too_many : (line : List ℕ) (i : ℕ) (labels : List ℕ) → ReadTo line i labels → i < length line → (i % 2 ≡ 1 → ⊥) → is_ascii_alphanumeric (get_or line i 0) ≡ true → length labels ≡ 6 → line_labels line ≡ None
 unfolding line_labels
@@ -95,23 +92,13 @@ pub next_space : (line : List ℕ) (i : ℕ) (labels : List ℕ) → ReadTo line
 next_space line i labels r h odd e =
     ((λ _. r.1 odd ∙ ap (fronted labels) (ap after_label (drop_here line i h) ∙ ap (λ x. cond (eqb x 32) (spaced_labels (drop (i + 1) line)) None) e)), (λ f. absurd (omega arith)))
 
-drop_all : (xs : List ℕ) (i : ℕ) → length xs ≤ i → drop i xs ≡ []
-drop_all [] zero h = refl
-drop_all [] (suc i) h = refl
-drop_all (x ∷ xs) zero h = absurd (omega arith)
-drop_all (x ∷ xs) (suc i) h = drop_all xs i (omega arith)
-
 pub ends_even : (line : List ℕ) (i : ℕ) (labels : List ℕ) → ReadTo line i labels → length line ≤ i → i % 2 ≡ 0 → line_labels line ≡ None
 unfolding spaced_labels
-ends_even line i labels r h e = no_config line (r.0 e ∙ ap (λ l. fronted labels (spaced_labels l)) (drop_all line i h))
-
-append-nil : (xs : List ℕ) → xs ++ [] ≡ xs
-append-nil [] = refl
-append-nil (x ∷ xs) = ap (λ l. x ∷ l) (append-nil xs)
+ends_even line i labels r h e = no_config line (r.0 e ∙ ap (λ l. fronted labels (spaced_labels l)) (drop_all i line h))
 
 pub ends_odd : (line : List ℕ) (i : ℕ) (labels : List ℕ) → ReadTo line i labels → length line ≤ i → i % 2 ≡ 1 → line_labels line ≡ of_degree labels
 unfolding line_labels
-ends_odd line i labels r h e = ap (option_and_then of_degree) (r.1 e ∙ ap (λ l. fronted labels (after_label l)) (drop_all line i h)) ∙ ap of_degree (append-nil labels)
+ends_odd line i labels r h e = ap (option_and_then of_degree) (r.1 e ∙ ap (λ l. fronted labels (after_label l)) (drop_all i line h)) ∙ ap of_degree (append-nil labels)
 
 pub from_eqb : (b : Bool) (n m : ℕ) → b ≡ eqb n m → b ≡ true → n ≡ m
 from_eqb b n m e t = elim (eqb_tells n m) [ inl d ↦ d.1 | inr d ↦ absurd (false≢true (sym d.0 ∙ sym e ∙ t)) ]

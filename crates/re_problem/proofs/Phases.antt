@@ -1,5 +1,5 @@
 -- One more line, in each phase of a text.
-use Rattle.std.proofs.Common.{◌≡◌, ℕ, suc, ◌<◌, Bool, true, false, cond, not, ◌||◌, eqb, List, [], ◌∷◌, ◌++◌, length, refl, sym, ap, ◌∙◌, subst, arith, None, Result, Ok, Err}
+use Rattle.std.proofs.Common.{append-nil, ◌≡◌, ℕ, suc, ◌<◌, Bool, true, false, cond, not, ◌||◌, eqb, List, [], ◌∷◌, ◌++◌, length, refl, sym, ap, ◌∙◌, subst, arith, None, Result, Ok, Err}
 use Rattle.std.specs.List.{onto_first, cons_option}
 use Rattle.std.specs.Str.{bytes_eq}
 use Rattle.std.proofs.lemmas.Slice.Eq.{bytes_eq-Decides}
@@ -116,7 +116,7 @@ feed_active r b line (Ok u) begun active filled add = active_ok r b line begun a
 feed_active r b line (Err Wrong) begun active filled add = active_wrong r b line begun active filled add
 feed_active r b line (Err NoMemory) begun active filled add = tt
 
-has_last_more : (pas : List (List ℕ)) (line : List ℕ) → has_last (pas ++ line ∷ []) ≡ (has_last pas || bytes_eq line last_line)
+pub has_last_more : (pas : List (List ℕ)) (line : List ℕ) → has_last (pas ++ line ∷ []) ≡ (has_last pas || bytes_eq line last_line)
 has_last_more [] line = or-false (bytes_eq line last_line)
   where
     or-false : (a : Bool) → (a || false) ≡ a
@@ -128,7 +128,7 @@ has_last_more (p ∷ pas) line = ap (λ b. bytes_eq p last_line || b) (has_last_
     or-or true b c = refl
     or-or false b c = refl
 
-last_has_none : line_labels last_line ≡ None
+pub last_has_none : line_labels last_line ≡ None
 unfolding line_labels spaced_labels
 last_has_none = refl
 
@@ -162,10 +162,6 @@ feed_last r (h ∷ ls) line begun passive going last filled s =
     or-true true = refl
     or-true false = refl
 
-    append-nil : (xs : List (List ℕ)) → xs ++ [] ≡ xs
-    append-nil [] = refl
-    append-nil (x ∷ xs) = ap (λ l. x ∷ l) (append-nil xs)
-
     none_here : line_labels line ≡ None
     none_here = subst (λ l. line_labels l ≡ None) (sym ((bytes_eq-Decides line last_line).0 last)) last_has_none
 
@@ -176,7 +172,7 @@ nothing_none : line_labels [] ≡ None
 unfolding line_labels spaced_labels
 nothing_none = refl
 
-filled_if_fits : (lines : List (List ℕ)) (line : List ℕ) → fits lines line ≡ true → is_nil line ≡ false
+pub filled_if_fits : (lines : List (List ℕ)) (line : List ℕ) → fits lines line ≡ true → is_nil line ≡ false
 filled_if_fits lines [] h = absurd (false≢true (sym (ap (fits_as lines) nothing_none) ∙ h))
 filled_if_fits lines (b ∷ l) h = refl
 

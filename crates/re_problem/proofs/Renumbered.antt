@@ -16,6 +16,7 @@ use Rattle.re_labels.specs.ListSets.{list_set}
 use Rattle.re_labels.specs.Sets.{has}
 use Rattle.re_problem.proofs.Building.{true-below}
 use Rattle.re_problem.proofs.LabelBytes.{byte_at-label_number, label_number-below}
+use Rattle.re_problem.proofs.StepLaws.{map-map}
 use Rattle.re_problem.proofs.TemporaryNames.{temporary_name}
 use Rattle.re_problem.proofs.UsedLabels.{all_counted}
 use Rattle.re_problem.specs.NamedProblems.{all_occur, are_named, built, occurs}
@@ -107,10 +108,6 @@ same_names lines used h e = one_set (names_below 62 used) (names_of lines) (risi
         ])
 
 -- ---- the constraints
-map-map : {X Y Z : Type 0} (g : Y → Z) (f : X → Y) (xs : List X) → map g (map f xs) ≡ map (λ x. g (f x)) xs
-map-map g f [] = refl
-map-map g f (x ∷ xs) = ap (λ l. g (f x) ∷ l) (map-map g f xs)
-
 map-same : {X Y : Type 0} (f g : X → Y) (xs : List X) → ((x : X) → In x xs → f x ≡ g x) → map f xs ≡ map g xs
 map-same f g [] same = refl
 map-same f g (x ∷ xs) same = (λ i. same x (inl refl) i ∷ map-same f g xs (λ y j. same y (inr j)) i)

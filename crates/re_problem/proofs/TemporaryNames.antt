@@ -1,5 +1,5 @@
 -- The names of labels that are places among the digits and letters.
-use Rattle.std.proofs.Common.{◌≡◌, ℕ, zero, suc, ◌<◌, ◌≤◌, ◌+◌, Bool, true, false, cond, List, [], ◌∷◌, ◌++◌, length, map, refl, ap, ◌∙◌, arith, set, ◌⊎◌}
+use Rattle.std.proofs.Common.{append-nil, ◌≡◌, ℕ, zero, suc, ◌<◌, ◌≤◌, ◌+◌, Bool, true, false, cond, List, [], ◌∷◌, ◌++◌, length, map, ap, ◌∙◌, arith, set, ◌⊎◌}
 use Rattle.std.specs.Prelude.{filter}
 use Rattle.std.proofs.lemmas.List.{get_or-set_other, get_or-set_same, length-map, map-append}
 use Rattle.std.proofs.lemmas.Bool.Decides.{nat_tests}
@@ -34,10 +34,6 @@ names_below-used used n h =
     ap (λ l. list_set (map temporary_name l)) (filter_more used n ∙ ap (λ b. filter (has used) (count_from 0 n) ++ cond b (n ∷ []) []) h)
     ∙ ap list_set (map-append temporary_name (filter (has used) (count_from 0 n)) (n ∷ []))
     ∙ list_set_push (map temporary_name (filter (has used) (count_from 0 n))) (temporary_name n)
-
-append-nil : (xs : List ℕ) → xs ++ [] ≡ xs
-append-nil [] = refl
-append-nil (x ∷ xs) = ap (λ l. x ∷ l) (append-nil xs)
 
 -- another one gives none
 pub names_below-other : (used : List ℕ) (n : ℕ) → has used n ≡ false → names_below (n + 1) used ≡ names_below n used

@@ -1,7 +1,8 @@
 -- A text, line by line from its front.
-use Rattle.std.proofs.Common.{◌≡◌, ℕ, zero, suc, ◌≤◌, ◌+◌, ◌-◌, Bool, true, false, cond, not, ◌&&◌, eqb, List, [], ◌∷◌, ◌++◌, length, take, drop, refl, sym, ap, ◌∙◌, subst, arith, length-drop, Option, Some, None, append_assoc}
+use Rattle.std.proofs.Common.{append-nil, ◌≡◌, ℕ, suc, ◌+◌, ◌-◌, Bool, true, false, cond, not, ◌&&◌, eqb, List, [], ◌∷◌, ◌++◌, length, take, drop, refl, sym, ap, ◌∙◌, subst, arith, length-drop, Option, Some, None, append_assoc}
 use Rattle.std.specs.List.{onto_first, position_from, position}
 use Rattle.std.proofs.lemmas.Iterator.Adapters.{position_from-zero}
+use Rattle.std.proofs.lemmas.List.{take_all}
 use Rattle.std.proofs.lemmas.Bool.{false≢true}
 use Rattle.re_problem.specs.PlainTexts.{is_nil, parts, ended_lines, open_line, are_right, is_wrong, plain_lines, lines_of, PlainLines}
 
@@ -30,14 +31,8 @@ cut_at xs i h =
     let e : r.0 ≡ i = omega (arith, r.1) in
     subst (λ d. parts xs ≡ take d xs ∷ parts (drop (d + 1) xs)) e r.2
 
-take_all : (xs : List ℕ) (i : ℕ) → length xs ≤ i → take i xs ≡ xs
-take_all [] zero h = refl
-take_all [] (suc i) h = refl
-take_all (x ∷ xs) zero h = absurd (omega arith)
-take_all (x ∷ xs) (suc i) h = ap (λ l. x ∷ l) (take_all xs i (omega arith))
-
 pub take_rest : (xs : List ℕ) (k : ℕ) → take (length xs - k) (drop k xs) ≡ drop k xs
-take_rest xs k = take_all (drop k xs) (length xs - k) (omega (arith, length-drop k xs))
+take_rest xs k = take_all (length xs - k) (drop k xs) (omega (arith, length-drop k xs))
 
 pub cut_none : (xs : List ℕ) → None ≡ position (λ b. eqb b 10) xs → parts xs ≡ xs ∷ []
 cut_none xs h = no_place xs 0 (sym (h ∙ position_from-zero (λ b. eqb b 10) xs))
@@ -95,10 +90,6 @@ pub line_open : (bytes : List ℕ) (before : List (List ℕ)) (rest : List ℕ) 
 line_open bytes before rest s e filled =
     chosen_none (is_nil (open_line (parts bytes))) (are_right [] (ended_lines (parts bytes))) (lines_of (ended_lines (parts bytes)))
     (ap (λ b. b && are_right [] (ended_lines (parts bytes))) (ap is_nil (s.open_one ∙ ap open_line e) ∙ filled))
-
-append-nil : (xs : List (List ℕ)) → xs ++ [] ≡ xs
-append-nil [] = refl
-append-nil (x ∷ xs) = ap (λ l. x ∷ l) (append-nil xs)
 
 -- all lines are read
 pub all_read : (bytes : List ℕ) (before : List (List ℕ)) (rest : List ℕ) → ReadSoFar bytes before rest → is_nil rest ≡ true → plain_lines bytes ≡ lines_of before

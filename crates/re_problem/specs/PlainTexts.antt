@@ -13,16 +13,20 @@ use Rattle.re_table.specs.declared.constraint_table.TheConstants.{MAX_CONFIGURAT
 use Rattle.re_problem.specs.NamedProblems.{NamedProblem}
 
 -- ---- lines
+-- the first line
 abbrev pub header : List ℕ
 header = codes "== certificate 1 lower"
 
+-- the last one
 abbrev pub last_line : List ℕ
 last_line = codes "== end"
 
+-- whether nothing stands in the list
 abbrev pub is_nil : {X : Type 0} → List X → Bool
 is_nil [] = true
 is_nil (x ∷ xs) = false
 
+-- the labels with one more in front, where there are labels
 abbrev pub with_label_first : ℕ → Option (List ℕ) → Option (List ℕ)
 with_label_first x None = None
 with_label_first x (Some labels) = Some (x ∷ labels)
@@ -33,6 +37,7 @@ spaced_labels [] = None
 spaced_labels (x ∷ []) = if is_ascii_alphanumeric x then Some (x ∷ []) else None
 spaced_labels (x ∷ s ∷ l) = if is_ascii_alphanumeric x && s == 32 then with_label_first x (spaced_labels l) else None
 
+-- the labels, where they are 2 to 6
 abbrev pub of_degree : List ℕ → Option (List ℕ)
 of_degree labels = if nat_le 2 (length labels) && nat_le (length labels) 6 then Some labels else None
 
@@ -50,11 +55,12 @@ degree_of [] = 0
 degree_of (labels ∷ more) = length labels
 
 -- ---- texts
--- the line, with these labels, can follow these lines of its block
+-- a line with these labels can follow these lines of its block: it has as many labels, and is no line too many
 abbrev pub fits_as : List (List ℕ) → Option (List ℕ) → Bool
 fits_as block None = false
 fits_as block (Some labels) = (is_nil block || length labels == degree_of (all_labels block)) && nat_lt (length block) MAX_CONFIGURATIONS
 
+-- the line can follow these lines of its block
 abbrev pub fits : List (List ℕ) → List ℕ → Bool
 fits block l = fits_as block (line_labels l)
 
@@ -62,20 +68,21 @@ fits block l = fits_as block (line_labels l)
 abbrev pub blocks : List (List ℕ) → List (List (List ℕ))
 blocks ls = slice_split is_nil ls
 
+-- whether the last line of a text stands in the block
 abbrev pub has_last : List (List ℕ) → Bool
 has_last block = list_any (λ l. bytes_eq l last_line) block
 
 -- the line is wrong behind these blocks
 abbrev pub is_wrong_in : List (List (List ℕ)) → List ℕ → Bool
 is_wrong_in [] l = true
-is_wrong_in (act ∷ []) l = if is_nil l then is_nil act else not (fits act l)
-is_wrong_in (act ∷ pas ∷ []) l = has_last pas || (if bytes_eq l last_line then is_nil pas else not (fits pas l))
-is_wrong_in (act ∷ pas ∷ b ∷ bs) l = true
+is_wrong_in (active ∷ []) l = if is_nil l then is_nil active else not (fits active l)
+is_wrong_in (active ∷ passive ∷ []) l = has_last passive || (if bytes_eq l last_line then is_nil passive else not (fits passive l))
+is_wrong_in (active ∷ passive ∷ block ∷ more) l = true
 
 -- the line is wrong behind these lines
 abbrev pub is_wrong : List (List ℕ) → List ℕ → Bool
 is_wrong [] l = not (bytes_eq l header)
-is_wrong (h ∷ ls) l = is_wrong_in (blocks ls) l
+is_wrong (first ∷ ls) l = is_wrong_in (blocks ls) l
 
 -- no line is wrong, each judged behind those before it
 abbrev pub are_right : List (List ℕ) → List (List ℕ) → Bool
@@ -87,28 +94,31 @@ pub record PlainLines : Type 0 where
   pub active : List (List ℕ)
   pub passive : List (List ℕ)
 
+-- the labels of the lines of both blocks, where the last line is there
 abbrev pub lines_in : List (List (List ℕ)) → Option PlainLines
 lines_in [] = None
-lines_in (act ∷ []) = None
-lines_in (act ∷ pas ∷ []) = if has_last pas then Some (record { active = all_labels act; passive = all_labels pas }) else None
-lines_in (act ∷ pas ∷ b ∷ bs) = None
+lines_in (active ∷ []) = None
+lines_in (active ∷ passive ∷ []) = if has_last passive then Some (record { active = all_labels active; passive = all_labels passive }) else None
+lines_in (active ∷ passive ∷ block ∷ more) = None
 
 -- the labels of the lines, where these have come to the last one
 abbrev pub lines_of : List (List ℕ) → Option PlainLines
 lines_of [] = None
-lines_of (h ∷ ls) = lines_in (blocks ls)
+lines_of (first ∷ ls) = lines_in (blocks ls)
 
--- all parts but the last
+-- all parts but the last: the lines that a line feed ends
 abbrev pub ended_lines : List (List ℕ) → List (List ℕ)
 ended_lines [] = []
 ended_lines (l ∷ []) = []
 ended_lines (l ∷ m ∷ ls) = l ∷ ended_lines (m ∷ ls)
 
+-- the last part: what stands behind the last line feed
 abbrev pub open_line : List (List ℕ) → List ℕ
 open_line [] = []
 open_line (l ∷ []) = l
 open_line (l ∷ m ∷ ls) = open_line (m ∷ ls)
 
+-- the bytes, cut at the line feeds
 abbrev pub parts : List ℕ → List (List ℕ)
 parts bytes = slice_split (λ b. b == 10) bytes
 

@@ -9,30 +9,30 @@ use Rattle.re_problem.specs.declared.reader.Blocks.{Blocks}
 use Rattle.re_problem.specs.declared.reader.PlainReader.{PlainReader}
 
 -- in the active block
-pub record StandsActive (r : PlainReader) (act : List (List ℕ)) : Type 0 where
+pub record StandsActive (r : PlainReader) (lines : List (List ℕ)) : Type 0 where
   pub in_passive : r.in_passive ≡ false
   pub ended : r.ended ≡ false
-  pub active : StandsBlock r.active act
+  pub active : StandsBlock r.active lines
   pub none : StandsBlock r.passive []
 
 -- in the passive block, or behind the last line
-pub record StandsPassive (r : PlainReader) (act pas : List (List ℕ)) : Type 0 where
+pub record StandsPassive (r : PlainReader) (active_lines passive_lines : List (List ℕ)) : Type 0 where
   pub in_passive : r.in_passive ≡ true
-  pub ended : r.ended ≡ has_last pas
-  pub active : r.active.constraint ≡ temporary (all_labels act)
-  pub closed_block : r.ended ≡ true → r.passive.constraint ≡ temporary (all_labels pas)
-  pub open_block : r.ended ≡ false → StandsBlock r.passive pas
+  pub ended : r.ended ≡ has_last passive_lines
+  pub active : r.active.constraint ≡ temporary (all_labels active_lines)
+  pub closed_block : r.ended ≡ true → r.passive.constraint ≡ temporary (all_labels passive_lines)
+  pub open_block : r.ended ≡ false → StandsBlock r.passive passive_lines
 
 abbrev pub StandsIn : PlainReader → List (List (List ℕ)) → Type 0
 StandsIn r [] = ⊥
-StandsIn r (act ∷ []) = StandsActive r act
-StandsIn r (act ∷ pas ∷ []) = StandsPassive r act pas
-StandsIn r (act ∷ pas ∷ b ∷ bs) = ⊥
+StandsIn r (active ∷ []) = StandsActive r active
+StandsIn r (active ∷ passive ∷ []) = StandsPassive r active passive
+StandsIn r (active ∷ passive ∷ block ∷ more) = ⊥
 
 -- the reader stands for this list of lines
 abbrev pub Stands : PlainReader → List (List ℕ) → Type 0
 Stands r [] = (r.begun ≡ false) × StandsActive r []
-Stands r (h ∷ ls) = (r.begun ≡ true) × StandsIn r (blocks ls)
+Stands r (first ∷ ls) = (r.begun ≡ true) × StandsIn r (blocks ls)
 
 -- what one more line does, whatever lines the reader stood for
 abbrev pub FeedGives : PlainReader → PlainReader → List ℕ → Result (Unit {0}) LineFault → Type 0

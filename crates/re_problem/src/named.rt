@@ -1,6 +1,6 @@
 //! Problems whose labels have names.
 ghost use Rattle.re_labels.specs.Names.{IsNames};
-ghost use Rattle.re_problem.specs.NamedProblems.{IsNamedProblem, built};
+ghost use Rattle.re_problem.specs.NamedProblems.{BuildLaw, IsNamedProblem, built};
 ghost use Rattle.std.specs.Prelude.{◌≡◌};
 
 use crate::occurring::{all_occur, are_named};
@@ -86,3 +86,8 @@ impl Problem {
         }
     }
 }
+
+/// Constraints and names make a problem exactly where they are a problem with names.
+pub fn build_law()
+    ensures { BuildLaw }
+{}

@@ -1,4 +1,5 @@
 //! The reading of plain texts.
+ghost use Rattle.re_problem.specs.PlainLaws.{PlainLaw};
 ghost use Rattle.re_problem.specs.PlainTexts.{parts, plain_lines, plain_problem};
 ghost use Rattle.re_problem.specs.Reading.{blocks_of};
 ghost use Rattle.std.specs.Option.{option_map};
@@ -55,7 +56,8 @@ fn read_blocks(alloc: Global, bytes: &[u8]) -> Result<Option<Blocks>, NoMemory>
 /// letters or digits with one space between, in any order, and all lines of a block have equally many. A line may be
 /// repeated, and counts once. The names of the problem are the letters and digits that are written, in the order of bytes.
 ///
-/// It reads line by line, and keeps no lines: with n lines it compares about n log n configurations.
+/// It reads line by line, and keeps no lines. With n lines it compares about n log n configurations; a line that is new to its
+/// block moves the configurations that stand behind it.
 pub fn read_plain(alloc: Global, bytes: &[u8]) -> Result<Option<Problem>, NoMemory>
     ensures { IfOk result (λ problem. problem ≡ plain_problem bytes.now) }
 {
@@ -64,3 +66,8 @@ pub fn read_plain(alloc: Global, bytes: &[u8]) -> Result<Option<Problem>, NoMemo
         Some(blocks) => named(alloc, blocks),
     }
 }
+
+/// Bytes are the plain text of some lines exactly where they are these lines, written as such a text is.
+pub fn plain_law()
+    ensures { PlainLaw }
+{}

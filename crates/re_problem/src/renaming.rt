@@ -75,7 +75,7 @@ fn place_in(names: &Names, label: u8) -> u8
 }
 
 // The places of the names of all labels, where these are among the names.
-fn images_for(names: &Names) -> [u8; 64]
+fn images_for(names: &Names) -> [u8; MAX_LABELS as usize]
     ensures below { AllByRecursion (λ image. image < MAX_LABELS) result }
     ensures places { (label : ℕ) → label < LABEL_BYTES → Contains names.now (name_of_byte (byte_at label))
         → image_at result label ≡ place_of names.now (name_of_byte (byte_at label)) }

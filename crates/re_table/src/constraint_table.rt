@@ -1,9 +1,11 @@
 //! A constraint as the ascending list of its configurations.
 ghost use Rattle.re_labels.specs.Lists.{IsBefore, IsRising, place_of};
-ghost use Rattle.re_labels.specs.ListSets.{with_list};
+ghost use Rattle.re_labels.specs.ListSets.{list_set, with_list};
+ghost use Rattle.re_config.specs.Configs.{image_of};
+ghost use Rattle.std.specs.List.Sorted.{IsPermutation};
 ghost use Rattle.re_table.specs.Constraints.{IsConstraint, images_of};
 ghost use Rattle.std.specs.List.{AllByRecursion};
-ghost use Rattle.std.specs.Prelude.{◌≡◌, ◌≤◌, ◌<◌, ◌↔◌, [], length, slice_index_or, OnErr, OnOk, MatchResult, IsSome, IsTrue, IfOk, IfSome, insert, Contains};
+ghost use Rattle.std.specs.Prelude.{◌≡◌, ◌≤◌, ◌<◌, ◌↔◌, [], length, slice_index_or, OnErr, OnOk, MatchResult, IsSome, IsTrue, IfOk, IfSome, insert, map, Contains};
 
 use re_config::Config;
 use re_labels::{MAX_LABELS, NoMemory};
@@ -14,7 +16,7 @@ use std::marker::Model;
 pub const MAX_CONFIGURATIONS: usize = 65_536;
 
 /// Why a configuration could not be added.
-#[derive(Drop)]
+#[derive(Clone, Copy, Debug, PartialEq, Eq)]
 pub enum InsertFault {
     /// `MAX_CONFIGURATIONS` others are held.
     TooManyConfigurations,
@@ -62,6 +64,44 @@ fn place_in(configs: &[Config], config: &Config) -> Result<usize, usize>
     configs.binary_search(config)
 }
 
+// The images of the configurations, in ascending order.
+fn images_in_order(
+    alloc: Global,
+    configs: &[Config],
+    images: &[u8],
+) -> Result<Vec<Config>, NoMemory>
+    requires known { AllByRecursion (AllByRecursion (λ label. label < length images.now)) configs.now }
+    requires below { AllByRecursion (λ image. image < MAX_LABELS) images.now }
+    ensures { IfOk result (λ all. IsPermutation (map (image_of images.now) configs.now) all.items) }
+{
+    let mut all = Vec::new(alloc);
+    for config in configs {
+        all.push(config.image(images))?;
+    }
+    all.sort()?;
+    Ok(all)
+}
+
+// The constraint of these configurations, which ascend or take an insertion each.
+fn collected(alloc: Global, degree: u8, configs: &[Config]) -> Result<Constraint, NoMemory>
+    requires least { 2 ≤ degree }
+    requires most { degree ≤ 6 }
+    requires fit { AllByRecursion (λ config. length config ≡ degree) configs.now }
+    requires few { length configs.now ≤ MAX_CONFIGURATIONS }
+    ensures degree { IfOk result (λ constraint. constraint.degree ≡ degree) }
+    ensures configs { IfOk result (λ constraint. constraint.configs ≡ list_set configs.now) }
+{
+    let mut whole = Constraint::new(alloc, degree);
+    for config in configs {
+        match whole.insert(config.copy()) {
+            Ok(_) => {}
+            Err(InsertFault::NoMemory) => return Err(NoMemory),
+            Err(InsertFault::TooManyConfigurations) => unreachable!(),
+        }
+    }
+    Ok(whole)
+}
+
 impl Constraint {
     /// The constraint without configurations. It takes no memory.
     pub fn new(alloc: Global, degree: u8) -> Constraint
@@ -81,7 +121,6 @@ impl Constraint {
         ensures degree { result ≡ self.now.degree }
         ensures constraint { IsConstraint MAX_LABELS self.now }
     {
-        let _ = &self.held;
         self.degree
     }
 
@@ -161,21 +200,15 @@ impl Constraint {
     }
 
     /// The constraint with the images of the configurations, each once, where `images` has the images of
-    /// all labels in order. Each image takes an insertion, which is cheapest where they ascend.
+    /// all labels in order. The images are sorted first, so that n of them cost about n log n.
     pub fn image(&self, images: &[u8]) -> Result<Constraint, NoMemory>
         requires known { AllByRecursion (AllByRecursion (λ label. label < length images.now)) self.now.configs }
         requires below { AllByRecursion (λ image. image < MAX_LABELS) images.now }
         ensures degree { IfOk result (λ constraint. constraint.degree ≡ self.now.degree) }
         ensures configs { IfOk result (λ constraint. constraint.configs ≡ images_of images.now self.now) }
     {
-        let mut whole = Constraint::new(*self.held.allocator(), self.degree);
-        for config in &self.held {
-            match whole.insert(config.image(images)) {
-                Ok(_) => {}
-                Err(InsertFault::NoMemory) => return Err(NoMemory),
-                Err(InsertFault::TooManyConfigurations) => unreachable!(),
-            }
-        }
-        Ok(whole)
+        let alloc = *self.held.allocator();
+        let all = images_in_order(alloc, self.held.as_slice(), images)?;
+        collected(alloc, self.degree, all.as_slice())
     }
 }

@@ -1,10 +1,12 @@
-// Constraints, their good rows, and the laws of the maximal ones.
+//! Constraints, their good rows, and the laws of the maximal ones.
 #![tactic(auto)]
 
 ghost use Rattle.re_table.specs.Closure.{ClosureLaw, DominationLaw};
 ghost use Rattle.re_table.specs.Laws.{AllowedLaw, MaxSetsLaw, MaximalLaw, TestLaw};
 
 mod constraint_table;
+#[cfg(test)]
+mod constraint_tests;
 
 pub use constraint_table::{Constraint, InsertFault, MAX_CONFIGURATIONS};
 

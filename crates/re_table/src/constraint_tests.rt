@@ -1,0 +1,48 @@
+//! Each call of a constraint once, with configurations that come in ascending, descending and scattered order.
+use crate::{Constraint, InsertFault};
+use re_config::Config;
+use std::alloc::Global;
+use std::test::Fail;
+
+// The constraint of the configurations of these two labels each, below 64.
+fn filled(alloc: Global, pairs: &[[u8; 2]]) -> Result<Constraint, InsertFault> {
+    let mut constraint = Constraint::new(alloc, 2);
+    for pair in pairs {
+        constraint.insert(Config::from_labels(&[pair[0] % 64, pair[1] % 64]))?;
+    }
+    Ok(constraint)
+}
+
+#[test]
+fn orders_of_insertion(rt: HostRuntime) -> Result<(), Fail> {
+    for pairs in [
+        [[0, 0], [1, 0], [0, 2], [63, 63], [63, 63]],
+        [[63, 63], [0, 2], [0, 2], [0, 1], [0, 0]],
+        [[0, 2], [0, 0], [63, 63], [2, 0], [0, 1]],
+    ] {
+        let constraint = filled(rt.alloc(), &pairs)?;
+        assert_eq!(rt; constraint.len(), 4);
+        for (place, want) in [[0, 0], [0, 1], [0, 2], [63, 63]].iter().enumerate() {
+            let config = constraint.get(place).ok_or("there are four")?;
+            assert!(rt; config.labels() == want.as_slice());
+        }
+    }
+    Ok(())
+}
+
+#[test]
+fn calls(rt: HostRuntime) -> Result<(), Fail> {
+    let mut constraint = filled(rt.alloc(), &[[0, 1], [1, 1]])?;
+    assert_eq!(rt; constraint.degree(), 2);
+    assert!(rt; constraint.insert(Config::from_labels(&[2, 1]))?);
+    assert!(rt; !constraint.insert(Config::from_labels(&[1, 2]))?);
+    assert!(rt; constraint.get(3).is_none());
+    assert!(rt; constraint.contains(&Config::from_labels(&[1, 0])));
+    assert!(rt; !constraint.contains(&Config::from_labels(&[0, 2])));
+    let copy = constraint.copy()?;
+    assert!(rt; copy.configs() == constraint.configs());
+    let image = constraint.image(&[7; 64])?;
+    assert_eq!(rt; image.len(), 1);
+    assert!(rt; image.contains(&Config::from_labels(&[7, 7])));
+    Ok(())
+}

@@ -5,7 +5,7 @@ ghost use Rattle.re_io.specs.Faults.{Rose};
 ghost use Rattle.re_cli.specs.Outcome.{IsAnswer, status_of};
 ghost use Rattle.re_cli.specs.Command.{reads_input};
 ghost use Rattle.re_cli.specs.Output.{expected, outcome_of};
-ghost use Rattle.re_cli.specs.Meaning.{DoneMeans};
+ghost use Rattle.re_cli.specs.Meaning.{DoneMeans, LineMeans};
 ghost use Rattle.re_cli.specs.Run.{IsInput, Answers, StopsWithin};
 
 use crate::answer::stream;
@@ -76,6 +76,8 @@ pub fn run<S: Source, K: Sink>(
 
     // What an answer of `check` means for algorithms: Done, and the accepting line wherever it was written.
     ensures done_means { (bytes : List ℕ) → S.left source.old ≡ Some bytes → DoneMeans (map string_bytes words.now) bytes result }
+    ensures line_means { (bytes : List ℕ) → S.left source.old ≡ Some bytes →
+        LineMeans (map string_bytes words.now) bytes (K.written sink.old) (K.written sink.new) }
 
     // What is left of the input.
     ensures emptied { IsAnswer result → IsTrue (reads_input (map string_bytes words.now)) →

@@ -149,15 +149,6 @@ impl Constraint {
         place_in(self.held.as_slice(), config).is_ok()
     }
 
-    /// Its configurations, in ascending order.
-    pub fn configs(&self) -> &[Config]
-        ensures configs { result.now ≡ self.now.configs }
-        ensures most { length self.now.configs ≤ MAX_CONFIGURATIONS }
-        ensures constraint { IsConstraint MAX_LABELS self.now }
-    {
-        self.held.as_slice()
-    }
-
     /// One more configuration, which counts once; the answer says whether it is new. A configuration
     /// that is not held is refused with `TooManyConfigurations` exactly where `MAX_CONFIGURATIONS` are
     /// held. After a refusal nothing has changed. With n configurations it compares about log n of

@@ -1,6 +1,7 @@
 //! Each call of a constraint once, with configurations that come in ascending, descending and scattered order.
 use crate::{Constraint, InsertFault};
-use re_config::Config;
+use re_config::{Config, Row};
+use re_labels::LabelSet;
 use std::alloc::Global;
 use std::test::Fail;
 
@@ -40,9 +41,36 @@ fn calls(rt: HostRuntime) -> Result<(), Fail> {
     assert!(rt; constraint.contains(&Config::from_labels(&[1, 0])));
     assert!(rt; !constraint.contains(&Config::from_labels(&[0, 2])));
     let copy = constraint.copy()?;
-    assert!(rt; copy.configs() == constraint.configs());
+    for place in 0..=constraint.len() {
+        assert!(rt; copy.get(place) == constraint.get(place));
+    }
     let image = constraint.image(&[7; 64])?;
     assert_eq!(rt; image.len(), 1);
     assert!(rt; image.contains(&Config::from_labels(&[7, 7])));
+    Ok(())
+}
+
+// The pairs with C, and A with B: rows by the numbers of their sets, where A, B and C are 1, 2 and 4.
+#[test]
+fn good_and_allowed_rows(rt: HostRuntime) -> Result<(), Fail> {
+    let constraint = filled(rt.alloc(), &[[0, 1], [0, 2], [1, 2], [2, 2]])?;
+    assert_eq!(rt; constraint.degree(), 2);
+    for ([first, second], good, allowed) in [
+        ([4, 7], true, true),
+        ([5, 6], true, true),
+        ([1, 6], true, true),
+        ([3, 4], true, true),
+        ([1, 7], false, true),
+        ([3, 3], false, true),
+        ([7, 7], false, true),
+        ([1, 1], false, false),
+        ([2, 2], false, false),
+    ] {
+        let sets = [LabelSet::of_number(first), LabelSet::of_number(second)];
+        let row = Row::from_sets(&sets).ok_or("no set is empty")?;
+        assert_eq!(rt; row.sets().len(), 2);
+        assert_eq!(rt; constraint.is_good(&row), good);
+        assert_eq!(rt; constraint.allows(&row), allowed);
+    }
     Ok(())
 }

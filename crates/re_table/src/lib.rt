@@ -4,6 +4,7 @@
 ghost use Rattle.re_table.specs.Closure.{ClosureLaw, DominationLaw};
 ghost use Rattle.re_table.specs.Laws.{AllowedLaw, MaxSetsLaw, MaximalLaw, TestLaw};
 
+mod choosing;
 mod constraint_table;
 #[cfg(test)]
 mod constraint_tests;

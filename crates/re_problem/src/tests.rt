@@ -1,7 +1,7 @@
 //! Plain texts, and problems built by hand.
 ghost use Rattle.std.specs.Prelude.{◌<◌};
 
-use crate::{InputFault, Problem, read_plain};
+use crate::{InputFault, Problem, print_problem, read_plain};
 use re_config::Config;
 use re_labels::{Name, Names, NoMemory};
 use re_table::Constraint;
@@ -161,5 +161,25 @@ fn builds_with_the_names_that_occur(rt: HostRuntime) -> Result<(), Fail> {
         assert_eq!(rt; problem.is_some(), built);
     }
     assert!(rt; InputFault::NotYet == InputFault::NotYet);
+    Ok(())
+}
+
+#[test]
+fn prints_canonical_texts(rt: HostRuntime) -> Result<(), Fail> {
+    let alloc = rt.alloc();
+    if let Some(problem) = read_plain(alloc, SINKLESS)? {
+        let text = print_problem(alloc, &problem)?;
+        assert_eq!(rt; text.as_slice(), b"I^2 O\n\nI^2\nI O\n".as_slice());
+    }
+    let mut names = Names::new(alloc);
+    if let Some(name) = Name::new(b"long_1") {
+        let _ = names.insert(name);
+    }
+    let built = Problem::build(of_one(alloc, 0)?, Constraint::new(alloc, 4), names);
+    assert!(rt; built.is_some());
+    if let Some(problem) = built {
+        let text = print_problem(alloc, &problem)?;
+        assert_eq!(rt; text.as_slice(), b"(long_1)^2\n\n%4\n".as_slice());
+    }
     Ok(())
 }

@@ -1,10 +1,10 @@
 -- Where a text was judged.
 use Rattle.std.specs.Prelude.{Result, Ok, Err}
 use Rattle.re_check.specs.declared.stream.CheckFault.{CheckFault}
-use Rattle.re_check.specs.declared.stream.CheckFault.TheVariants.{Input}
+use Rattle.re_check.specs.declared.stream.CheckFault.TheVariants.{NotYet}
 
--- there is a report, or a fault of the text
+-- there is a report, or the text is in no form that is read yet
 abbrev pub IsJudged : {T : Type 0} → Result T CheckFault → Type 0
 IsJudged (Ok report) = Unit {0}
-IsJudged (Err (Input fault)) = Unit {0}
+IsJudged (Err NotYet) = Unit {0}
 IsJudged (Err _) = ⊥

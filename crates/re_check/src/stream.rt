@@ -9,7 +9,7 @@ ghost use Rattle.re_check.specs.Verdicts.{Means, verdict_of};
 use crate::verdict::{Verdict, judge};
 use re_io::{LineFault, MAX_BYTES, Source, read_all};
 use re_labels::NoMemory;
-use re_problem::{InputFault, Problem, read_plain};
+use re_problem::{Problem, read_plain};
 use std::alloc::Global;
 
 /// The verdict on a certificate, with its first problem.
@@ -19,11 +19,11 @@ pub struct Report {
     pub first: Problem,
 }
 
-/// Why there is no verdict: the text has a fault, the source failed, it gave more than `MAX_BYTES` bytes,
+/// Why there is no verdict: the text is in no form that is read yet, the source failed, it gave more than `MAX_BYTES` bytes,
 /// or there was no memory.
 #[derive(Clone, Copy, Debug, PartialEq, Eq)]
 pub enum CheckFault {
-    Input(InputFault),
+    NotYet,
     ReadFault,
     InputTooLong,
     NoMemory,
@@ -43,7 +43,7 @@ pub fn check_stream<S: Source>(alloc: Global, source: &mut S) -> Result<Report, 
     ensures means { IfOk result (λ report. Means report.verdict (unnamed report.first)) }
 
     // Each refusal, with its cause.
-    ensures not_yet { IsErrOf result (CheckFault.Input InputFault.NotYet) → (bytes : List ℕ) → S.left source.old ≡ Some bytes →
+    ensures not_yet { IsErrOf result CheckFault.NotYet → (bytes : List ℕ) → S.left source.old ≡ Some bytes →
         plain_problem bytes ≡ None }
     ensures too_long { IsErrOf result CheckFault.InputTooLong → (bytes : List ℕ) → S.left source.old ≡ Some bytes →
         MAX_BYTES < length bytes }
@@ -65,7 +65,7 @@ pub fn check_stream<S: Source>(alloc: Global, source: &mut S) -> Result<Report, 
             let verdict = judge(&first);
             Ok(Report { verdict, first })
         }
-        Ok(None) => Err(CheckFault::Input(InputFault::NotYet)),
+        Ok(None) => Err(CheckFault::NotYet),
         Err(NoMemory) => Err(CheckFault::NoMemory),
     }
 }

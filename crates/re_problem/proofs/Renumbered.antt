@@ -108,7 +108,7 @@ same_names lines used h e = one_set (names_below 62 used) (names_of lines) (risi
         ])
 
 -- ---- the constraints
-map-same : {X Y : Type 0} (f g : X → Y) (xs : List X) → ((x : X) → In x xs → f x ≡ g x) → map f xs ≡ map g xs
+pub map-same : {X Y : Type 0} (f g : X → Y) (xs : List X) → ((x : X) → In x xs → f x ≡ g x) → map f xs ≡ map g xs
 map-same f g [] same = refl
 map-same f g (x ∷ xs) same = (λ i. same x (inl refl) i ∷ map-same f g xs (λ y j. same y (inr j)) i)
 

@@ -5,7 +5,7 @@ ghost use Rattle.re_problem.specs.Printed.{PushesRun};
 ghost use Rattle.std.specs.Fmt.{decimal};
 ghost use Rattle.std.specs.List.{AllByRecursion, list_all, prefix_len};
 ghost use Rattle.std.specs.Char.{is_ascii_alphanumeric};
-ghost use Rattle.std.specs.Prelude.{◌≡◌, ◌==◌, ◌≤◌, ◌<◌, ◌+◌, ◌++◌, ◌∷◌, [], codes, length, drop, flat_map, slice_index, OnOk, IfOk};
+ghost use Rattle.std.specs.Prelude.{◌≡◌, ◌==◌, ◌≤◌, ◌<◌, ◌+◌, ◌++◌, ◌∷◌, [], codes, length, drop, flat_map, slice_index, slice_index_or, OnOk, IfOk};
 
 use crate::named::Problem;
 use re_config::Config;
@@ -139,6 +139,19 @@ fn push_empty(text: &mut Vec<u8>, degree: u8) -> Result<(), NoMemory>
     let alloc = *text.allocator();
     let line = format!(in alloc; "%{degree}\n")?;
     push_all(text, line.as_bytes())
+}
+
+/// The active configuration at a place, as its line of the canonical text without the line feed.
+pub fn print_active(alloc: Global, problem: &Problem, place: usize) -> Result<Vec<u8>, NoMemory>
+    requires { place < length problem.now.active.configs }
+    ensures { IfOk result (λ text. text.items ≡ config_text problem.now.names (slice_index_or problem.now.active.configs place [])) }
+{
+    let mut text = Vec::new(alloc);
+    let Some(config) = problem.active().get(place) else {
+        unreachable!();
+    };
+    push_config(&mut text, problem.names(), config)?;
+    Ok(text)
 }
 
 /// The canonical text of a problem: the configurations of the active constraint in order, one a line, an empty line, and those of

@@ -1,7 +1,7 @@
 //! Plain texts, and problems built by hand.
 ghost use Rattle.std.specs.Prelude.{◌<◌};
 
-use crate::{InputFault, Problem, print_problem, read_plain};
+use crate::{Problem, print_problem, read_plain};
 use re_config::Config;
 use re_labels::{Name, Names, NoMemory};
 use re_table::Constraint;
@@ -160,7 +160,6 @@ fn builds_with_the_names_that_occur(rt: HostRuntime) -> Result<(), Fail> {
         );
         assert_eq!(rt; problem.is_some(), built);
     }
-    assert!(rt; InputFault::NotYet == InputFault::NotYet);
     Ok(())
 }
 

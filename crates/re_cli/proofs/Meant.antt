@@ -1,6 +1,6 @@
 -- What the outcomes of `check` mean for algorithms.
 use Rattle.std.proofs.Common.{◌≡◌, ℕ, zero, suc, ◌+◌, ◌≤◌, Bool, true, false, List, [], ◌∷◌, ◌++◌, take, get_or, length, length-append, codes, Option, Some, None, refl, sym, ap, ◌∙◌, subst, arith}
-use Rattle.std.specs.Prelude.{if◌then◌else◌, nat_lt}
+use Rattle.std.specs.Prelude.{if◌then◌else◌, nat_lt, Result, Ok, Err, IfOk}
 use Rattle.std.specs.Io.KnownBytes.{Appends, Keeps}
 use Rattle.std.proofs.lemmas.List.{append_cancel_left}
 use Rattle.re_check.specs.Verdicts.{Means, verdict_at, verdict_of}
@@ -16,6 +16,10 @@ use Rattle.re_cli.specs.Meaning.{DoneMeans, LineMeans, WritesUnsolvable}
 use Rattle.re_cli.specs.Outcome.{IsAnswer, Outcome, status_of}
 use Rattle.re_cli.specs.Output.{command_outcome, expected, streaming_outcome, too_long, within_limit}
 use Rattle.re_cli.specs.Run.{Answers, StopsWithin}
+use Rattle.re_cli.specs.declared.output.Output.{Output}
+use Rattle.re_cli.specs.declared.command.Command.TheVariants.{Reads, Streams}
+use Rattle.re_cli.specs.declared.command.Reading.{Reading}
+use Rattle.re_cli.specs.declared.command.Streaming.TheVariants.{Check}
 use Rattle.re_cli.specs.declared.status.Answer.{Answer}
 use Rattle.re_cli.specs.declared.status.Answer.TheVariants.{Done}
 use Rattle.re_cli.specs.declared.status.Status.{Status}
@@ -30,6 +34,16 @@ accepted_means verdict problem bytes answer is judged means status done =
     go : (place : Option ℕ) → Means (verdict_at place) (unnamed problem) → status_of Done ≡ (verdict_outcome (verdict_at place)).status → Solvable (unnamed problem) 0 → ⊥
     go None means accepted = means 0 (omega arith)
     go (Some fit) means accepted = absurd (cc)
+
+-- the word `check` names no command that takes its input as a whole
+reads_means : (words : List (List ℕ)) (bytes : List ℕ) (result : Status) (reading : Reading) → Some (Reads reading) ≡ command_of words → DoneMeans words bytes result
+unfolding command_of word_of
+reads_means words bytes result reading is = λ check done. absurd (let no : Some (Reads reading) ≡ Some (Streams Check) = is ∙ ap command_of check in cc)
+
+pub reads_mean : {E : Type 0} (words : List (List ℕ)) (reading : Reading) (left : Option (List ℕ)) (result : Result Output E) → Some (Reads reading) ≡ command_of words
+    → IfOk result (λ output. (bytes : List ℕ) → left ≡ Some bytes → DoneMeans words bytes (status_of output.answer))
+reads_mean words reading left (Ok output) is = λ bytes told. reads_means words bytes (status_of output.answer) reading is
+reads_mean words reading left (Err fault) is = tt
 
 -- ---- the accepting line
 abbrev accepting : List ℕ

@@ -2,16 +2,19 @@
 use Rattle.std.specs.Prelude.{ℕ, Bool, true, false, List, [], ◌∷◌, Option, Some, None, codes, find}
 use Rattle.std.specs.Str.{bytes_eq}
 use Rattle.re_cli.specs.declared.command.Streaming.TheVariants.{Check}
+use Rattle.re_cli.specs.declared.command.Reading.TheVariants.{Read, Zero}
 use Rattle.re_cli.specs.declared.command.Command.{Command}
-use Rattle.re_cli.specs.declared.command.Command.TheVariants.{Streams}
+use Rattle.re_cli.specs.declared.command.Command.TheVariants.{Reads, Streams}
 
 -- the first word of each command
 unfoldable pub word_of : Command → List ℕ
 word_of (Streams Check) = codes "check"
+word_of (Reads Read) = codes "read"
+word_of (Reads Zero) = codes "zero"
 
 -- the commands of one word
 abbrev pub one_word : List Command
-one_word = Streams Check ∷ []
+one_word = Streams Check ∷ Reads Read ∷ Reads Zero ∷ []
 
 -- the command of one word
 abbrev pub command_of_word : List ℕ → Option Command
@@ -23,7 +26,7 @@ command_of (word ∷ []) = command_of_word word
 command_of words = None
 
 abbrev pub is_reading : Option Command → Bool
-is_reading (Some (Streams _)) = true
+is_reading (Some _) = true
 is_reading None = false
 
 -- the words name a command that reads its input

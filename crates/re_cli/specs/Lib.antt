@@ -3,4 +3,5 @@ pub mod Command
 pub mod Meaning
 pub mod Outcome
 pub mod Output
+pub mod Reading
 pub mod Run

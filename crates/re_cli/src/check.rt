@@ -10,7 +10,6 @@ use crate::output::{Output, Stop, too_long};
 use crate::status::Answer;
 use re_check::{CheckFault, Clause, Kind, Verdict, check_stream};
 use re_io::{MAX_BYTES, Source};
-use re_problem::InputFault;
 use std::alloc::{AllocError, Global};
 
 fn name_of(clause: Clause) -> &'static str
@@ -82,11 +81,11 @@ fn verdict_output(alloc: Global, verdict: Verdict) -> Result<Output, AllocError>
     match verdict {
         Verdict::Accepted { kind, steps } => Ok(Output {
             answer: Answer::Done,
-            text: accepted(alloc, kind, steps)?,
+            text: accepted(alloc, kind, steps)?.into_bytes(),
         }),
         Verdict::Refused { step, clause } => Ok(Output {
             answer: Answer::No,
-            text: refused(alloc, step, clause)?,
+            text: refused(alloc, step, clause)?.into_bytes(),
         }),
     }
 }
@@ -105,9 +104,9 @@ pub(crate) fn check<S: Source>(alloc: Global, source: &mut S) -> Result<Output, 
 {
     match check_stream(alloc, source) {
         Ok(report) => Ok(verdict_output(alloc, report.verdict)?),
-        Err(CheckFault::Input(InputFault::NotYet)) => Ok(Output {
+        Err(CheckFault::NotYet) => Ok(Output {
             answer: Answer::BadInput,
-            text: String::from_str(alloc, "input: form not built yet\n")?,
+            text: String::from_str(alloc, "input: form not built yet\n")?.into_bytes(),
         }),
         Err(CheckFault::InputTooLong) => Ok(too_long(alloc)?),
         Err(CheckFault::ReadFault) => Err(Stop::ReadFault),

@@ -9,13 +9,25 @@ pub(crate) enum Streaming {
     Check,
 }
 
+/// A command that takes its input as a whole.
+#[derive(Clone, Copy, Debug, PartialEq, Eq)]
+pub(crate) enum Reading {
+    Read,
+    Zero,
+}
+
 #[derive(Clone, Copy, Debug, PartialEq, Eq)]
 pub(crate) enum Command {
     Streams(Streaming),
+    Reads(Reading),
 }
 
 // The commands that are one word.
-const ONE_WORD: [Command; 1] = [Command::Streams(Streaming::Check)];
+const ONE_WORD: [Command; 3] = [
+    Command::Streams(Streaming::Check),
+    Command::Reads(Reading::Read),
+    Command::Reads(Reading::Zero),
+];
 
 #[tactic(auto, unfolding(crate::specs::Command::word_of))]
 fn word_of(command: Command) -> &'static str
@@ -23,6 +35,8 @@ fn word_of(command: Command) -> &'static str
 {
     match command {
         Command::Streams(Streaming::Check) => "check",
+        Command::Reads(Reading::Read) => "read",
+        Command::Reads(Reading::Zero) => "zero",
     }
 }
 

@@ -5,6 +5,7 @@ mod answer;
 mod check;
 mod command;
 mod output;
+mod reading;
 mod status;
 mod sure;
 mod tool;

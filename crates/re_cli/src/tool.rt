@@ -11,6 +11,7 @@ ghost use Rattle.re_cli.specs.Run.{IsInput, Answers, StopsWithin};
 use crate::answer::stream;
 use crate::command::{Command, command_from};
 use crate::output::{Output, Stop, bad_words};
+use crate::reading::read;
 use crate::status::Status;
 use re_io::{MAX_BYTES, Sink, SinkFault, Source};
 use std::alloc::Global;
@@ -32,6 +33,7 @@ fn output_from<S: Source>(alloc: Global, words: &[String], source: &mut S) -> Re
     match command_from(words) {
         None => Ok(bad_words(alloc)?),
         Some(Command::Streams(streaming)) => stream(alloc, streaming, source),
+        Some(Command::Reads(reading)) => read(alloc, reading, source),
     }
 }
 
@@ -47,7 +49,7 @@ fn put_output<K: Sink>(output: &Output, sink: &mut K) -> Status
     if output.text.is_empty() {
         return output.answer.status();
     }
-    match sink.put(output.text.as_bytes()) {
+    match sink.put(output.text.as_slice()) {
         Ok(()) => output.answer.status(),
         Err(SinkFault::Failed) => Status::WriteFault,
         Err(SinkFault::NoMemory) => Status::NoMemory,

@@ -37,7 +37,6 @@ fn certificates_are_judged(rt: HostRuntime) -> Result<(), Fail> {
             Status::Done,
             ACCEPTED,
         ),
-        ("read", ORIENTATION, Status::BadWords, NO_COMMAND),
         ("", ORIENTATION, Status::BadWords, NO_COMMAND),
         ("check check", ORIENTATION, Status::BadWords, NO_COMMAND),
         ("Check", ORIENTATION, Status::BadWords, NO_COMMAND),

@@ -5,3 +5,5 @@
 mod check;
 #[cfg(test)]
 mod faults;
+#[cfg(test)]
+mod problems;

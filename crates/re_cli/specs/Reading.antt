@@ -1,0 +1,52 @@
+-- The commands `read` and `zero`: what they answer for a problem text.
+use Rattle.std.specs.Prelude.{ℕ, List, [], ◌++◌, Option, Some, None, codes, slice_index_or}
+use Rattle.std.specs.Fmt.{decimal}
+use Rattle.re_problem.specs.CanonicalTexts.{canonical, config_text}
+use Rattle.re_problem.specs.NamedProblems.{NamedProblem, unnamed}
+use Rattle.re_problem.specs.ProblemTexts.{first_fault, lines_of, problem_of}
+use Rattle.re_problem.specs.Zero.{zero_place}
+use Rattle.re_problem.specs.declared.fault.InputFault.{InputFault}
+use Rattle.re_problem.specs.declared.fault.InputFault.TheVariants.{BadByte, BadItem, WrongDegree, MissingBlock, ExtraBlock, DegreeOutOfRange, TooManyLabels, TooManyConfigurations}
+use Rattle.re_cli.specs.Outcome.{Outcome}
+use Rattle.re_cli.specs.declared.command.Reading.{Reading}
+use Rattle.re_cli.specs.declared.command.Reading.TheVariants.{Read, Zero}
+use Rattle.re_cli.specs.declared.status.Status.{Status}
+use Rattle.re_cli.specs.declared.status.Status.TheVariants.{Done, No, BadInput, Limit}
+
+-- the line of a fault of a text
+abbrev pub fault_line : InputFault → List ℕ
+fault_line (BadByte byte) = codes "input: byte " ++ decimal byte ++ codes ": not allowed\n"
+fault_line (BadItem line) = codes "input: line " ++ decimal line ++ codes ": not a list of items\n"
+fault_line (WrongDegree line) = codes "input: line " ++ decimal line ++ codes ": wrong degree\n"
+fault_line (MissingBlock line) = codes "input: line " ++ decimal line ++ codes ": a block is missing\n"
+fault_line (ExtraBlock line) = codes "input: line " ++ decimal line ++ codes ": a third block\n"
+fault_line (DegreeOutOfRange degree) = codes "input: degree " ++ decimal degree ++ codes " is not from 2 to 6\n"
+fault_line (TooManyLabels line) = codes "limit: line " ++ decimal line ++ codes ": more than 64 labels\n"
+fault_line (TooManyConfigurations line) = codes "limit: line " ++ decimal line ++ codes ": more than 65536 configurations\n"
+
+-- a text that passes a limit isn't wrong
+abbrev pub fault_status : InputFault → Status
+fault_status (TooManyLabels line) = Limit
+fault_status (TooManyConfigurations line) = Limit
+fault_status fault = BadInput
+
+abbrev pub fault_outcome : InputFault → Outcome
+fault_outcome fault = record { status = fault_status fault; text = fault_line fault }
+
+-- the first configuration that fits zero rounds, if any
+abbrev pub fit_outcome : NamedProblem → Option ℕ → Outcome
+fit_outcome problem None = record { status = No; text = codes "no\n" }
+fit_outcome problem (Some place) = record { status = Done; text = codes "yes: " ++ config_text problem.names (slice_index_or problem.active.configs place []) ++ codes "\n" }
+
+-- the outcome for a problem
+abbrev pub problem_outcome : Reading → NamedProblem → Outcome
+problem_outcome Read problem = record { status = Done; text = canonical problem }
+problem_outcome Zero problem = fit_outcome problem (zero_place (unnamed problem))
+
+abbrev pub read_outcome : Reading → NamedProblem → Option InputFault → Outcome
+read_outcome reading problem None = problem_outcome reading problem
+read_outcome reading problem (Some fault) = fault_outcome fault
+
+-- the outcome for a problem text: that of its problem, or of its first fault
+unfoldable pub reading_outcome : Reading → List ℕ → Outcome
+reading_outcome reading bytes = read_outcome reading (problem_of (lines_of bytes)) (first_fault 0 1 (lines_of bytes))

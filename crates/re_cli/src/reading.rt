@@ -1,0 +1,143 @@
+// The commands `read` and `zero`.
+ghost use Rattle.std.specs.Prelude.{◌≡◌, ◌≤◌, ◌<◌, ◌++◌, ℕ, List, [], codes, length, string_bytes, IfOk, IsErrOf};
+ghost use Rattle.re_io.specs.Faults.{Rose};
+ghost use Rattle.re_problem.specs.CanonicalTexts.{canonical};
+ghost use Rattle.re_problem.specs.NamedProblems.{unnamed};
+ghost use Rattle.re_problem.specs.Zero.{zero_place};
+ghost use Rattle.re_cli.specs.Output.{outcome_of, within_limit};
+ghost use Rattle.re_cli.specs.Outcome.{status_of};
+ghost use Rattle.re_cli.specs.Reading.{fault_line, fault_outcome, fault_status, fit_outcome, problem_outcome, reading_outcome};
+
+use crate::command::Reading;
+use crate::output::{Output, Stop, too_long};
+use crate::status::Answer;
+use re_io::{LineFault, MAX_BYTES, Source, read_all};
+use re_labels::NoMemory;
+use re_problem::{InputFault, Problem, TextFault, print_active, print_problem, read_problem};
+use re_zero::zero_round;
+use std::alloc::{AllocError, Global};
+
+impl From<NoMemory> for Stop {
+    ghost use Rattle.re_cli.specs.declared.output.Stop.TheVariants.{NoMemory as no_memory};
+
+    ghost from_gives = { λ _ e. e ≡ no_memory };
+
+    fn from(_: NoMemory) -> Self {
+        Stop::NoMemory
+    }
+}
+
+fn line_of(alloc: Global, fault: InputFault) -> Result<String, AllocError>
+    ensures { IfOk result (λ text. string_bytes text ≡ fault_line fault) }
+{
+    match fault {
+        InputFault::BadByte(byte) => format!(in alloc; "input: byte {byte}: not allowed\n"),
+        InputFault::BadItem(line) => format!(in alloc; "input: line {line}: not a list of items\n"),
+        InputFault::WrongDegree(line) => format!(in alloc; "input: line {line}: wrong degree\n"),
+        InputFault::MissingBlock(line) => {
+            format!(in alloc; "input: line {line}: a block is missing\n")
+        }
+        InputFault::ExtraBlock(line) => format!(in alloc; "input: line {line}: a third block\n"),
+        InputFault::DegreeOutOfRange(degree) => {
+            format!(in alloc; "input: degree {degree} is not from 2 to 6\n")
+        }
+        InputFault::TooManyLabels(line) => {
+            format!(in alloc; "limit: line {line}: more than 64 labels\n")
+        }
+        InputFault::TooManyConfigurations(line) => {
+            format!(in alloc; "limit: line {line}: more than 65536 configurations\n")
+        }
+    }
+}
+
+fn answer_to(fault: InputFault) -> Answer
+    ensures { status_of result ≡ fault_status fault }
+{
+    match fault {
+        InputFault::TooManyLabels(_) | InputFault::TooManyConfigurations(_) => Answer::Limit,
+        _ => Answer::BadInput,
+    }
+}
+
+fn fault_output(alloc: Global, fault: InputFault) -> Result<Output, AllocError>
+    ensures { IfOk result (λ output. outcome_of output ≡ fault_outcome fault) }
+{
+    Ok(Output {
+        answer: answer_to(fault),
+        text: line_of(alloc, fault)?.into_bytes(),
+    })
+}
+
+// The answer `yes` with the active configuration at this place.
+fn yes_output(alloc: Global, problem: &Problem, place: usize) -> Result<Output, NoMemory>
+    requires { place < length problem.now.active.configs }
+    ensures { IfOk result (λ output. outcome_of output ≡ fit_outcome problem.now (Some place)) }
+{
+    let mut text = String::from_str(alloc, "yes: ")?.into_bytes();
+    let config = print_active(alloc, problem, place)?;
+    text.extend_from_slice(config.as_slice())?;
+    text.push(b'\n')?;
+    Ok(Output {
+        answer: Answer::Done,
+        text,
+    })
+}
+
+fn zero_output(alloc: Global, problem: &Problem) -> Result<Output, NoMemory>
+    ensures { IfOk result (λ output. outcome_of output ≡ fit_outcome problem.now (zero_place (unnamed problem.now))) }
+{
+    match zero_round(problem) {
+        Some(place) => yes_output(alloc, problem, place),
+        None => Ok(Output {
+            answer: Answer::No,
+            text: String::from_str(alloc, "no\n")?.into_bytes(),
+        }),
+    }
+}
+
+fn problem_output(alloc: Global, reading: Reading, problem: &Problem) -> Result<Output, NoMemory>
+    ensures { IfOk result (λ output. outcome_of output ≡ problem_outcome reading problem.now) }
+{
+    match reading {
+        Reading::Read => Ok(Output {
+            answer: Answer::Done,
+            text: print_problem(alloc, problem)?,
+        }),
+        Reading::Zero => zero_output(alloc, problem),
+    }
+}
+
+#[tactic(auto, unfolding(crate::specs::Reading::reading_outcome))]
+fn text_output(alloc: Global, reading: Reading, text: &[u8]) -> Result<Output, NoMemory>
+    requires { length text.now ≤ MAX_BYTES }
+    ensures { IfOk result (λ output. outcome_of output ≡ reading_outcome reading text.now) }
+{
+    match read_problem(alloc, text) {
+        Ok(problem) => problem_output(alloc, reading, &problem),
+        Err(TextFault::Bad(fault)) => Ok(fault_output(alloc, fault)?),
+        Err(TextFault::NoMemory) => Err(NoMemory),
+    }
+}
+
+/// The output of a command that takes its input as a whole.
+#[tactic(auto, unfolding(crate::specs::Output::within_limit))]
+pub(crate) fn read<S: Source>(
+    alloc: Global,
+    reading: Reading,
+    source: &mut S,
+) -> Result<Output, Stop>
+    ensures output { IfOk result (λ output. (bytes : List ℕ) → S.left source.old ≡ Some bytes →
+        outcome_of output ≡ within_limit (reading_outcome reading) bytes) }
+    ensures emptied { IfOk result (λ _. (bytes : List ℕ) → S.left source.old ≡ Some bytes →
+        length bytes ≤ MAX_BYTES → S.left source.new ≡ Some []) }
+    ensures fault { IsErrOf result Stop.ReadFault → Rose (S.faults source.old) (S.faults source.new) }
+    ensures later { S.faults source.old ≤ S.faults source.new }
+{
+    let bytes = match read_all(alloc, source) {
+        Ok(bytes) => bytes,
+        Err(LineFault::ReadFault) => return Err(Stop::ReadFault),
+        Err(LineFault::InputTooLong) => return Ok(too_long(alloc)?),
+        Err(LineFault::NoMemory) => return Err(Stop::NoMemory),
+    };
+    Ok(text_output(alloc, reading, bytes.as_slice())?)
+}

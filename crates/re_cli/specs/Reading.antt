@@ -6,7 +6,7 @@ use Rattle.re_problem.specs.NamedProblems.{NamedProblem, unnamed}
 use Rattle.re_problem.specs.ProblemTexts.{first_fault, lines_of, problem_of}
 use Rattle.re_problem.specs.Zero.{zero_place}
 use Rattle.re_problem.specs.declared.fault.InputFault.{InputFault}
-use Rattle.re_problem.specs.declared.fault.InputFault.TheVariants.{BadByte, BadItem, WrongDegree, MissingBlock, ExtraBlock, DegreeOutOfRange, TooManyLabels, TooManyConfigurations}
+use Rattle.re_problem.specs.declared.fault.InputFault.TheVariants.{BadByte, BadItem, WrongDegree, MissingBlock, ExtraBlock, DegreeOutOfRange, TooManyLabels, TooManyConfigurations, BadSection, BadEntry, BadBack, TooManySteps, TooManyRows, EarlyEnd}
 use Rattle.re_cli.specs.Outcome.{Outcome}
 use Rattle.re_cli.specs.declared.command.Reading.{Reading}
 use Rattle.re_cli.specs.declared.command.Reading.TheVariants.{Read, Zero}
@@ -23,11 +23,19 @@ fault_line (ExtraBlock line) = codes "input: line " ++ decimal line ++ codes ": 
 fault_line (DegreeOutOfRange degree) = codes "input: degree " ++ decimal degree ++ codes " is not from 2 to 6\n"
 fault_line (TooManyLabels line) = codes "limit: line " ++ decimal line ++ codes ": more than 64 labels\n"
 fault_line (TooManyConfigurations line) = codes "limit: line " ++ decimal line ++ codes ": more than 65536 configurations\n"
+fault_line (BadSection line) = codes "input: line " ++ decimal line ++ codes ": section not expected\n"
+fault_line (BadEntry line) = codes "input: line " ++ decimal line ++ codes ": bad entry\n"
+fault_line (BadBack line) = codes "input: line " ++ decimal line ++ codes ": back is not before the last problem\n"
+fault_line (TooManySteps line) = codes "limit: line " ++ decimal line ++ codes ": more than 64 steps\n"
+fault_line (TooManyRows line) = codes "limit: line " ++ decimal line ++ codes ": more than 1024 rows\n"
+fault_line EarlyEnd = codes "input: ends too early\n"
 
 -- a text that passes a limit isn't wrong
 abbrev pub fault_status : InputFault → Status
 fault_status (TooManyLabels line) = Limit
 fault_status (TooManyConfigurations line) = Limit
+fault_status (TooManySteps line) = Limit
+fault_status (TooManyRows line) = Limit
 fault_status fault = BadInput
 
 abbrev pub fault_outcome : InputFault → Outcome

@@ -47,6 +47,20 @@ fn line_of(alloc: Global, fault: InputFault) -> Result<String, AllocError>
         InputFault::TooManyConfigurations(line) => {
             format!(in alloc; "limit: line {line}: more than 65536 configurations\n")
         }
+        InputFault::BadSection(line) => {
+            format!(in alloc; "input: line {line}: section not expected\n")
+        }
+        InputFault::BadEntry(line) => format!(in alloc; "input: line {line}: bad entry\n"),
+        InputFault::BadBack(line) => {
+            format!(in alloc; "input: line {line}: back is not before the last problem\n")
+        }
+        InputFault::TooManySteps(line) => {
+            format!(in alloc; "limit: line {line}: more than 64 steps\n")
+        }
+        InputFault::TooManyRows(line) => {
+            format!(in alloc; "limit: line {line}: more than 1024 rows\n")
+        }
+        InputFault::EarlyEnd => String::from_str(alloc, "input: ends too early\n"),
     }
 }
 
@@ -54,7 +68,10 @@ fn answer_to(fault: InputFault) -> Answer
     ensures { status_of result ≡ fault_status fault }
 {
     match fault {
-        InputFault::TooManyLabels(_) | InputFault::TooManyConfigurations(_) => Answer::Limit,
+        InputFault::TooManyLabels(_)
+        | InputFault::TooManyConfigurations(_)
+        | InputFault::TooManySteps(_)
+        | InputFault::TooManyRows(_) => Answer::Limit,
         _ => Answer::BadInput,
     }
 }

@@ -1,0 +1,13 @@
+pub mod BoxesOfRows
+pub mod DrawnChoices
+pub mod Growth
+pub mod HeldSets
+pub mod Keeping
+pub mod LabelsAbove
+pub mod Listing
+pub mod Parting
+pub mod RowsOfSets
+pub mod RaisedChoices
+pub mod RowsAbove
+pub mod SetsAtPlaces
+pub mod UpSets

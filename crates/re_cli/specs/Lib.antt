@@ -5,3 +5,4 @@ pub mod Outcome
 pub mod Output
 pub mod Reading
 pub mod Run
+pub mod Working

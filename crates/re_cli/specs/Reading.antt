@@ -1,4 +1,4 @@
--- The commands `read` and `zero`: what they answer for a problem text.
+-- The commands that read a problem text: what they answer.
 use Rattle.std.specs.Prelude.{ℕ, List, [], ◌++◌, Option, Some, None, codes, slice_index_or}
 use Rattle.std.specs.Fmt.{decimal}
 use Rattle.re_problem.specs.CanonicalTexts.{canonical, config_text}
@@ -9,7 +9,8 @@ use Rattle.re_problem.specs.declared.fault.InputFault.{InputFault}
 use Rattle.re_problem.specs.declared.fault.InputFault.TheVariants.{BadByte, BadItem, WrongDegree, MissingBlock, ExtraBlock, DegreeOutOfRange, TooManyLabels, TooManyConfigurations, BadSection, BadEntry, BadBack, TooManySteps, TooManyRows, EarlyEnd}
 use Rattle.re_cli.specs.Outcome.{Outcome}
 use Rattle.re_cli.specs.declared.command.Reading.{Reading}
-use Rattle.re_cli.specs.declared.command.Reading.TheVariants.{Read, Zero}
+use Rattle.re_cli.specs.declared.command.Reading.TheVariants.{Diagram, Merge, Read, Step, Trim, Universal, Zero}
+use Rattle.re_cli.specs.Working.{diagram_outcome, done, merge_outcome, step_outcome, trim_outcome, universal_outcome}
 use Rattle.re_cli.specs.declared.status.Status.{Status}
 use Rattle.re_cli.specs.declared.status.Status.TheVariants.{Done, No, BadInput, Limit}
 
@@ -48,8 +49,13 @@ fit_outcome problem (Some place) = record { status = Done; text = codes "yes: " 
 
 -- the outcome for a problem
 abbrev pub problem_outcome : Reading → NamedProblem → Outcome
-problem_outcome Read problem = record { status = Done; text = canonical problem }
+problem_outcome Read problem = done (canonical problem)
 problem_outcome Zero problem = fit_outcome problem (zero_place (unnamed problem))
+problem_outcome (Diagram side) problem = diagram_outcome side problem
+problem_outcome Universal problem = universal_outcome problem
+problem_outcome Merge problem = merge_outcome problem
+problem_outcome Trim problem = trim_outcome problem
+problem_outcome (Step n) problem = step_outcome n problem
 
 abbrev pub read_outcome : Reading → NamedProblem → Option InputFault → Outcome
 read_outcome reading problem None = problem_outcome reading problem

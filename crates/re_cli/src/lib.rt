@@ -9,6 +9,7 @@ mod reading;
 mod status;
 mod sure;
 mod tool;
+mod working;
 
 pub use status::Status;
 pub use sure::run_sure;

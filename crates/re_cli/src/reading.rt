@@ -1,4 +1,4 @@
-// The commands `read` and `zero`.
+// The commands that read a problem text.
 ghost use Rattle.std.specs.Prelude.{◌≡◌, ◌≤◌, ◌<◌, ◌++◌, ℕ, List, [], codes, length, string_bytes, IfOk, IsErrOf};
 ghost use Rattle.re_io.specs.Faults.{Rose};
 ghost use Rattle.re_problem.specs.CanonicalTexts.{canonical};
@@ -11,6 +11,7 @@ ghost use Rattle.re_cli.specs.Reading.{fault_line, fault_outcome, fault_status, 
 use crate::command::Reading;
 use crate::output::{Output, Stop, too_long};
 use crate::status::Answer;
+use crate::working::{diagram_output, merge_output, steps_output, trim_output, universal_output};
 use re_io::{LineFault, MAX_BYTES, Source, read_all};
 use re_labels::NoMemory;
 use re_problem::{InputFault, Problem, TextFault, print_active, print_problem, read_problem};
@@ -121,6 +122,11 @@ fn problem_output(alloc: Global, reading: Reading, problem: &Problem) -> Result<
             text: print_problem(alloc, problem)?,
         }),
         Reading::Zero => zero_output(alloc, problem),
+        Reading::Diagram(side) => diagram_output(alloc, problem, side),
+        Reading::Universal => universal_output(alloc, problem),
+        Reading::Merge => merge_output(alloc, problem),
+        Reading::Trim => trim_output(alloc, problem),
+        Reading::Step(steps) => steps_output(alloc, problem, steps),
     }
 }
 

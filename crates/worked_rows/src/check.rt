@@ -1,7 +1,7 @@
 // Rows of the command `check`.
+use crate::tables::words_of;
 use re_cli::{Status, run_sure};
 use re_io::{SureSink, SureSource};
-use std::alloc::Global;
 use std::test::Fail;
 
 const ORIENTATION: &str = "== certificate 1 lower\nI I O\n\nI I\nI O\n== end\n";
@@ -11,14 +11,6 @@ const ACCEPTED: &str = "accepted: not solvable in 0 or fewer rounds\n";
 const NOT_BUILT: &str = "input: form not built yet\n";
 
 const NO_COMMAND: &str = "words: not a command\n";
-
-fn words_of(alloc: Global, line: &str) -> Result<Vec<String>, Fail> {
-    let mut words = Vec::new(alloc);
-    for word in line.split_whitespace() {
-        words.push(String::from_str(alloc, word)?)?;
-    }
-    Ok(words)
-}
 
 #[test]
 fn certificates_are_judged(rt: HostRuntime) -> Result<(), Fail> {

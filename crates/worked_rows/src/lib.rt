@@ -7,3 +7,7 @@ mod check;
 mod faults;
 #[cfg(test)]
 mod problems;
+#[cfg(test)]
+mod steps;
+#[cfg(test)]
+mod tables;

@@ -1,7 +1,7 @@
 // Rows of the commands `read` and `zero`.
+use crate::tables::{first_wrong, words_of};
 use re_cli::{Status, run_sure};
 use re_io::{MAX_BYTES, SureSink, SureSource};
-use std::alloc::Global;
 use std::test::Fail;
 
 const FIRST: &str = "I^2 O\n\nI^2\nI O\n";
@@ -9,33 +9,6 @@ const FIRST: &str = "I^2 O\n\nI^2\nI O\n";
 const MISSING: &str = "input: line 1: a block is missing\n";
 
 const NO_COMMAND: &str = "words: not a command\n";
-
-fn words_of(alloc: Global, line: &str) -> Result<Vec<String>, Fail> {
-    let mut words = Vec::new(alloc);
-    for word in line.split_whitespace() {
-        words.push(String::from_str(alloc, word)?)?;
-    }
-    Ok(words)
-}
-
-// Which of the rows is not as it should be: the words, the input, the status and the text.
-fn first_wrong(
-    alloc: Global,
-    rows: &[(&'static str, &'static str, Status, &'static str)],
-) -> Result<Option<usize>, Fail> {
-    for (number, (line, input, status, text)) in rows.iter().enumerate() {
-        let words = words_of(alloc, line)?;
-        let mut source = SureSource::new(Vec::from_slice(alloc, input.as_bytes())?, 4096);
-        let mut sink = SureSink::new(alloc);
-        if run_sure(alloc, &words, &mut source, &mut sink) != *status {
-            return Ok(Some(number));
-        }
-        if sink.written() != text.as_bytes() {
-            return Ok(Some(number));
-        }
-    }
-    Ok(None)
-}
 
 #[test]
 fn problems_are_read(rt: HostRuntime) -> Result<(), Fail> {
@@ -141,6 +114,7 @@ fn limits_of_problems(rt: HostRuntime) -> Result<(), Fail> {
             Status::Limit,
             35,
         ),
+        ("[ABCDEFGHIJKLMNOP]^6\n\nA^2\n", Status::Done, 620_165),
         ("[ABCDEFGHIJKLMNOPQ]^6\n*", Status::Limit, 46),
     ] {
         let mut source = SureSource::new(Vec::from_slice(alloc, input.as_bytes())?, 4096);

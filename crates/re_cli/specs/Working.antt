@@ -1,0 +1,73 @@
+-- What the commands answer that work on a problem.
+use Rattle.std.specs.Prelude.{ℕ, zero, suc, ◌+◌, ◌-◌, nat_lt, List, ◌++◌, length, codes, if◌then◌else◌, Option, Some, None}
+use Rattle.std.specs.Fmt.{decimal}
+use Rattle.re_config.specs.declared.TheConstants.{MAX_ROWS}
+use Rattle.re_diagram.specs.Diagrams.{classes_of, edges_of}
+use Rattle.re_diagram.specs.Merging.{merged_of}
+use Rattle.re_diagram.specs.Trimming.{trimmed_of}
+use Rattle.re_labels.specs.declared.sides.Side.{Side}
+use Rattle.re_labels.specs.declared.sides.Side.TheVariants.{Active, Passive}
+use Rattle.re_printing.specs.SetTexts.{diagram_text, meanings_text, rows_text}
+use Rattle.re_problem.specs.CanonicalTexts.{canonical}
+use Rattle.re_problem.specs.NamedProblems.{NamedProblem, unnamed}
+use Rattle.re_step.specs.Derivations.{named_derived, step_limit}
+use Rattle.re_step.specs.declared.derivation.StepLimit.{StepLimit}
+use Rattle.re_step.specs.declared.derivation.StepLimit.TheVariants.{Configurations, Labels, Rows}
+use Rattle.re_table.specs.Constraints.{Constraint}
+use Rattle.re_table.specs.GoodRows.{max_rows, max_sets}
+use Rattle.re_cli.specs.Outcome.{Outcome}
+use Rattle.re_cli.specs.declared.status.Status.TheVariants.{Done, Limit}
+
+abbrev pub done : List ℕ → Outcome
+done text = record { status = Done; text = text }
+
+abbrev pub limit : List ℕ → Outcome
+limit text = record { status = Limit; text = text }
+
+-- the constraint of a side
+abbrev pub constraint_at : Side → NamedProblem → Constraint
+constraint_at Active problem = problem.active
+constraint_at Passive problem = problem.passive
+
+-- the strength diagram of one side
+unfoldable pub diagram_outcome : Side → NamedProblem → Outcome
+diagram_outcome side problem = done (diagram_text problem.names (classes_of (constraint_at side problem) (length problem.names)) (edges_of (constraint_at side problem) (length problem.names)))
+
+-- the maximal rows of the passive side, unless they are too many
+unfoldable pub universal_outcome : NamedProblem → Outcome
+universal_outcome problem =
+    if nat_lt MAX_ROWS (length (max_rows problem.passive (length problem.names))) then limit (codes "limit: more than 1024 rows\n")
+    else done (rows_text problem.names (max_rows problem.passive (length problem.names)))
+
+-- equal labels merged
+unfoldable pub merge_outcome : NamedProblem → Outcome
+merge_outcome problem = done (canonical (merged_of problem))
+
+-- covered labels left out
+unfoldable pub trim_outcome : NamedProblem → Outcome
+trim_outcome problem = done (canonical (trimmed_of problem))
+
+-- the line of a limit that the step of this number passes
+abbrev pub limit_line : ℕ → StepLimit → List ℕ
+limit_line number Rows = codes "limit: step " ++ decimal number ++ codes ": more than 1024 rows\n"
+limit_line number (Labels count) = codes "limit: step " ++ decimal number ++ codes ": more than 64 labels: " ++ decimal count ++ codes "\n"
+limit_line number Configurations = codes "limit: step " ++ decimal number ++ codes ": more than 65536 configurations\n"
+
+-- the meanings of the labels of the derived problem, an empty line, and its canonical text
+unfoldable pub derived_text : NamedProblem → List ℕ
+derived_text problem =
+    meanings_text (named_derived (unnamed problem)).names problem.names (max_sets problem.passive (length problem.names)) ++ codes "\n" ++ canonical (named_derived (unnamed problem))
+
+-- the limit of the step of this number, if it passes one, and else what follows
+abbrev pub or_limit : ℕ → Option StepLimit → Outcome → Outcome
+or_limit number (Some passed) outcome = limit (limit_line number passed)
+or_limit number None outcome = outcome
+
+-- the derived problem behind so many further steps, where the next step has this number
+unfoldable pub stepped : ℕ → ℕ → NamedProblem → Outcome
+stepped number zero problem = or_limit number (step_limit (unnamed problem)) (done (derived_text problem))
+stepped number (suc further) problem = or_limit number (step_limit (unnamed problem)) (stepped (number + 1) further (named_derived (unnamed problem)))
+
+-- the problem that is derived in n steps
+unfoldable pub step_outcome : ℕ → NamedProblem → Outcome
+step_outcome n problem = stepped 1 (n - 1) problem

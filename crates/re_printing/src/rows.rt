@@ -25,7 +25,7 @@ fn numbers_of(sets: &[LabelSet]) -> ArrayVec<u64, 6>
 }
 
 // How many numbers equal to the first one the list begins with from this place on.
-fn run_length(numbers: &[u64], at: usize) -> usize
+pub(crate) fn run_length(numbers: &[u64], at: usize) -> usize
     requires { at < length numbers.now }
     ensures least { 1 ≤ result }
     ensures within { at + result ≤ length numbers.now }

@@ -1,0 +1,4 @@
+pub mod FirstFound
+pub mod ImageRows
+pub mod RisingLists
+pub mod VerdictLaws

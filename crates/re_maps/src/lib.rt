@@ -1,0 +1,28 @@
+//! Maps between the labels of problems, each judged with its first violation.
+#![tactic(auto)]
+
+mod images;
+mod judging;
+#[cfg(test)]
+mod map_tests;
+mod verdict;
+
+ghost use Rattle.re_maps.specs.Laws.{RelaxesLaw, RenamesLaw, RestrictsLaw};
+
+pub use judging::{relaxes, renames, restricts};
+pub use verdict::MapVerdict;
+
+/// `relaxes` says yes exactly where the second problem is a relaxation of the first by the images.
+pub fn relaxes_law()
+    ensures { RelaxesLaw }
+{}
+
+/// `restricts` says yes exactly where the second problem is an upper step of the first with the sets, and no set is empty.
+pub fn restricts_law()
+    ensures { RestrictsLaw }
+{}
+
+/// `renames` says yes exactly where the second problem is the first under other labels.
+pub fn renames_law()
+    ensures { RenamesLaw }
+{}

@@ -17,7 +17,8 @@ use Rattle.re_cli.specs.Outcome.{IsAnswer, Outcome, status_of}
 use Rattle.re_cli.specs.Output.{command_outcome, expected, streaming_outcome, too_long, within_limit}
 use Rattle.re_cli.specs.Run.{Answers, StopsWithin}
 use Rattle.re_cli.specs.declared.output.Output.{Output}
-use Rattle.re_cli.specs.declared.command.Command.TheVariants.{Reads, Streams}
+use Rattle.re_cli.specs.declared.command.Command.TheVariants.{Maps, Reads, Streams}
+use Rattle.re_cli.specs.declared.command.Mapping.{Mapping}
 use Rattle.re_cli.specs.declared.command.Reading.{Reading}
 use Rattle.re_cli.specs.declared.command.Streaming.TheVariants.{Check}
 use Rattle.re_cli.specs.declared.status.Answer.{Answer}
@@ -44,6 +45,16 @@ pub reads_mean : {E : Type 0} (words : List (List ℕ)) (reading : Reading) (lef
     → IfOk result (λ output. (bytes : List ℕ) → left ≡ Some bytes → DoneMeans words bytes (status_of output.answer))
 reads_mean words reading left (Ok output) is = λ bytes told. reads_means words bytes (status_of output.answer) reading is
 reads_mean words reading left (Err fault) is = tt
+
+-- and none that judges a map
+maps_means : (words : List (List ℕ)) (bytes : List ℕ) (result : Status) (mapping : Mapping) → Some (Maps mapping) ≡ command_of words → DoneMeans words bytes result
+unfolding command_of word_of
+maps_means words bytes result mapping is = λ check done. absurd (let no : Some (Maps mapping) ≡ Some (Streams Check) = is ∙ ap command_of check in cc)
+
+pub maps_mean : {E : Type 0} (words : List (List ℕ)) (mapping : Mapping) (left : Option (List ℕ)) (result : Result Output E) → Some (Maps mapping) ≡ command_of words
+    → IfOk result (λ output. (bytes : List ℕ) → left ≡ Some bytes → DoneMeans words bytes (status_of output.answer))
+maps_mean words mapping left (Ok output) is = λ bytes told. maps_means words bytes (status_of output.answer) mapping is
+maps_mean words mapping left (Err fault) is = tt
 
 -- ---- the accepting line
 abbrev accepting : List ℕ

@@ -5,8 +5,9 @@ use Rattle.re_items.specs.Numerals.{number_of}
 use Rattle.re_labels.specs.declared.sides.Side.TheVariants.{Active, Passive}
 use Rattle.re_cli.specs.declared.command.Streaming.TheVariants.{Check}
 use Rattle.re_cli.specs.declared.command.Reading.TheVariants.{Diagram, Merge, Read, Step, Trim, Universal, Zero}
+use Rattle.re_cli.specs.declared.command.Mapping.TheVariants.{Relax, Rename, Restrict}
 use Rattle.re_cli.specs.declared.command.Command.{Command}
-use Rattle.re_cli.specs.declared.command.Command.TheVariants.{Reads, Streams}
+use Rattle.re_cli.specs.declared.command.Command.TheVariants.{Maps, Reads, Streams}
 
 -- the word of a command of one word, and the second word of a diagram
 unfoldable pub word_of : Command → List ℕ
@@ -19,10 +20,13 @@ word_of (Reads Trim) = codes "trim"
 word_of (Reads (Diagram Active)) = codes "active"
 word_of (Reads (Diagram Passive)) = codes "passive"
 word_of (Reads (Step n)) = codes "step"
+word_of (Maps Relax) = codes "relax"
+word_of (Maps Restrict) = codes "restrict"
+word_of (Maps Rename) = codes "rename"
 
 -- the commands of one word
 abbrev pub one_word : List Command
-one_word = Streams Check ∷ Reads Read ∷ Reads Zero ∷ Reads Universal ∷ Reads Merge ∷ Reads Trim ∷ []
+one_word = Streams Check ∷ Reads Read ∷ Reads Zero ∷ Reads Universal ∷ Reads Merge ∷ Reads Trim ∷ Maps Relax ∷ Maps Restrict ∷ Maps Rename ∷ []
 
 -- the diagrams, by their second word
 abbrev pub diagrams : List Command

@@ -1,5 +1,6 @@
 pub mod Check
 pub mod Command
+pub mod Mapping
 pub mod Meaning
 pub mod Outcome
 pub mod Output

@@ -24,20 +24,32 @@ pub(crate) enum Reading {
     Step(u8),
 }
 
+/// A command that judges a map between two problems.
+#[derive(Clone, Copy, Debug, PartialEq, Eq)]
+pub(crate) enum Mapping {
+    Relax,
+    Restrict,
+    Rename,
+}
+
 #[derive(Clone, Copy, Debug, PartialEq, Eq)]
 pub(crate) enum Command {
     Streams(Streaming),
     Reads(Reading),
+    Maps(Mapping),
 }
 
 // The commands that are one word.
-const ONE_WORD: [Command; 6] = [
+const ONE_WORD: [Command; 9] = [
     Command::Streams(Streaming::Check),
     Command::Reads(Reading::Read),
     Command::Reads(Reading::Zero),
     Command::Reads(Reading::Universal),
     Command::Reads(Reading::Merge),
     Command::Reads(Reading::Trim),
+    Command::Maps(Mapping::Relax),
+    Command::Maps(Mapping::Restrict),
+    Command::Maps(Mapping::Rename),
 ];
 
 // The diagrams.
@@ -64,6 +76,9 @@ fn word_of(command: Command) -> &'static str
         Command::Reads(Reading::Diagram(Side::Active)) => "active",
         Command::Reads(Reading::Diagram(Side::Passive)) => "passive",
         Command::Reads(Reading::Step(_)) => "step",
+        Command::Maps(Mapping::Relax) => "relax",
+        Command::Maps(Mapping::Restrict) => "restrict",
+        Command::Maps(Mapping::Rename) => "rename",
     }
 }
 

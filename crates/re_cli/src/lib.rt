@@ -4,6 +4,7 @@
 mod answer;
 mod check;
 mod command;
+mod mapping;
 mod output;
 mod reading;
 mod status;

@@ -77,7 +77,7 @@ fn answer_to(fault: InputFault) -> Answer
     }
 }
 
-fn fault_output(alloc: Global, fault: InputFault) -> Result<Output, AllocError>
+pub(crate) fn fault_output(alloc: Global, fault: InputFault) -> Result<Output, AllocError>
     ensures { IfOk result (λ output. outcome_of output ≡ fault_outcome fault) }
 {
     Ok(Output {

@@ -6,6 +6,8 @@ mod check;
 #[cfg(test)]
 mod faults;
 #[cfg(test)]
+mod maps;
+#[cfg(test)]
 mod problems;
 #[cfg(test)]
 mod steps;

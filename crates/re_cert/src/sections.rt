@@ -198,6 +198,17 @@ fn begins_certificate(mark: &[u8], word: &[u8], version: &[u8]) -> bool
 pub(crate) fn read_heading(line: &[u8]) -> Option<Heading>
     ensures { result ≡ heading_of line.now }
 {
+    if begins_section(line) {
+        read_header_words(line)
+    } else {
+        None
+    }
+}
+
+// The header whose words stand on the line, or None exactly where they are none.
+fn read_header_words(line: &[u8]) -> Option<Heading>
+    ensures { result ≡ heading_in (words_of line.now) }
+{
     let Some((mark, rest)) = next_word(line) else {
         return None;
     };

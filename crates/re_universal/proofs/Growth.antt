@@ -1,7 +1,6 @@
 -- Good sets that grow label by label.
 use Rattle.std.proofs.Common.{◌≡◌, ℕ, zero, suc, ◌+◌, ◌-◌, ◌<◌, ◌≤◌, Bool, true, false, List, [], ◌∷◌, length, sym, ◌∙◌, subst, ◌⊎◌, inl, inr, arith}
 use Rattle.std.specs.Prelude.{Contains, IsTrue, slice_set, ◌↔◌}
-use Rattle.std.specs.List.{AllByRecursion}
 use Rattle.std.proofs.lemmas.Bool.{false≢true}
 use Rattle.re_boxes.proofs.Grown.{added_good, nothing_above}
 use Rattle.re_boxes.proofs.Spread.{AreFilled, IsGood-under, IsIn-filled, one_label}
@@ -15,15 +14,16 @@ use Rattle.re_config.specs.Rows.{Dominates, IsChoice, IsUnder, in_order, set_at}
 use Rattle.re_labels.proofs.Membership.{Contains-here, In-Contains}
 use Rattle.re_labels.proofs.Numbers.{IsLabelSet-with_label}
 use Rattle.re_labels.proofs.Sets.{IsIn-union, IsIn-union_cases, has-IsIn}
-use Rattle.re_labels.specs.Sets.{IsIn, IsLabelSet, IsWithin, has, with_label}
+use Rattle.re_labels.specs.Sets.{IsIn, IsWithin, has, with_label}
 use Rattle.re_table.proofs.Goodness.{IsGood-Rearranged}
 use Rattle.re_table.proofs.MaxRows.{IsMaximal-max_rows}
 use Rattle.re_table.specs.Constraints.{Constraint}
 use Rattle.re_table.specs.GoodRows.{IsGood, IsMaximal, max_rows}
-use Rattle.re_universal.proofs.RowsOfSets.{AreSets-more, in_order_moved, in_order_row}
-use Rattle.re_universal.proofs.SetsAtPlaces.{IsUnder-trans, all_at, all_set, set_there, under_at, under_set}
-use Rattle.re_universal.specs.Choosing.{AreGoodChoices}
-use Rattle.re_universal.specs.Growing.{AreSets, IsGrownFrom, IsTried}
+use Rattle.re_strength.proofs.RowsOfSets.{AreSets-more, filled, in_order_moved, in_order_row}
+use Rattle.re_strength.proofs.SetsAtPlaces.{IsUnder-trans, all_at, all_set, set_there, under_at, under_set}
+use Rattle.re_strength.specs.Choosing.{AreGoodChoices}
+use Rattle.re_strength.specs.Sets.{AreSets}
+use Rattle.re_universal.specs.Growing.{IsGrownFrom, IsTried}
 
 -- ---- a set with one more label
 label_there : (s : List ℕ) (x : ℕ) → IsIn x (with_label s x)
@@ -34,14 +34,6 @@ set_within s x z i = IsIn-union s (x ∷ []) z (inl i)
 
 with_label_under : (s t : List ℕ) (x : ℕ) → IsWithin s t → IsWithin (with_label s x) (with_label t x)
 with_label_under s t x h z i = elim (IsIn-union_cases s (x ∷ []) z i) [ inl k ↦ set_within t x z (h z k) | inr k ↦ IsIn-union t (x ∷ []) z (inr k) ]
-
-pub filled : (n : ℕ) (r : List (List ℕ)) → AreSets n r → AreFilled r
-filled n [] h = tt
-filled n (s ∷ r) h = (h.0.1, filled n r h.1)
-
-pub AreSets-filled : (n : ℕ) (r : List (List ℕ)) → AllByRecursion (IsLabelSet n) r → AreFilled r → AreSets n r
-AreSets-filled n [] h k = tt
-AreSets-filled n (s ∷ r) h k = ((h.0, k.0), AreSets-filled n r h.1 k.1)
 
 added_filled : (i x : ℕ) (r : List (List ℕ)) → AreFilled r → AreFilled (added i x r)
 added_filled i x r h = all_set (λ s. 0 < length s) r i (with_label (set_at r i) x) h (IsIn-filled x (with_label (set_at r i) x) (label_there (set_at r i) x))

@@ -2,10 +2,10 @@
 use Rattle.std.proofs.Common.{◌≡◌, ℕ, zero, suc, ◌+◌, ◌<◌, ◌≤◌, Bool, false, List, [], ◌∷◌, ◌++◌, length, map, get_or, refl, sym, ap, ◌∙◌, subst, ◌⊎◌, inl, inr, arith, length-append, append_assoc}
 use Rattle.std.specs.Prelude.{Contains}
 use Rattle.std.specs.Cmp.{IsStrictWeakOrder}
-use Rattle.std.specs.Cmp.Lexicographic.{nat_list_cmp_total, slice_cmp}
+use Rattle.std.specs.Cmp.Lexicographic.{nat_list_cmp_total}
 use Rattle.std.specs.List.{AllByRecursion}
 use Rattle.std.specs.List.Sorted.{IsPermutation, IsSortedBy}
-use Rattle.std.specs.Ordering.{is_lt, nat_cmp, ordering_then}
+use Rattle.std.specs.Ordering.{is_lt}
 use Rattle.std.specs.declared.cmp.Ordering.TheVariants.{Less}
 use Rattle.std.proofs.lemmas.Bool.{false≢true}
 use Rattle.std.proofs.lemmas.List.MinMax.{ranks_by}
@@ -24,19 +24,13 @@ use Rattle.re_table.proofs.MaxRows.{max_rows-IsMaximal}
 use Rattle.re_table.specs.Constraints.{Constraint, IsConstraint}
 use Rattle.re_table.specs.GoodRows.{IsMaximal, max_rows}
 use Rattle.re_universal.proofs.Keeping.{dominated_longer, no_longer}
-use Rattle.re_universal.proofs.SetsAtPlaces.{all_at}
-use Rattle.re_universal.specs.Boxed.{AreBoxesCovered, AreConfigsDominated}
+use Rattle.re_strength.proofs.SetsAtPlaces.{all_at}
+use Rattle.re_strength.proofs.UpSets.{constraint_below}
+use Rattle.re_strength.specs.Boxed.{AreBoxesCovered, AreConfigsDominated}
 use Rattle.re_universal.specs.Kept.{IsKept, IsLonger}
 
 abbrev Rows : Type 0
 Rows = List (List (List ℕ))
-
--- rows are compared by the numbers of their sets
-pub numbers_cmp : (row other : List (List ℕ)) → slice_cmp (λ s t. nat_cmp (number s) (number t)) row other ≡ row_cmp row other
-numbers_cmp [] [] = refl
-numbers_cmp [] (t ∷ other) = refl
-numbers_cmp (s ∷ row) [] = refl
-numbers_cmp (s ∷ row) (t ∷ other) = ap (ordering_then (nat_cmp (number s) (number t))) (numbers_cmp row other)
 
 abbrev pub is_below : List (List ℕ) → List (List ℕ) → Bool
 is_below row other = is_lt (row_cmp row other)
@@ -102,16 +96,6 @@ module _ (constraint : Constraint) (n most : ℕ) (rows ys : Rows) (kept : IsKep
   -- ---- the list
   module _ (fine : IsConstraint 64 constraint) (below : AllByRecursion (AllByRecursion (λ x. x < n)) constraint.configs) (ups : ℕ → List ℕ) (strong : IsStrength constraint ups)
       (sorted : IsSortedBy is_below ys) (configs : AreConfigsDominated constraint ups rows) (boxes : (row : List (List ℕ)) → Contains rows row → AreBoxesCovered constraint ups n rows row) where
-    fine_below : IsConstraint n constraint
-    fine_below = record {
-      least = fine.least;
-      most = fine.most;
-      configs = AllByRecursion-from_contains (IsConfig constraint.degree n) constraint.configs (λ c h.
-          let is : IsConfig constraint.degree 64 c = AllByRecursion-contains (IsConfig constraint.degree 64) constraint.configs c fine.configs h in
-          record { count = is.count; below = AllByRecursion-contains (AllByRecursion (λ x. x < n)) constraint.configs c below h; ascends = is.ascends });
-      ascends = fine.ascends;
-    }
-
     all_boxed : IsBoxed constraint ups n ys
     all_boxed = record {
       good = λ row h. let m = is_maximal row h in (m.is_row, m.good);
@@ -126,7 +110,7 @@ module _ (constraint : Constraint) (n most : ℕ) (rows ys : Rows) (kept : IsKep
     }
 
     pub listed : ys ≡ max_rows constraint n
-    listed = (boxes_law constraint ups n ys fine_below strong).0 all_boxed
+    listed = (boxes_law constraint ups n ys (constraint_below constraint n fine below) strong).0 all_boxed
 
     pub listed_few : length (max_rows constraint n) ≤ most
     listed_few = let m = length_permutation rows ys moved in omega (arith, m, ap length listed, kept.few)

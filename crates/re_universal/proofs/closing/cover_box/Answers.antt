@@ -1,17 +1,20 @@
 use Rattle.std.proofs.Common.{◌≡◌, ◌<◌, ◌∙◌, [], None, filter, ltb, get_or, ap, sym, subst, arith, length}
 use Rattle.std.specs.Prelude.{slice_set}
+use Rattle.std.proofs.lemmas.Bool.{false≢true}
 use Rattle.re_boxes.specs.Boxes.{box_at, with_stronger}
 use Rattle.re_config.proofs.RowCalls.{read_within}
 use Rattle.re_config.specs.Rows.{set_at}
 use Rattle.re_labels.proofs.Membership.{AllByRecursion-weaker, length-map'}
 use Rattle.re_labels.proofs.Sets.{has-IsIn}
 use Rattle.re_labels.specs.Sets.{IsIn, IsLabelSet, after_of, union}
-use Rattle.re_universal.proofs.BoxesOfRows.{box_sets, box_there, row_sets, set_of_row}
-use Rattle.re_universal.proofs.LabelsAbove.{nothing_above, nothing_there}
-use Rattle.re_universal.proofs.SetsAtPlaces.{length-slice_set}
-use Rattle.re_universal.proofs.UpSets.{labels_up}
-use Rattle.re_universal.specs.Growing.{AreSets}
-use Rattle.re_universal.specs.Held.{ups_in}
+use Rattle.re_boxes.proofs.Covering.{covered_there}
+use Rattle.re_strength.proofs.BoxesOfRows.{box_sets, maximal_is_up, set_of_row}
+use Rattle.re_universal.proofs.KeptBoxes.{kept_row}
+use Rattle.re_strength.proofs.LabelsAbove.{nothing_above, nothing_there}
+use Rattle.re_strength.proofs.SetsAtPlaces.{length-slice_set}
+use Rattle.re_strength.proofs.UpSets.{labels_up}
+use Rattle.re_strength.specs.Sets.{AreSets}
+use Rattle.re_strength.specs.Held.{ups_in}
 use Rattle.re_universal.proofs.closing.cover_box.Goals as goal
 
 pub returns-then-has-clause-covered : goal.returns-then-has-clause-covered
@@ -20,8 +23,8 @@ returns-then-has-clause-covered c =
     let row = c.args.row.now in
     let set : c.index-sets-place.result ≡ set_at row c.args.place = c.index-sets-place.is
     ∙ read_within c.sets-sets.result.now c.args.place c.index-sets-place.result [] (omega (arith, c.requires.place, ap length c.sets-sets.ensures.sets)) ∙ ap (λ l. get_or l c.args.place []) c.sets-sets.ensures.sets in
-    box_there c.args.constraint.now (ups_in s.ups.items) s.labels c.requires.strong (labels_up s.ups.items s.labels s.count s.below) row (c.requires.kept.maximal row c.requires.row)
-    c.args.rows.now.items c.args.place c.args.label c.requires.row (subst (IsIn c.args.label) set (has-IsIn c.index-sets-place.result c.args.label (sym c.has.ensures ∙ c.if-has.true)))
+    let up = maximal_is_up c.args.constraint.now (ups_in s.ups.items) s.labels c.requires.strong (labels_up s.ups.items s.labels s.count s.below) row (c.requires.kept.maximal row c.requires.row) in
+    λ next. covered_there c.args.constraint.now (ups_in s.ups.items) c.args.rows.now.items row c.requires.row up c.args.place c.args.label (subst (IsIn c.args.label) set (has-IsIn c.index-sets-place.result c.args.label (sym c.has.ensures ∙ c.if-has.true)))
 
 pub returns-then-is_none-clause-covered : goal.returns-then-is_none-clause-covered
 returns-then-is_none-clause-covered c = λ next.
@@ -40,7 +43,7 @@ returns-then-not-has_above-clause-covered c = λ next.
     let row = c.args.row.now in
     let set : c.index-sets-place.result ≡ set_at row c.args.place = c.index-sets-place.is
     ∙ read_within c.sets-sets.result.now c.args.place c.index-sets-place.result [] (omega (arith, c.requires.place, ap length c.sets-sets.ensures.sets)) ∙ ap (λ l. get_or l c.args.place []) c.sets-sets.ensures.sets in
-    absurd (c.has_above.ensures c.if-not-has_above.true (λ y i l. subst (IsIn y) (sym set) (next.stronger y (subst (IsIn y) c.up-up.ensures.up i) l)))
+    absurd (false≢true (sym c.if-not-has_above.true ∙ c.has_above.ensures.1 (λ y i l. subst (IsIn y) (sym set) (next.stronger y (subst (IsIn y) c.up-up.ensures.up i) l))))
 
 pub up_above-requires-clause-set : goal.up_above-requires-clause-set
 up_above-requires-clause-set c =
@@ -49,7 +52,8 @@ up_above-requires-clause-set c =
     let set : c.index-sets-place.result ≡ set_at row c.args.place = c.index-sets-place.is
     ∙ read_within c.sets-sets.result.now c.args.place c.index-sets-place.result [] (omega (arith, c.requires.place, ap length c.sets-sets.ensures.sets)) ∙ ap (λ l. get_or l c.args.place []) c.sets-sets.ensures.sets in
     subst (IsLabelSet s.labels) (sym set)
-    (set_of_row c.args.constraint.now (ups_in s.ups.items) s.labels c.requires.strong (labels_up s.ups.items s.labels s.count s.below) row (c.requires.kept.maximal row c.requires.row) c.args.place c.requires.place)
+    (set_of_row c.args.constraint.now (ups_in s.ups.items) s.labels c.requires.strong (labels_up s.ups.items s.labels s.count s.below) c.args.constraint.now.degree row
+    (kept_row c.args.constraint.now (ups_in s.ups.items) s.labels row (c.requires.kept.maximal row c.requires.row)) c.args.place c.requires.place)
 
 pub cover-requires-clause-must : goal.cover-requires-clause-must
 cover-requires-clause-must c =
@@ -57,14 +61,14 @@ cover-requires-clause-must c =
     let row = c.args.row.now in
     ap length (c.as_slice-2.ensures.value ∙ c.with_set-must.ensures) ∙ length-slice_set c.as_slice.result.now c.args.place _
     ∙ ap length (c.as_slice.ensures.value ∙ c.nothing.ensures) ∙ length-map' _ c.sets-sets.result.now ∙ ap length c.sets-sets.ensures.sets
-    ∙ (row_sets c.args.constraint.now (ups_in s.ups.items) s.labels c.requires.strong (labels_up s.ups.items s.labels s.count s.below) row (c.requires.kept.maximal row c.requires.row)).count
+    ∙ (kept_row c.args.constraint.now (ups_in s.ups.items) s.labels row (c.requires.kept.maximal row c.requires.row)).count
 
 pub cover-requires-clause-may : goal.cover-requires-clause-may
 cover-requires-clause-may c =
     let s = c.args.strength.now in
     let row = c.args.row.now in
     ap length (c.as_slice-3.ensures.value ∙ c.with_set-may.ensures) ∙ length-slice_set c.sets-sets.result.now c.args.place _ ∙ ap length c.sets-sets.ensures.sets
-    ∙ (row_sets c.args.constraint.now (ups_in s.ups.items) s.labels c.requires.strong (labels_up s.ups.items s.labels s.count s.below) row (c.requires.kept.maximal row c.requires.row)).count
+    ∙ (kept_row c.args.constraint.now (ups_in s.ups.items) s.labels row (c.requires.kept.maximal row c.requires.row)).count
 
 pub cover-requires-clause-sets : goal.cover-requires-clause-sets
 cover-requires-clause-sets c =
@@ -77,4 +81,5 @@ cover-requires-clause-sets c =
     c.as_slice-3.ensures.value ∙ c.with_set-may.ensures ∙ (λ i. slice_set (c.sets-sets.ensures.sets i) c.args.place (c.union.ensures i))
     ∙ (λ i. slice_set row c.args.place (union (c.up_above.ensures i) (c.up-up.ensures.up i))) ∙ ap (λ t. slice_set row c.args.place (union (with_stronger ups (filter (ltb c.args.label) t)) (ups c.args.label))) set in
     subst (AreSets s.labels) (sym box)
-    (box_sets c.args.constraint.now ups s.labels c.requires.strong (labels_up s.ups.items s.labels s.count s.below) row (c.requires.kept.maximal row c.requires.row) c.args.place c.args.label c.requires.place c.requires.label)
+    (box_sets c.args.constraint.now ups s.labels c.requires.strong (labels_up s.ups.items s.labels s.count s.below) c.args.constraint.now.degree row
+    (kept_row c.args.constraint.now ups s.labels row (c.requires.kept.maximal row c.requires.row)) c.args.place c.args.label c.requires.place c.requires.label)

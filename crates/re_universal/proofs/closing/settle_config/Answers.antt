@@ -6,9 +6,9 @@ use Rattle.re_labels.proofs.Membership.{AllByRecursion-contains}
 use Rattle.re_labels.specs.Sets.{IsLabelSet}
 use Rattle.std.specs.List.{AllByRecursion}
 use Rattle.re_table.specs.GoodRows.{IsGood}
-use Rattle.re_universal.proofs.Growth.{AreSets-filled}
-use Rattle.re_universal.proofs.UpSets.{up_config}
-use Rattle.re_universal.specs.Held.{ups_in}
+use Rattle.re_strength.proofs.RowsOfSets.{AreSets-filled}
+use Rattle.re_strength.proofs.UpSets.{up_config}
+use Rattle.re_strength.specs.Held.{ups_in}
 use Rattle.re_universal.proofs.closing.settle_config.Goals as goal
 
 pub settle-requires-clause-good : goal.settle-requires-clause-good

@@ -2,10 +2,10 @@ use Rattle.std.proofs.Common.{◌∙◌, ◌∷◌, [], sym, subst, arith, rules
 use Rattle.std.specs.Prelude.{IsTrue, slice_set, ◌↔◌}
 use Rattle.std.specs.List.{AllByRecursion}
 use Rattle.re_labels.specs.Sets.{IsLabelSet}
-use Rattle.re_universal.proofs.SetsAtPlaces.{all_set}
-use Rattle.re_universal.proofs.UpSets.{label_sets_more, weakest_tell}
-use Rattle.re_universal.specs.Choosing.{AreGoodChoices}
-use Rattle.re_universal.specs.Held.{ups_in}
+use Rattle.re_strength.proofs.SetsAtPlaces.{all_set}
+use Rattle.re_strength.proofs.UpSets.{label_sets_more, weakest_tell}
+use Rattle.re_strength.specs.Choosing.{AreGoodChoices}
+use Rattle.re_strength.specs.Held.{ups_in}
 use Rattle.re_universal.proofs.growing.can_add.Goals as goal
 
 pub bad_choice-requires-clause-sets : goal.bad_choice-requires-clause-sets

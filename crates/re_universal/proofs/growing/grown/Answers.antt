@@ -1,7 +1,7 @@
 use Rattle.std.proofs.Common.{◌≡◌, ◌∙◌, ap, sym, subst, arith, length, Some, None}
 use Rattle.re_config.specs.Rows.{IsUnder, in_order, row_of}
 use Rattle.re_universal.proofs.Growth.{grown_dominates, grown_maximal}
-use Rattle.re_universal.proofs.RowsOfSets.{AreSets-more, made}
+use Rattle.re_strength.proofs.RowsOfSets.{AreSets-more, made}
 use Rattle.re_universal.proofs.growing.grown.Goals as goal
 
 pub unreachable-requires : goal.unreachable-requires

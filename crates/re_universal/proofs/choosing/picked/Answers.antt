@@ -1,5 +1,0 @@
-use Rattle.re_universal.proofs.DrawnChoices.{first_picked}
-use Rattle.re_universal.proofs.choosing.picked.Goals as goal
-
-pub returns : goal.returns
-returns c = first_picked c.args.set c.first.result c.first.ensures c.number-number.ensures.set

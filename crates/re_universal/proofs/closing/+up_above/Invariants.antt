@@ -1,5 +1,0 @@
-use Rattle.std.proofs.Common.{◌-◌}
-use Rattle.re_universal.proofs.closing.+up_above.Given as goal
-
-abbrev pub decreases-up_above : goal.decreases-up_above
-decreases-up_above l = 64 - l.label

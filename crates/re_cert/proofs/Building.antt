@@ -22,7 +22,7 @@ problem_of_step d [] x i low is = absurd (omega arith)
 problem_of_step d (s ∷ steps) x zero low is = ap (λ t. (step_of t).next) (sym is)
 problem_of_step d (s ∷ steps) x (suc i) low is = problem_of_step d steps x i (omega arith) is
 
-pub problem_there : (d : NamedProblem) (steps : List Step) (x : Step) (n : ℕ) → (n ≡ 0 → ⊥) → n < length steps → x ≡ get_or steps (n - 1) x
+pub problem_there : (d : NamedProblem) (steps : List Step) (x : Step) (n : ℕ) → (n ≡ 0 → ⊥) → n ≤ length steps → x ≡ get_or steps (n - 1) x
     → get_or (d ∷ next_problems (map step_of steps)) n d ≡ (step_of x).next
 problem_there d steps x zero some low is = absurd (some refl)
 problem_there d steps x (suc n) some low is =

@@ -4,8 +4,10 @@ ghost use Rattle.re_diagram.specs.Merging.{merge_map, merged_of};
 ghost use Rattle.re_diagram.specs.Renumbering.{number_among};
 ghost use Rattle.re_labels.specs.Lists.{count_from};
 ghost use Rattle.re_labels.specs.Sets.{meet};
+ghost use Rattle.re_laws.specs.Algorithms.{Solvable};
+ghost use Rattle.re_problem.specs.NamedProblems.{unnamed};
 ghost use Rattle.re_table.specs.Strength.{up_set};
-ghost use Rattle.std.specs.Prelude.{◌≡◌, ◌≤◌, IfOk, length, map};
+ghost use Rattle.std.specs.Prelude.{◌≡◌, ◌≤◌, ◌↔◌, ℕ, IfOk, length, map};
 
 use crate::classes::{least_equal, least_labels};
 use crate::renumbering::{number_among, renumbered};
@@ -47,10 +49,11 @@ fn merge_map(covers: &[LabelSet], stay: &[u8]) -> ArrayVec<u8, 64>
 
 /// The problem with equal labels merged, those that cover each other: the least of each class stays and keeps its name,
 /// the labels that stay are numbered anew, and the constraints are the images under the map, which leads from each label
-/// to the new number of the one that stays. It finds two up-sets of each label, and sorts the images of all configurations.
+/// to the new number of the one that stays. It is solvable in as many rounds as before. It finds two up-sets of each label, and sorts the images of all configurations.
 pub fn merge(alloc: Global, problem: &Problem) -> Result<Merged, NoMemory>
     ensures problem { IfOk result (λ merged. merged.problem ≡ merged_of problem.now) }
     ensures map { IfOk result (λ merged. merged.map ≡ merge_map problem.now) }
+    ensures rounds { IfOk result (λ merged. (T : ℕ) → Solvable (unnamed merged.problem) T ↔ Solvable (unnamed problem.now) T) }
 {
     let covers = cover_sets(problem);
     let stay = least_labels(covers.as_slice());

@@ -2,9 +2,10 @@
 ghost use Rattle.re_diagram.specs.Renumbering.{number_among};
 ghost use Rattle.re_diagram.specs.Trimming.{all_but, first_covered, is_covered, named_without, trimmed, trimmed_of};
 ghost use Rattle.re_labels.specs.Lists.{count_from};
+ghost use Rattle.re_laws.specs.Algorithms.{Solvable};
 ghost use Rattle.re_problem.specs.NamedProblems.{unnamed};
 ghost use Rattle.re_table.specs.Strength.{constraint_without};
-ghost use Rattle.std.specs.Prelude.{◌≡◌, ◌≤◌, ◌<◌, IfOk, Some, length, map};
+ghost use Rattle.std.specs.Prelude.{◌≡◌, ◌≤◌, ◌<◌, ◌↔◌, ℕ, IfOk, Some, length, map};
 
 use crate::renumbering::{number_among, renumbered};
 use arrayvec::ArrayVec;
@@ -127,11 +128,12 @@ fn trimmed(alloc: Global, problem: &Problem, steps: usize) -> Result<Problem, No
 }
 
 /// The problem without labels that others cover: as long as some label is covered by another one, the least such label is
-/// left out with all configurations that hold it, and the others are numbered anew. What covers what is found again after
-/// each step. With n labels it makes at most n - 1 problems one after another, and finds at most two up-sets of each label
+/// left out with all configurations that hold it, and the others are numbered anew. It is solvable in as many rounds as
+/// before. What covers what is found again after each step. With n labels it makes at most n - 1 problems one after another, and finds at most two up-sets of each label
 /// for each of them.
 pub fn trim(alloc: Global, problem: &Problem) -> Result<Problem, NoMemory>
-    ensures { IfOk result (λ trimmed. trimmed ≡ trimmed_of problem.now) }
+    ensures problem { IfOk result (λ trimmed. trimmed ≡ trimmed_of problem.now) }
+    ensures rounds { IfOk result (λ trimmed. (T : ℕ) → Solvable (unnamed trimmed) T ↔ Solvable (unnamed problem.now) T) }
 {
     trimmed(alloc, problem, problem.names().len())
 }

@@ -1,8 +1,10 @@
-use Rattle.std.proofs.Common.{◌≡◌, ◌<◌, ap, arith, length, sym, subst, ◌∙◌}
+use Rattle.std.proofs.Common.{◌≡◌, ◌<◌, ◌↔◌, ap, arith, length, sym, subst, ◌∙◌}
 use Rattle.std.specs.List.{AllByRecursion}
 use Rattle.re_config.proofs.LeastLabels.{length-set}
 use Rattle.re_labels.specs.Sets.{IsLabelSet}
-use Rattle.re_problem.specs.NamedProblems.{NamedProblem}
+use Rattle.re_laws.specs.Algorithms.{Solvable}
+use Rattle.re_problem.specs.NamedProblems.{NamedProblem, unnamed}
+use Rattle.re_diagram.proofs.KeptRounds.{merge_rounds_law}
 use Rattle.re_diagram.proofs.MergedLabels.{IsLabelSet-unmerged, built-along, configs-below, images-are, length-merge_map, merged-below, merged-built, stay-is}
 use Rattle.re_diagram.specs.Merging.{merge_map, unmerged}
 use Rattle.re_diagram.specs.Renumbering.{renumbered}
@@ -62,3 +64,7 @@ returns-clause-problem c =
 pub returns-clause-map : goal.returns-clause-map
 returns-clause-map c = c.in-Some.ensures.0 ∙ images-are c.args.problem.now c.as_slice.result.now c.as_slice-2.result.now c.least_labels-stay.result.items c.as_slice-3.result.now c.as_slice-4.result.now c.merge_map-images.result.items c.as_slice-6.result.now
     (c.as_slice.ensures.value ∙ c.cover_sets-covers.ensures) (c.as_slice-2.ensures.value ∙ sym c.as_slice.ensures.value) c.least_labels-stay.ensures c.as_slice-3.ensures.value c.as_slice-4.ensures.value c.merge_map-images.ensures c.as_slice-6.ensures.value
+
+pub returns-clause-rounds : goal.returns-clause-rounds
+returns-clause-rounds c = λ T.
+    subst (λ p. Solvable (unnamed p) T ↔ Solvable (unnamed c.args.problem.now) T) (sym (returns-clause-problem c)) (merge_rounds_law c.args.problem.now T c.names.ensures.problem)

@@ -18,8 +18,8 @@ use Rattle.re_labels.proofs.Tests.{eqb-same}
 use Rattle.re_labels.specs.ListSets.{list_set}
 use Rattle.re_labels.specs.Lists.{IsBefore, IsRising}
 use Rattle.re_labels.specs.Names.{IsName, IsNames}
-use Rattle.re_problem.proofs.BlockLines.{length-list_set}
-use Rattle.re_problem.proofs.LineForms.{NoFeed}
+use Rattle.re_problem.proofs.ListSizes.{length-list_set}
+use Rattle.re_problem.proofs.EndedLines.{NoFeed}
 use Rattle.re_problem.proofs.TextLines.{length-push}
 use Rattle.re_problem.specs.CanonicalTexts.{config_text}
 use Rattle.re_problem.specs.NamedProblems.{OccursIn}

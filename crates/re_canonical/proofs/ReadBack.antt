@@ -10,11 +10,10 @@ use Rattle.re_items.proofs.Scanning.{append_nil}
 use Rattle.re_items.specs.Steps.{is_nil}
 use Rattle.re_labels.proofs.ListSets.{In-list_set, list_set-In, one_set, rising-list_set}
 use Rattle.re_labels.proofs.Membership.{In, In-append_cases, In-append_left, In-append_right}
-use Rattle.re_problem.proofs.LineForms.{NoFeed, parts-ended}
+use Rattle.re_problem.proofs.EndedLines.{NoFeed, parts-ended}
 use Rattle.re_problem.specs.CanonicalTexts.{canonical, config_text, lines_text}
 use Rattle.re_problem.specs.NamedProblems.{IsNamedProblem, NamedProblem}
-use Rattle.re_problem.specs.PlainLaws.{ended}
-use Rattle.re_problem.specs.ProblemTexts.{all_but_last, block, block_constraint, closed, end_fault, fault_if, first_fault, first_from, groups, last_or, line_items, lines_in, lines_of, names_in, names_of, open_block, problem_of}
+use Rattle.re_problem.specs.ProblemTexts.{all_but_last, block, block_constraint, closed, end_fault, ended, fault_if, first_fault, first_from, groups, last_or, line_items, lines_in, lines_of, names_in, names_of, open_block, problem_of}
 use Rattle.re_problem.specs.declared.fault.InputFault.TheVariants.{MissingBlock}
 
 -- ---- the lines of the text

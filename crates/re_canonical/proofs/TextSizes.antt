@@ -13,7 +13,7 @@ use Rattle.re_config.specs.Configs.{IsConfig}
 use Rattle.re_labels.proofs.Tests.{and-true, eqb-true}
 use Rattle.re_labels.specs.Names.{IsNames, is_name}
 use Rattle.re_problem.specs.CanonicalTexts.{Run, canonical, config_text, is_bare, label_text, power_text, run_text, runs, spaced}
-use Rattle.re_problem.specs.PlainLaws.{ended}
+use Rattle.re_problem.specs.ProblemTexts.{ended}
 
 name_size : (name : List ℕ) → is_name name ≡ true → length name ≤ 16
 name_size name named = few (length name) (and-true (leb 1 (length name)) (leb (length name) 16) (and-true (leb 1 (length name) && leb (length name) 16) _ named).0).1

@@ -6,8 +6,7 @@ use Rattle.re_table.specs.Constraints.{Constraint}
 use Rattle.re_table.specs.declared.constraint_table.TheConstants.{MAX_CONFIGURATIONS}
 use Rattle.re_problem.specs.CanonicalTexts.{canonical, config_text}
 use Rattle.re_problem.specs.NamedProblems.{IsNamedProblem, NamedProblem}
-use Rattle.re_problem.specs.PlainLaws.{ended}
-use Rattle.re_problem.specs.ProblemTexts.{first_fault, lines_of, problem_of}
+use Rattle.re_problem.specs.ProblemTexts.{ended, first_fault, lines_of, problem_of}
 
 abbrev pub lines_for : List (List ℕ) → ℕ → List (List ℕ) → List (List ℕ)
 lines_for names degree [] = (codes "%" ++ decimal degree) ∷ []

@@ -2,14 +2,22 @@
 use crate::{derived_by_definition, maximal_rows_by_definition};
 use re_config::{Config, Row};
 use re_labels::LabelSet;
-use re_problem::read_plain;
+use re_problem::{Problem, TextFault, read_problem};
+use std::alloc::Global;
 use std::test::Fail;
 
-const SINKLESS: &[u8] = b"== certificate 1 lower\nI I O\n\nI I\nI O\n== end\n";
+const SINKLESS: &[u8] = b"I I O\n\nI I\nI O\n";
 
-const INDEPENDENT: &[u8] = b"== certificate 1 lower\nM M M\nO O P\n\nM O\nM P\nO O\n== end\n";
+const INDEPENDENT: &[u8] = b"M M M\nO O P\n\nM O\nM P\nO O\n";
 
-const COLOURED: &[u8] = b"== certificate 1 lower\n1 1 1\n2 2 2\n3 3 3\n\n1 2\n1 3\n2 3\n== end\n";
+const COLOURED: &[u8] = b"1 1 1\n2 2 2\n3 3 3\n\n1 2\n1 3\n2 3\n";
+
+fn read(alloc: Global, text: &[u8]) -> Result<Problem, TextFault> {
+    if text.len() > 100 {
+        return Err(TextFault::NoMemory);
+    }
+    read_problem(alloc, text)
+}
 
 fn have_numbers(sets: &[LabelSet], numbers: &[u64]) -> bool {
     if sets.len() != numbers.len() {
@@ -132,9 +140,9 @@ fn derives_worked_problems(rt: HostRuntime) -> Result<(), Fail> {
             .as_slice(),
         ),
     ] {
-        let read = read_plain(rt.alloc(), text)?;
-        assert!(rt; read.is_some(), "{name}");
-        if let Some(problem) = read {
+        let read = read(rt.alloc(), text);
+        assert!(rt; read.is_ok(), "{name}");
+        if let Ok(problem) = read {
             let labels = problem.names().len();
             assert!(rt; labels <= 6);
             let found_rows = maximal_rows_by_definition(

@@ -7,9 +7,10 @@ use Rattle.re_problem.specs.ProblemTexts.{first_fault, lines_of, problem_of}
 use Rattle.re_problem.specs.Zero.{zero_place}
 use Rattle.re_problem.specs.declared.fault.InputFault.{InputFault}
 use Rattle.re_problem.specs.declared.fault.InputFault.TheVariants.{BadByte, BadItem, WrongDegree, MissingBlock, ExtraBlock, DegreeOutOfRange, TooManyLabels, TooManyConfigurations, BadSection, BadEntry, BadBack, TooManySteps, TooManyRows, EarlyEnd}
+use Rattle.re_cli.specs.Counting.{rounds_outcome}
 use Rattle.re_cli.specs.Outcome.{Outcome}
 use Rattle.re_cli.specs.declared.command.Reading.{Reading}
-use Rattle.re_cli.specs.declared.command.Reading.TheVariants.{Diagram, Merge, Read, Step, Trim, Universal, Zero}
+use Rattle.re_cli.specs.declared.command.Reading.TheVariants.{Diagram, Merge, Read, Rounds, Step, Trim, Universal, Zero}
 use Rattle.re_cli.specs.Working.{diagram_outcome, done, merge_outcome, step_outcome, trim_outcome, universal_outcome}
 use Rattle.re_cli.specs.declared.status.Status.{Status}
 use Rattle.re_cli.specs.declared.status.Status.TheVariants.{Done, No, BadInput, Limit}
@@ -56,6 +57,7 @@ problem_outcome Universal problem = universal_outcome problem
 problem_outcome Merge problem = merge_outcome problem
 problem_outcome Trim problem = trim_outcome problem
 problem_outcome (Step n) problem = step_outcome n problem
+problem_outcome (Rounds most) problem = rounds_outcome most problem
 
 abbrev pub read_outcome : Reading → NamedProblem → Option InputFault → Outcome
 read_outcome reading problem None = problem_outcome reading problem

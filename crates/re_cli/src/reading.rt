@@ -9,6 +9,7 @@ ghost use Rattle.re_cli.specs.Outcome.{status_of};
 ghost use Rattle.re_cli.specs.Reading.{fault_line, fault_outcome, fault_status, fit_outcome, problem_outcome, reading_outcome};
 
 use crate::command::Reading;
+use crate::counting::rounds_output;
 use crate::output::{Output, Stop, too_long};
 use crate::status::Answer;
 use crate::working::{diagram_output, merge_output, steps_output, trim_output, universal_output};
@@ -127,6 +128,7 @@ fn problem_output(alloc: Global, reading: Reading, problem: &Problem) -> Result<
         Reading::Merge => merge_output(alloc, problem),
         Reading::Trim => trim_output(alloc, problem),
         Reading::Step(steps) => steps_output(alloc, problem, steps),
+        Reading::Rounds(most) => rounds_output(alloc, problem, most),
     }
 }
 

@@ -17,8 +17,8 @@ use re_table::Constraint;
 use re_universal::{RowsFault, maximal_rows};
 use std::alloc::{AllocError, Global};
 
-// The output of a text that is the whole answer.
-fn done(text: Vec<u8>) -> Output
+/// The output of a text that is the whole answer.
+pub(crate) fn done(text: Vec<u8>) -> Output
     ensures { outcome_of result ≡ done text.items }
 {
     Output {
@@ -132,8 +132,8 @@ fn limit_line(alloc: Global, number: u8, limit: StepLimit) -> Result<String, All
     }
 }
 
-// The output for a limit that the step of this number passes.
-fn limit_output(alloc: Global, number: u8, limit: StepLimit) -> Result<Output, NoMemory>
+/// The output for a limit that the step of this number passes.
+pub(crate) fn limit_output(alloc: Global, number: u8, limit: StepLimit) -> Result<Output, NoMemory>
     ensures { IfOk result (λ output. outcome_of output ≡ limit_with (limit_line number limit)) }
 {
     Ok(Output {

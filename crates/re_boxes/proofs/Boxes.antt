@@ -1,4 +1,5 @@
 -- A list of rows dominates each good row where the boxes of its rows are covered.
+use Rattle.re_labels.proofs.Tests.{true-below}
 use Rattle.std.proofs.Common.{◌≡◌, ℕ, zero, suc, ◌<◌, true, ltb, List, [], ◌∷◌, ◌++◌, length, map, sym, subst, inl, inr, arith}
 use Rattle.std.specs.Prelude.{Contains, filter}
 use Rattle.std.specs.List.{AllByRecursion, AllZip}
@@ -86,16 +87,13 @@ parts_boxed ups zero x (s ∷ r) (w ∷ t) f b n =
     ((f.0, b.0, λ z c. subst (λ v. IsNext ups v w) (sym (one_label z x c)) n), fits_loose ups r t b.1)
 parts_boxed ups (suc i) x (s ∷ r) (w ∷ t) f b n = ((no_label s, b.0, no_bound ups w), parts_boxed ups i x r t f.1 b.1 n)
 
-ltb_from : (x z : ℕ) → x < z → ltb x z ≡ true
-ltb_from x z h = grind (arith, nat_tests, h)
-
 module _ (constraint : Constraint) (ups : ℕ → List ℕ) (strong : IsStrength constraint ups) where
   in_cut : (x : ℕ) (s w : List ℕ) → IsLadder ups (x ∷ s) → IsWithin (with_stronger ups s) w → IsWithin (with_stronger ups (x ∷ s)) (cut ups x w)
   in_cut x s w lad sub z c = IsIn-union (with_stronger ups (filter (ltb x) w)) (ups x) z (elim (IsIn-union_cases (with_stronger ups s) (ups x) z c) [
     | inr i ↦ inr i
     | inl i ↦
         let a = of_with_stronger ups s z i in
-        let high : ltb x a.0 ≡ true = ltb_from x a.0 (head_least x s lad.rises a.0 a.1) in
+        let high : ltb x a.0 ≡ true = true-below x a.0 (head_least x s lad.rises a.0 a.1) in
         inl (in_with_stronger ups (filter (ltb x) w) a.0 z
         (Contains-filter (ltb x) w a.0 (sub a.0 (in_with_stronger ups s a.0 a.0 a.1 (strong.holds a.0))) high) a.2)
   ])

@@ -116,11 +116,6 @@ not_held ups itself zero (x ∷ c) (g ∷ f) (a ∷ r) (s ∷ b) w h u =
     false≢true (sym (ap not (IsIn-has (ups x) x (itself x))) ∙ both.1)
 not_held ups itself (suc p) (x ∷ c) (g ∷ f) (a ∷ r) (s ∷ b) w h u = not_held ups itself p c f r b w h.1 u.1
 
--- a place whose label has to stay gives no box
-pub covered_held : (constraint : Constraint) (ups : ℕ → List ℕ) (rows : List (List (List ℕ))) → ((x : ℕ) → IsIn x (ups x))
-    → (f b : List (List ℕ)) (c : List ℕ) (p : ℕ) → IsHeldAt p c f → IsCovered constraint ups rows (held ups p c f) (without ups p c b)
-covered_held constraint ups rows itself f b c p w r good up h u = absurd (not_held ups itself p c f r b w h u)
-
 box_within : (ups : ℕ → List ℕ) (i x : ℕ) (m : List (List ℕ)) → AreUp ups m → IsIn x (set_at m i) → IsUnder (box_at ups i x m) m
 box_within ups i x [] up w = absurd (Contains-none x w)
 box_within ups zero x (s ∷ r) up w = (

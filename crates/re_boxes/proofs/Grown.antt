@@ -22,10 +22,10 @@ use Rattle.re_boxes.specs.Grown.{GrownLaw, IsGrown, LacksLaw, added}
 with_label_cases : (s : List ℕ) (x z : ℕ) → IsIn z (with_label s x) → IsIn z s ⊎ (z ≡ x)
 with_label_cases s x z i = elim (IsIn-union_cases s (x ∷ []) z i) [ inl k ↦ inl k | inr k ↦ inr (one_label z x k) ]
 
-with_label_itself : (s : List ℕ) (x : ℕ) → IsIn x (with_label s x)
+pub with_label_itself : (s : List ℕ) (x : ℕ) → IsIn x (with_label s x)
 with_label_itself s x = IsIn-union s (x ∷ []) x (inr (Contains-here x []))
 
-with_label_within : (s : List ℕ) (x : ℕ) → IsWithin s (with_label s x)
+pub with_label_within : (s : List ℕ) (x : ℕ) → IsWithin s (with_label s x)
 with_label_within s x z i = IsIn-union s (x ∷ []) z (inl i)
 
 -- ---- a row with one more label
@@ -48,7 +48,7 @@ added_under zero x (s ∷ r) (w ∷ t) h k =
     ((λ z c. elim (with_label_cases s x z c) [ inl j ↦ h.0 z j | inr e ↦ subst (λ v. IsIn v w) (sym e) k ]), h.1)
 added_under (suc i) x (s ∷ r) (w ∷ t) h k = (h.0, added_under i x r t h.1 k)
 
-both_added : (i x : ℕ) (r t : List (List ℕ)) → IsUnder r t → IsUnder (added i x r) (added i x t)
+pub both_added : (i x : ℕ) (r t : List (List ℕ)) → IsUnder r t → IsUnder (added i x r) (added i x t)
 both_added i x [] [] h = tt
 both_added i x [] (w ∷ t) h = absurd h
 both_added i x (s ∷ r) [] h = absurd h
@@ -60,12 +60,6 @@ both_added zero x (s ∷ r) (w ∷ t) h = (
   h.1,
 )
 both_added (suc i) x (s ∷ r) (w ∷ t) h = (h.0, both_added i x r t h.1)
-
--- what could not be added can't be added to the row when it has grown
-pub refused_stays : (constraint : Constraint) (r t : List (List ℕ)) (i x : ℕ) → IsUnder r t → AreFilled r
-    → (IsGood constraint (added i x r) → ⊥) → IsGood constraint (added i x t) → ⊥
-refused_stays constraint r t i x h filled refused good =
-    refused (IsGood-under constraint (added i x r) (added i x t) (both_added i x r t h) (added_filled i x r filled) good)
 
 -- the row with the label x alone at place i
 abbrev pub with_only : ℕ → ℕ → List (List ℕ) → List (List ℕ)
@@ -127,7 +121,7 @@ AreSets-added n i x [] b h = tt
 AreSets-added n zero x (s ∷ r) b h = ((IsLabelSet-with_label n s x b h.0.0, IsIn-filled x (with_label s x) (with_label_itself s x)), h.1)
 AreSets-added n (suc i) x (s ∷ r) b h = (h.0, AreSets-added n i x r b h.1)
 
-added_above : (i x : ℕ) (r : List (List ℕ)) → IsUnder r (added i x r)
+pub added_above : (i x : ℕ) (r : List (List ℕ)) → IsUnder r (added i x r)
 added_above i x [] = tt
 added_above zero x (s ∷ r) = (with_label_within s x, IsUnder-refl r)
 added_above (suc i) x (s ∷ r) = ((λ z c. c), added_above i x r)

@@ -1,4 +1,6 @@
 -- Each good row is dominated where those are that lack their least label at one place.
+use Rattle.std.proofs.lemmas.List.{append-nil}
+use Rattle.re_labels.proofs.Numbers.{rising_tail}
 use Rattle.std.proofs.Common.{◌≡◌, ℕ, ◌<◌, List, [], ◌∷◌, ◌++◌, length, map, sym, ◌∙◌, subst, inl, inr, arith}
 use Rattle.std.specs.List.{AllByRecursion, AllZip}
 use Rattle.re_config.proofs.ChoicesOfRows.{IsChoice-under}
@@ -10,7 +12,7 @@ use Rattle.re_labels.proofs.Membership.{Contains-cases, Contains-here, Contains-
 use Rattle.re_labels.proofs.Sets.{IsIn-more, IsIn-union, IsIn-union_cases}
 use Rattle.re_labels.specs.Lists.{IsRising}
 use Rattle.re_labels.specs.Sets.{IsIn, IsWithin}
-use Rattle.re_table.proofs.Closure.{Choice-singles, append-nil, singles_push, under_part}
+use Rattle.re_table.proofs.Closure.{Choice-singles, singles_push, under_part}
 use Rattle.re_table.specs.Constraints.{Constraint, Has}
 use Rattle.re_table.specs.GoodRows.{IsDominated, IsGood}
 use Rattle.re_boxes.specs.Boxes.{IsStrength, IsUp, with_stronger}
@@ -68,10 +70,6 @@ head_least x (y ∷ s) h z c = elim (Contains-cases z y s c) [
   | inl e ↦ subst (λ w. x < w) (sym e) h.0
   | inr i ↦ let l = head_least y s h.1 z i in omega (arith, l, h.0)
 ]
-
-rising_tail : (x : ℕ) (s : List ℕ) → IsRising (λ x y. x < y) (x ∷ s) → IsRising (λ x y. x < y) s
-rising_tail x [] h = tt
-rising_tail x (y ∷ s) h = h.1
 
 ladder_tail : (ups : ℕ → List ℕ) (x : ℕ) (s : List ℕ) → IsLadder ups (x ∷ s) → IsLadder ups s
 ladder_tail ups x s lad = record {

@@ -1,4 +1,5 @@
 -- The labels at least as strong as a label go up, and so does each label by itself.
+use Rattle.re_table.proofs.Strengths.{Contains-Pick, Pick-Contains}
 use Rattle.std.proofs.Common.{◌≡◌, ℕ, ◌<◌, true, false, cond, eqb, List, [], ◌∷◌, ◌++◌, refl, sym, ap, subst, inl, inr}
 use Rattle.std.specs.Prelude.{Contains}
 use Rattle.std.specs.List.{AllZip}
@@ -18,17 +19,6 @@ use Rattle.re_boxes.specs.Boxes.{IsStrength}
 use Rattle.re_boxes.specs.Strength.{IsAbove, StrengthLaw}
 
 -- ---- one label in place of another
-Contains-Pick : (x : ℕ) (xs rest : List ℕ) → Pick x xs rest → Contains xs x
-Contains-Pick x xs rest (here {xs = ys}) = Contains-here x ys
-Contains-Pick x xs rest (there {y = y} {xs = zs} {ys = ys} k) = Contains-later x y zs (Contains-Pick x zs ys k)
-
-Pick-Contains : (x : ℕ) (xs : List ℕ) → Contains xs x → (rest : List ℕ) × Pick x xs rest
-Pick-Contains x [] h = absurd (Contains-none x h)
-Pick-Contains x (y ∷ xs) h = elim (Contains-cases x y xs h) [
-  | inl e ↦ (xs, subst (λ w. Pick x (w ∷ xs) xs) e here)
-  | inr i ↦ let r = Pick-Contains x xs i in (y ∷ r.0, there r.1)
-]
-
 replaced_order : (x y : ℕ) {xs rest : List ℕ} → Pick x xs rest → Rearranged (replaced x y xs) (y ∷ rest)
 replaced_order x y (here {xs = ys}) = rw (eqb-same x) (Rearranged-refl (y ∷ ys))
 replaced_order x y (there {y = z} {xs = zs} {ys = ys} k) =
@@ -93,15 +83,3 @@ strength_law constraint n ups exact = record {
     ]
 
 -- ---- each label by itself
-same_alone : (c e : List ℕ) → AllZip (λ x y. IsIn y (x ∷ [])) c e → c ≡ e
-same_alone [] [] h = refl
-same_alone [] (y ∷ e) h = absurd h
-same_alone (x ∷ c) [] h = absurd h
-same_alone (x ∷ c) (y ∷ e) h = λ i. sym (one_label y x h.0) i ∷ same_alone c e h.1 i
-
-pub IsStrength-alone : (constraint : Constraint) → IsStrength constraint (λ x. x ∷ [])
-IsStrength-alone constraint = record {
-  holds = λ x. Contains-here x [];
-  goes_on = λ x y c z k. subst (λ w. IsIn z (w ∷ [])) (one_label y x c) k;
-  keeps = λ c e h k. subst (Has constraint) (same_alone c e h) k;
-}

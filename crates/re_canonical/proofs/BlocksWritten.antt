@@ -2,18 +2,17 @@
 use Rattle.std.proofs.Common.{◌≡◌, ℕ, zero, suc, ◌<◌, ◌≤◌, ◌+◌, true, false, not, ◌&&◌, ◌||◌, eqb, leb, List, [], ◌∷◌, ◌++◌, length, flat_map, map, refl, sym, ap, ◌∙◌, subst, arith, inl, inr, decimal, Some, None, is_some}
 use Rattle.std.specs.List.{AllByRecursion}
 use Rattle.std.proofs.lemmas.Bool.Decides.{nat_tests}
-use Rattle.std.proofs.lemmas.List.{map-append}
+use Rattle.std.proofs.lemmas.List.{map-append, append-nil}
 use Rattle.re_canonical.proofs.ConfigLines.{IsNamed, config_again, config_allowed, config_degree, config_feed, config_filled, config_items, config_names, config_no_degree, config_spells, config_written, name_at, relabelled}
 use Rattle.re_canonical.proofs.RunItems.{degree_digit, each_degree}
 use Rattle.re_canonical.proofs.StandingLines.{AllFilled, AllStand, MayStand}
 use Rattle.re_canonical.specs.CanonicalLines.{block_lines, lines_for}
 use Rattle.re_config.specs.Configs.{IsConfig, sorted}
 use Rattle.re_items.proofs.HeldLabels.{names_alone}
-use Rattle.re_items.proofs.Scanning.{append_nil}
 use Rattle.re_items.specs.Bytes.{bad_byte, is_empty_line}
 use Rattle.re_items.specs.Items.{empty_degree}
 use Rattle.re_items.specs.Steps.{is_nil}
-use Rattle.re_labels.proofs.Membership.{AllByRecursion-In, Contains-In, In, In-flat_map, In-flat_map_from, In-map, In-map_from}
+use Rattle.re_labels.proofs.Membership.{AllByRecursion-In, Contains-In, In, In-flat_map, In-flat_map_from, In-map, In-map_from, all-push}
 use Rattle.re_labels.proofs.Tests.{eqb-same}
 use Rattle.re_labels.specs.ListSets.{list_set}
 use Rattle.re_labels.specs.Lists.{IsBefore, IsRising}
@@ -36,7 +35,7 @@ pub record Writes (names : List (List ℕ)) (constraint : Constraint) (lines : L
   pub filled : AllFilled lines
   pub feed : AllByRecursion NoFeed lines
   pub some : is_nil lines ≡ false
-  pub stand : length constraint.configs ≤ 65536 → AllStand [] lines
+  pub stand : length constraint.configs ≤ 1048576 → AllStand [] lines
   pub degree : block_degree lines ≡ constraint.degree
   pub configs : block_configs names lines ≡ constraint.configs
   pub names_held : (name : List ℕ) → In name (written_names lines) → In name names
@@ -95,7 +94,7 @@ module _ (names : List (List ℕ)) (constraint : Constraint) (none : constraint.
         allowed = line_is.allowed;
         formed = λ i. is_some (line_is.no_items i) || is_some (line_is.written i);
         degree = λ number. ap (degree_fault number []) degree_is ∙ fit_degree number constraint.degree low high;
-        few = λ others. subst (λ c. length c ≤ 65536) (sym (nothing_spelled others)) (omega arith);
+        few = λ others. subst (λ c. length c ≤ 1048576) (sym (nothing_spelled others)) (omega arith);
       },
       tt,
     );
@@ -110,10 +109,6 @@ In-name_at : (names : List (List ℕ)) (label : ℕ) → label < length names �
 In-name_at [] label below = absurd (omega arith)
 In-name_at (name ∷ names) zero below = inl refl
 In-name_at (name ∷ names) (suc label) below = inr (In-name_at names label (omega arith))
-
-all_push : {X : Type 0} (P : X → Type 0) (xs : List X) (x : X) → AllByRecursion P xs → P x → AllByRecursion P (xs ++ x ∷ [])
-all_push P [] x all one = (one, tt)
-all_push P (y ∷ xs) x all one = (all.0, all_push P xs x all.1 one)
 
 record ConfigLine (names : List (List ℕ)) (config : List ℕ) (line : List ℕ) : Type 0 where
   filled : is_empty_line line ≡ false
@@ -162,7 +157,7 @@ module _ (names : List (List ℕ)) (is : IsNames names) (degree : ℕ) (low : 2 
   spelled_each others (config ∷ configs) ours =
       ap (λ l. length (l ++ flat_map (spells others) (map line_of configs))) ((config_line config ours.0).spelled others) ∙ ap suc (spelled_each others configs ours.1)
 
-  line_stands : (done : List (List ℕ)) (config : List ℕ) → AllByRecursion IsOurs done → IsOurs config → length done + 1 ≤ 65536 → MayStand (map line_of done) (line_of config)
+  line_stands : (done : List (List ℕ)) (config : List ℕ) → AllByRecursion IsOurs done → IsOurs config → length done + 1 ≤ 1048576 → MayStand (map line_of done) (line_of config)
   line_stands done config before ours room =
       let line = config_line config ours in
       record {
@@ -183,19 +178,19 @@ module _ (names : List (List ℕ)) (is : IsNames names) (degree : ℕ) (low : 2 
           ap (λ d. fault_if (not (eqb degree d)) (WrongDegree number)) ((config_line first before.0).degree ∙ before.0.count)
           ∙ ap (λ t. fault_if (not t) (WrongDegree number)) (eqb-same degree)
 
-      counted : (others : List (List ℕ)) → length (block_configs others (map line_of done ++ line_of config ∷ [])) ≤ 65536
+      counted : (others : List (List ℕ)) → length (block_configs others (map line_of done ++ line_of config ∷ [])) ≤ 1048576
       counted others =
-          let all : AllByRecursion IsOurs (done ++ config ∷ []) = all_push IsOurs done config before ours in
+          let all : AllByRecursion IsOurs (done ++ config ∷ []) = all-push IsOurs done config before ours in
           let count : length (flat_map (spells others) (map line_of (done ++ config ∷ []))) ≡ length (done ++ config ∷ []) = spelled_each others (done ++ config ∷ []) all in
-          subst (λ l. length (block_configs others l) ≤ 65536) (map-append line_of done (config ∷ []))
+          subst (λ l. length (block_configs others l) ≤ 1048576) (map-append line_of done (config ∷ []))
           (omega (arith, count, length-push done config, length-list_set (flat_map (spells others) (map line_of (done ++ config ∷ [])))))
 
-  lines_stand : (done configs : List (List ℕ)) → AllByRecursion IsOurs done → AllByRecursion IsOurs configs → length done + length configs ≤ 65536 → AllStand (map line_of done) (map line_of configs)
+  lines_stand : (done configs : List (List ℕ)) → AllByRecursion IsOurs done → AllByRecursion IsOurs configs → length done + length configs ≤ 1048576 → AllStand (map line_of done) (map line_of configs)
   lines_stand done [] before ours few = tt
   lines_stand done (config ∷ configs) before ours few = (
     line_stands done config before ours.0 (omega (arith, few)),
     subst (λ l. AllStand l (map line_of configs)) (map-append line_of done (config ∷ []))
-        (lines_stand (done ++ config ∷ []) configs (all_push IsOurs done config before ours.0) ours.1 (omega (arith, few, length-push done config))),
+        (lines_stand (done ++ config ∷ []) configs (all-push IsOurs done config before ours.0) ours.1 (omega (arith, few, length-push done config))),
   )
 
   all_filled : (configs : List (List ℕ)) → AllByRecursion IsOurs configs → AllFilled (map line_of configs)
@@ -232,7 +227,7 @@ module _ (names : List (List ℕ)) (is : IsNames names) (degree : ℕ) (low : 2 
     some = refl;
     stand = λ few. lines_stand [] (config ∷ configs) tt ours (omega (arith, few));
     degree = (config_line config ours.0).degree ∙ ours.0.count;
-    configs = ap list_set (spelled_again (config ∷ configs) ours ∙ sym (append_nil (config ∷ configs))) ∙ sym (names_alone (config ∷ configs) rising);
+    configs = ap list_set (spelled_again (config ∷ configs) ours ∙ sym (append-nil (config ∷ configs))) ∙ sym (names_alone (config ∷ configs) rising);
     names_held = held_names (config ∷ configs) ours;
     names_written = λ label occurs. all_names_written (config ∷ configs) occurs.0 label ours (Contains-In occurs.0 (config ∷ configs) occurs.1) (Contains-In label occurs.0 occurs.2);
   }

@@ -1,4 +1,5 @@
 -- The canonical text of a problem is read as the problem.
+use Rattle.std.proofs.lemmas.List.{append-nil}
 use Rattle.std.proofs.Common.{◌≡◌, ℕ, zero, suc, ◌<◌, ◌≤◌, ◌+◌, false, cond, not, List, [], ◌∷◌, ◌++◌, length, filter, flat_map, get_or, map, refl, sym, ap, ◌∙◌, subst, arith, inl, inr, append_assoc, decimal, None}
 use Rattle.std.specs.List.{AllByRecursion}
 use Rattle.std.proofs.lemmas.Grind.{flat_map-append}
@@ -6,7 +7,6 @@ use Rattle.re_canonical.proofs.BlocksWritten.{Writes, block_written, written_nam
 use Rattle.re_canonical.proofs.ConfigLines.{name_at}
 use Rattle.re_canonical.proofs.StandingLines.{AllStand, block_passed, group_alone, group_ended}
 use Rattle.re_canonical.specs.CanonicalLines.{CanonicalLaw, CanonicalLinesLaw, IsWithinLimits, block_lines, canonical_lines, lines_for}
-use Rattle.re_items.proofs.Scanning.{append_nil}
 use Rattle.re_items.specs.Steps.{is_nil}
 use Rattle.re_labels.proofs.ListSets.{In-list_set, list_set-In, one_set, rising-list_set}
 use Rattle.re_labels.proofs.Membership.{In, In-append_cases, In-append_left, In-append_right}
@@ -18,7 +18,7 @@ use Rattle.re_problem.specs.declared.fault.InputFault.TheVariants.{MissingBlock}
 
 -- ---- the lines of the text
 lines_text-ended : (names : List (List ℕ)) (degree : ℕ) (configs : List (List ℕ)) → lines_text names degree configs ≡ ended (lines_for names degree configs)
-lines_text-ended names degree [] = sym (append_nil ((37 ∷ decimal degree) ++ 10 ∷ []))
+lines_text-ended names degree [] = sym (append-nil ((37 ∷ decimal degree) ++ 10 ∷ []))
 lines_text-ended names degree (config ∷ configs) = each (config ∷ configs)
   where
     each : (configs : List (List ℕ)) → flat_map (λ c. config_text names c ++ 10 ∷ []) configs ≡ ended (map (config_text names) configs)
@@ -37,7 +37,7 @@ lines_in-ended [] = refl
 lines_in-ended (line ∷ []) = refl
 lines_in-ended (line ∷ next ∷ lines) = ap (λ l. line ∷ l) (lines_in-ended (next ∷ lines))
 
-all_append : {X : Type 0} (P : X → Type 0) (xs ys : List X) → AllByRecursion P xs → AllByRecursion P ys → AllByRecursion P (xs ++ ys)
+pub all_append : {X : Type 0} (P : X → Type 0) (xs ys : List X) → AllByRecursion P xs → AllByRecursion P ys → AllByRecursion P (xs ++ ys)
 all_append P [] ys h k = k
 all_append P (x ∷ xs) ys h k = (h.0, all_append P xs ys h.1 k)
 
@@ -120,8 +120,8 @@ module _ (problem : NamedProblem) (is : IsNamedProblem problem) where
 
   -- ---- no fault
   module _ (limits : IsWithinLimits problem) (byte start : ℕ) where
-    few_names : length (names_of (canonical_lines problem)) ≤ 64
-    few_names = subst (λ n. length n ≤ 64) (sym names_are) is.names.few
+    few_names : length (names_of (canonical_lines problem)) ≤ 128
+    few_names = subst (λ n. length n ≤ 128) (sym names_are) is.names.few
 
     same_lines : (active_lines ++ [] ∷ []) ++ passive_lines ≡ canonical_lines problem
     same_lines = append_assoc active_lines ([] ∷ []) passive_lines
@@ -135,9 +135,9 @@ module _ (problem : NamedProblem) (is : IsNamedProblem problem) where
         let e : closed (active_lines ++ [] ∷ []) ≡ active_lines ∷ [] = ap (λ g. filter (λ b. not (is_nil b)) (all_but_last g)) cut_ended ∙ one_closed active_lines [] active.some in
         subst (λ c. length c < 2) (sym e) (omega arith)) in
         let idle : open_block (active_lines ++ [] ∷ []) ≡ [] = ap (last_or []) cut_ended in
-        let all : (active_lines ++ [] ∷ []) ++ (passive_lines ++ []) ≡ canonical_lines problem = ap (λ l. (active_lines ++ [] ∷ []) ++ l) (append_nil passive_lines) ∙ same_lines in
-        ap (first_from byte start (active_lines ++ [] ∷ [])) (sym (append_nil passive_lines))
-        ∙ block_passed byte start (active_lines ++ [] ∷ []) passive_lines [] room (subst (λ done. AllStand done passive_lines) (sym idle) (passive.stand limits.1)) (subst (λ l. length (names_of l) ≤ 64) (sym all) few_names)
+        let all : (active_lines ++ [] ∷ []) ++ (passive_lines ++ []) ≡ canonical_lines problem = ap (λ l. (active_lines ++ [] ∷ []) ++ l) (append-nil passive_lines) ∙ same_lines in
+        ap (first_from byte start (active_lines ++ [] ∷ [])) (sym (append-nil passive_lines))
+        ∙ block_passed byte start (active_lines ++ [] ∷ []) passive_lines [] room (subst (λ done. AllStand done passive_lines) (sym idle) (passive.stand limits.1)) (subst (λ l. length (names_of l) ≤ 128) (sym all) few_names)
         ∙ ap (end_fault start) same_lines
 
     no_fault : first_fault byte start (canonical_lines problem) ≡ None

@@ -1,9 +1,9 @@
 -- Lines that may stand one behind the other in a block have no fault.
+use Rattle.std.proofs.lemmas.List.{append-nil}
 use Rattle.std.proofs.Common.{◌≡◌, ℕ, ◌<◌, ◌≤◌, ◌+◌, true, false, cond, not, leb, ltb, List, [], ◌∷◌, ◌++◌, length, flat_map, refl, sym, ap, ◌∙◌, subst, arith, append_assoc, None}
 use Rattle.std.specs.List.{AllByRecursion, onto_first}
 use Rattle.std.proofs.lemmas.Bool.Decides.{nat_tests}
 use Rattle.std.proofs.lemmas.Grind.{flat_map-append}
-use Rattle.re_items.proofs.Scanning.{append_nil}
 use Rattle.re_items.specs.Bytes.{bad_byte, is_empty_line}
 use Rattle.re_labels.proofs.ListSets.{list_set-longer}
 use Rattle.re_labels.specs.ListSets.{list_set}
@@ -17,14 +17,14 @@ pub record MayStand (done : List (List ℕ)) (line : List ℕ) : Type 0 where
   pub allowed : bad_byte line ≡ None
   pub formed : has_form done line ≡ true
   pub degree : (number : ℕ) → degree_fault number done (line_degree line) ≡ None
-  pub few : (names : List (List ℕ)) → length (block_configs names (done ++ line ∷ [])) ≤ 65536
+  pub few : (names : List (List ℕ)) → length (block_configs names (done ++ line ∷ [])) ≤ 1048576
 
 -- and so on for each of the lines
 abbrev pub AllStand : List (List ℕ) → List (List ℕ) → Type 0
 AllStand done [] = Unit {0}
 AllStand done (line ∷ lines) = MayStand done line × AllStand (done ++ line ∷ []) lines
 
-no_fault : (byte start : ℕ) (before : List (List ℕ)) (line : List ℕ) → length (closed before) < 2 → MayStand (open_block before) line → length (names_of (before ++ line ∷ [])) ≤ 64 → fault_at byte start before line ≡ None
+no_fault : (byte start : ℕ) (before : List (List ℕ)) (line : List ℕ) → length (closed before) < 2 → MayStand (open_block before) line → length (names_of (before ++ line ∷ [])) ≤ 128 → fault_at byte start before line ≡ None
 no_fault byte start before line room stands few_names =
     let number : ℕ = start + length before in
     let names : List (List ℕ) = names_of (before ++ line ∷ []) in
@@ -33,8 +33,8 @@ no_fault byte start before line room stands few_names =
     (or_else (byte_fault (byte + bytes_of before) (stands.allowed i))
     (or_else (fault_if (at_least 2 (length (closed before)) room i) (ExtraBlock (start + length before)))
     (or_else (fault_if (not (stands.formed i)) (BadItem (start + length before))) (stands.degree (start + length before) i))))
-    (or_else (fault_if (at_most 64 (length (names_of (before ++ line ∷ []))) few_names i) (TooManyLabels (start + length before)))
-    (fault_if (at_most 65536 (length (block_configs (names_of (before ++ line ∷ [])) (open_block before ++ line ∷ []))) (stands.few (names_of (before ++ line ∷ []))) i) (TooManyConfigurations (start + length before)))))
+    (or_else (fault_if (at_most 128 (length (names_of (before ++ line ∷ []))) few_names i) (TooManyLabels (start + length before)))
+    (fault_if (at_most 1048576 (length (block_configs (names_of (before ++ line ∷ [])) (open_block before ++ line ∷ []))) (stands.few (names_of (before ++ line ∷ []))) i) (TooManyConfigurations (start + length before)))))
   where
     at_least : (least n : ℕ) → n < least → leb least n ≡ false
     at_least least n below = grind (arith, nat_tests)
@@ -48,13 +48,13 @@ names_longer xs ys =
     subst (λ n. length (names_of xs) ≤ length (list_set n)) (sym (flat_map-append (λ line. names_in (line_items line)) xs ys)) more
 
 -- past all lines of a block
-pub block_passed : (byte start : ℕ) (before lines rest : List (List ℕ)) → length (closed before) < 2 → AllStand (open_block before) lines → length (names_of (before ++ (lines ++ rest))) ≤ 64
+pub block_passed : (byte start : ℕ) (before lines rest : List (List ℕ)) → length (closed before) < 2 → AllStand (open_block before) lines → length (names_of (before ++ (lines ++ rest))) ≤ 128
     → first_from byte start before (lines ++ rest) ≡ first_from byte start (before ++ lines) rest
-block_passed byte start before [] rest room stand few = ap (λ b. first_from byte start b rest) (sym (append_nil before))
+block_passed byte start before [] rest room stand few = ap (λ b. first_from byte start b rest) (sym (append-nil before))
 block_passed byte start before (line ∷ lines) rest room stand few =
     let all : (before ++ line ∷ []) ++ (lines ++ rest) ≡ before ++ (line ∷ lines ++ rest) = append_assoc before (line ∷ []) (lines ++ rest) in
-    let fewer : length (names_of ((before ++ line ∷ []) ++ (lines ++ rest))) ≤ 64 = subst (λ l. length (names_of l) ≤ 64) (sym all) few in
-    let here : length (names_of (before ++ line ∷ [])) ≤ 64 = omega (arith, fewer, names_longer (before ++ line ∷ []) (lines ++ rest)) in
+    let fewer : length (names_of ((before ++ line ∷ []) ++ (lines ++ rest))) ≤ 128 = subst (λ l. length (names_of l) ≤ 128) (sym all) few in
+    let here : length (names_of (before ++ line ∷ [])) ≤ 128 = omega (arith, fewer, names_longer (before ++ line ∷ []) (lines ++ rest)) in
     ap (λ f. or_else f (first_from byte start (before ++ line ∷ []) (lines ++ rest))) (no_fault byte start before line room stand.0 here)
     ∙ block_passed byte start (before ++ line ∷ []) lines rest
     (subst (λ b. length b < 2) (sym (closed_more before line stand.0.filled)) room) (subst (λ b. AllStand b lines) (sym (open_more before line stand.0.filled)) stand.1) fewer

@@ -1,5 +1,5 @@
 -- The steps of a bound, as a program holds them.
-use Rattle.std.proofs.Common.{◌≡◌, ℕ, zero, suc, ◌-◌, ◌<◌, ◌≤◌, Bool, true, false, eqb, ltb, List, [], ◌∷◌, length, map, get_or, refl, sym, ap, ◌∙◌, arith}
+use Rattle.std.proofs.Common.{◌≡◌, ℕ, zero, suc, ◌-◌, ◌<◌, ◌≤◌, ◌&&◌, Bool, true, false, eqb, ltb, List, [], ◌∷◌, length, map, get_or, refl, sym, ap, ◌∙◌, arith}
 use Rattle.std.specs.List.{list_all}
 use Rattle.std.proofs.lemmas.Bool.Decides.{nat_tests}
 use Rattle.re_labels.proofs.Membership.{AllByRecursion-contains, In-Contains, Contains-In, all-In, all-In_from}
@@ -7,7 +7,7 @@ use Rattle.re_labels.proofs.Sets.{IsIn-has, has-IsIn}
 use Rattle.re_labels.specs.Sets.{IsLabelSet, has}
 use Rattle.re_problem.specs.NamedProblems.{NamedProblem}
 use Rattle.re_problem.specs.ProblemTexts.{last_or}
-use Rattle.re_cert.specs.Bounds.{next_problems, step_of}
+use Rattle.re_cert.specs.Bounds.{BoundStep, next_problems, step_of}
 use Rattle.re_cert.specs.declared.certificate.Step.{Step}
 
 pub last_at : (d : NamedProblem) (steps : List Step) (x : Step) (i : ℕ) → suc i ≡ length steps → x ≡ get_or steps i x → last_or d (next_problems (map step_of steps)) ≡ (step_of x).next
@@ -29,9 +29,9 @@ problem_there d steps x (suc n) some low is =
     problem_of_step d steps x n (omega arith) (is ∙ ap (λ i. get_or steps i x) (let i : suc n - 1 ≡ n = omega arith in i))
 
 -- all labels of a set are below a number
-pub all_below : (set : List ℕ) (n : ℕ) → IsLabelSet 64 set → ((k : ℕ) → k < 64 → has set k ≡ true → k < n) → true ≡ list_all (λ label. ltb label n) set
+pub all_below : (set : List ℕ) (n : ℕ) → IsLabelSet 128 set → ((k : ℕ) → k < 128 → has set k ≡ true → k < n) → true ≡ list_all (λ label. ltb label n) set
 all_below set n is below = sym (all-In_from (λ label. ltb label n) set (λ x member.
-    let low : x < 64 = AllByRecursion-contains (λ y. y < 64) set x is.1 (In-Contains x set member) in
+    let low : x < 128 = AllByRecursion-contains (λ y. y < 128) set x is.1 (In-Contains x set member) in
     let small : x < n = below x low (IsIn-has set x (In-Contains x set member)) in
     grind (arith, nat_tests)))
 
@@ -49,3 +49,8 @@ last_of d steps held x same some is = ap (λ l. last_or d (next_problems (map st
     go : (held : List Step) → false ≡ eqb (length held) 0 → x ≡ get_or held (length held - 1) x → last_or d (next_problems (map step_of held)) ≡ (step_of x).next
     go [] some is = absurd (cc)
     go (s ∷ held) some is = last_at d (s ∷ held) x (length (s ∷ held) - 1) (omega arith) is
+
+-- the test of all steps, as a program holds them
+pub all_steps : (test : BoundStep → Bool) (steps : List Step) → list_all (λ (s : Step). test (step_of s)) steps ≡ list_all test (map step_of steps)
+all_steps test [] = refl
+all_steps test (s ∷ steps) = ap (λ b. test (step_of s) && b) (all_steps test steps)

@@ -6,7 +6,7 @@ use Rattle.std.specs.Cmp.Lexicographic.{pointwise}
 use Rattle.std.specs.Prelude.{◌&&◌, ◌↔◌, Contains, IsTrue, MatchBool, nat_lt}
 use Rattle.std.specs.List.{AllByRecursion, list_all}
 use Rattle.std.specs.Str.{bytes_eq}
-use Rattle.re_labels.proofs.Membership.{AllByRecursion-contains, Contains-map, In-Contains, not_all}
+use Rattle.re_labels.proofs.Membership.{AllByRecursion-contains, AllByRecursion-from_contains, Contains-map, In-Contains, not_all}
 use Rattle.re_labels.proofs.Tests.{and-true, same_tests, true-and}
 use Rattle.re_labels.specs.Lists.{IsRising, count_from}
 use Rattle.re_labels.specs.Sets.{number}
@@ -14,18 +14,19 @@ use Rattle.re_config.proofs.Rearranging.{Contains-Rearranged}
 use Rattle.re_config.proofs.Sorting.{Rearranged-sorted}
 use Rattle.re_config.specs.Configs.{IsConfig, sorted}
 use Rattle.re_table.proofs.Goodness.{Has-has_config, IsAllowed-is_allowed, IsGood-is_good, has_config-Has, is_allowed-IsAllowed, is_good-IsGood}
+use Rattle.re_table.proofs.MaxSets.{max_sets-row}
 use Rattle.re_table.specs.Constraints.{Constraint, Has, IsConstraint, has_config}
 use Rattle.re_table.specs.GoodRows.{allowed, is_allowed, is_good, max_rows, max_sets}
 use Rattle.re_problem.specs.NamedProblems.{NamedProblem}
 use Rattle.re_problem.specs.Steps.{SetEntry, entry_sets, label_at, label_of, set_for}
 use Rattle.re_cert.specs.Bounds.{is_label}
-use Rattle.re_clauses.proofs.StepMeaning.{all_held, all_there, lists-Decides, rows-Decides}
-use Rattle.re_clauses.specs.Clauses.{are_allowed, are_good, are_maximal, have_labels, have_row_sets, is_filled, keep_allowed, keep_rows, sets_in}
+use Rattle.re_clauses.proofs.StepMeaning.{all_held, all_there, by_row-tells, lists-Decides, rows-Decides}
+use Rattle.re_clauses.specs.Clauses.{are_allowed, are_good, are_maximal, have_labels, have_row_sets, is_filled, keep_allowed, keep_allowed_by_row, keep_images, keep_rows, sets_in}
 use Rattle.re_entries.proofs.NextLabels.{next-count}
 use Rattle.re_entries.proofs.RowSets.{place_of-there, row_sets_law, sets-place}
 use Rattle.re_entries.proofs.Telling.{held-read, read-held}
 use Rattle.re_maps.proofs.ImageRows.{known_labels}
-use Rattle.re_entries.specs.StepClauses.{HasAllowedImages, HasGoodImages, HasNextLabels, HasRowSets, KeepsAllowed, KeepsRows}
+use Rattle.re_entries.specs.StepClauses.{HasAllowedImages, HasGoodImages, HasNextLabels, HasRowSets, KeepsAllowed, KeepsAllowedByRow, KeepsImages, KeepsRows, OccursInRows}
 
 -- ---- rows
 pub maximal-test : (before : NamedProblem) (rows : List (List (List ℕ))) (r : Bool)
@@ -75,6 +76,39 @@ allowed_images-test before passive entries r tells =
     (λ t. all_held _ _ passive.configs (λ config. IsAllowed-is_allowed before (map (set_for entries) config)) (tells.0 t))
     (λ t. tells.1 (all_there _ _ passive.configs (λ config. is_allowed-IsAllowed before (map (set_for entries) config)) t))
 
+-- ---- images by rows
+held_low : (constraint : Constraint) (labels : List ℕ) (x : ℕ) → IsConstraint 128 constraint → Has constraint labels → Contains labels x → x < 128
+held_low constraint labels x is has at =
+    let config : IsConfig constraint.degree 128 (sorted labels) = AllByRecursion-contains (IsConfig constraint.degree 128) constraint.configs (sorted labels) is.configs has in
+    AllByRecursion-contains (λ y. y < 128) (sorted labels) x config.below (Contains-Rearranged x (Rearranged-sorted labels) at)
+
+pub images-test : (active : Constraint) (images : List (List ℕ)) (r : Bool) → IsTrue r ↔ KeepsImages images active → r ≡ keep_images active images
+images-test active images r tells =
+    same_tests r (keep_images active images)
+    (λ t. all_held (has_config active) (Has active) images (Has-has_config active) (tells.0 t))
+    (λ t. tells.1 (all_there (has_config active) (Has active) images (has_config-Has active) t))
+
+pub images-below : (active : Constraint) (images : List (List ℕ)) (r : Bool) → IsConstraint 128 active → IsTrue r ↔ KeepsImages images active → IsTrue r → AllByRecursion (AllByRecursion (λ x. x < 128)) images
+images-below active images r is tells t =
+    AllByRecursion-from_contains (AllByRecursion (λ x. x < 128)) images (λ image held.
+    AllByRecursion-from_contains (λ x. x < 128) image (λ x at. held_low active image x is (tells.0 t image held) at))
+
+-- each set of the maximal rows is among those that occur
+occurs-listed : (before : NamedProblem) (rows : List (List (List ℕ))) → rows ≡ max_rows before.passive (length before.names) → (set : List ℕ) → OccursInRows rows set → Contains (sets_in (length before.names) rows) set
+occurs-listed before rows maximal set (row, held, at) =
+    let n = length before.names in
+    subst (λ (m : List (List (List ℕ))). Contains (sets_in n m) set) (sym maximal)
+    (max_sets-row before.passive n row (subst (λ (m : List (List (List ℕ))). Contains m row) maximal held) set at)
+
+pub by_row-test : (before : NamedProblem) (passive given : Constraint) (rows : List (List (List ℕ))) (images : List (List ℕ)) (r : Bool) → rows ≡ max_rows before.passive (length before.names) → given ≡ before.active
+    → ((sets : List (List ℕ)) → ((set : List ℕ) → OccursInRows rows set → Contains sets set) → IsTrue r ↔ KeepsAllowedByRow sets rows images given passive)
+    → r ≡ keep_allowed_by_row (length before.names) before.active passive rows images
+by_row-test before passive given rows images r maximal same tells =
+    let n = length before.names in
+    let told = subst (λ (k : Constraint). IsTrue r ↔ KeepsAllowedByRow (sets_in n rows) rows images k passive) same (tells (sets_in n rows) (occurs-listed before rows maximal)) in
+    let law = by_row-tells n before.active passive rows images in
+    same_tests r (keep_allowed_by_row n before.active passive rows images) (λ t. law.1 (told.0 t)) (λ t. told.1 (law.0 t))
+
 -- ---- labels of an upper step
 filled_sets : (before : NamedProblem) (entries : List SetEntry) → list_all (λ (entry : SetEntry). is_filled before entry.set) entries ≡ list_all (is_filled before) (entry_sets entries)
 filled_sets before [] = refl
@@ -102,24 +136,19 @@ labels-test before next entries r all tells is =
     (filled ∙ both.1))
 
 -- ---- labels that no configuration may have
-high_entry : (entries : List SetEntry) → list_all (λ (entry : SetEntry). ltb entry.label 64) entries ≡ false → (i : ℕ) × (i < length entries) × (64 ≤ label_at entries i)
+high_entry : (entries : List SetEntry) → list_all (λ (entry : SetEntry). ltb entry.label 128) entries ≡ false → (i : ℕ) × (i < length entries) × (128 ≤ label_at entries i)
 high_entry entries low =
-    let found = not_all (λ (entry : SetEntry). ltb entry.label 64) entries low in
+    let found = not_all (λ (entry : SetEntry). ltb entry.label 128) entries low in
     let no_entry : SetEntry = record { set = []; label = 0 } in
     let place = held-read entries found.0 no_entry (In-Contains found.0 entries found.1) in
-    let test : ltb (label_at entries place.0) 64 ≡ false = ap (λ (entry : SetEntry). ltb entry.label 64) place.2 ∙ found.2 in
-    (place.0, place.1, (let l : 64 ≤ label_at entries place.0 = grind (arith, nat_tests) in l))
-
-held_low : (constraint : Constraint) (labels : List ℕ) (x : ℕ) → IsConstraint 64 constraint → Has constraint labels → Contains labels x → x < 64
-held_low constraint labels x is has at =
-    let config : IsConfig constraint.degree 64 (sorted labels) = AllByRecursion-contains (IsConfig constraint.degree 64) constraint.configs (sorted labels) is.configs has in
-    AllByRecursion-contains (λ y. y < 64) (sorted labels) x config.below (Contains-Rearranged x (Rearranged-sorted labels) at)
+    let test : ltb (label_at entries place.0) 128 ≡ false = ap (λ (entry : SetEntry). ltb entry.label 128) place.2 ∙ found.2 in
+    (place.0, place.1, (let l : 128 ≤ label_at entries place.0 = grind (arith, nat_tests) in l))
 
 label_there : (entries : List SetEntry) (i : ℕ) → IsRising (λ s t. number s < number t) (entry_sets entries) → i < length entries → label_of entries (get_or (entry_sets entries) i []) ≡ label_at entries i
 label_there entries i rises l = ap (label_at entries) (place_of-there (entry_sets entries) i (get_or (entry_sets entries) i []) rises (sets-place entries i l) refl)
 
-pub not_below : (active : Constraint) (rows : List (List (List ℕ))) (entries : List SetEntry) → IsConstraint 64 active → HasRowSets rows entries
-    → list_all (λ (entry : SetEntry). ltb entry.label 64) entries ≡ false → false ≡ keep_rows active rows entries
+pub not_below : (active : Constraint) (rows : List (List (List ℕ))) (entries : List SetEntry) → IsConstraint 128 active → HasRowSets rows entries
+    → list_all (λ (entry : SetEntry). ltb entry.label 128) entries ≡ false → false ≡ keep_rows active rows entries
 not_below active rows entries is sets low = go (keep_rows active rows entries) refl
   where
     go : (b : Bool) → keep_rows active rows entries ≡ b → false ≡ b
@@ -129,17 +158,17 @@ not_below active rows entries is sets low = go (keep_rows active rows entries) r
         let set = get_or (entry_sets entries) high.0 [] in
         let occurs = (sets.sets set).0 (read-held (entry_sets entries) high.0 [] (sets-place entries high.0 high.1)) in
         let has = all_there _ (λ row. Has active (map (label_of entries) row)) rows (λ row. has_config-Has active (map (label_of entries) row)) e occurs.0 occurs.1 in
-        let small : label_of entries set < 64 = held_low active (map (label_of entries) occurs.0) (label_of entries set) is has (Contains-map (label_of entries) occurs.0 set occurs.2) in
+        let small : label_of entries set < 128 = held_low active (map (label_of entries) occurs.0) (label_of entries set) is has (Contains-map (label_of entries) occurs.0 set occurs.2) in
         let same : label_of entries set ≡ label_at entries high.0 = label_there entries high.0 sets.ascends high.1 in
-        let large : 64 ≤ label_at entries high.0 = high.2 in
+        let large : 128 ≤ label_at entries high.0 = high.2 in
         absurd (omega (arith, small, same, large))
 
-pub below-all : (entries : List SetEntry) → list_all (λ (entry : SetEntry). ltb entry.label 64) entries ≡ true → AllByRecursion (λ (entry : SetEntry). entry.label < 64) entries
+pub below-all : (entries : List SetEntry) → list_all (λ (entry : SetEntry). ltb entry.label 128) entries ≡ true → AllByRecursion (λ (entry : SetEntry). entry.label < 128) entries
 below-all [] all = tt
 below-all (entry ∷ entries) all =
-    let both = and-true (ltb entry.label 64) (list_all (λ (entry : SetEntry). ltb entry.label 64) entries) all in
-    let test : ltb entry.label 64 ≡ true = both.0 in
-    ((let l : entry.label < 64 = grind (arith, nat_tests) in l), below-all entries both.1)
+    let both = and-true (ltb entry.label 128) (list_all (λ (entry : SetEntry). ltb entry.label 128) entries) all in
+    let test : ltb entry.label 128 ≡ true = both.0 in
+    ((let l : entry.label < 128 = grind (arith, nat_tests) in l), below-all entries both.1)
 
 -- ---- labels of the entries of an upper step
 pub known : (n : ℕ) (constraint given : Constraint) (entries : List SetEntry) → IsConstraint n constraint → given ≡ constraint → HasNextLabels n entries

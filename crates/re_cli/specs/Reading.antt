@@ -9,8 +9,9 @@ use Rattle.re_problem.specs.declared.fault.InputFault.{InputFault}
 use Rattle.re_problem.specs.declared.fault.InputFault.TheVariants.{BadByte, BadItem, WrongDegree, MissingBlock, ExtraBlock, DegreeOutOfRange, TooManyLabels, TooManyConfigurations, BadSection, BadEntry, BadBack, TooManySteps, TooManyRows, EarlyEnd}
 use Rattle.re_cli.specs.Counting.{rounds_outcome}
 use Rattle.re_cli.specs.Outcome.{Outcome}
+use Rattle.re_cli.specs.Searching.{search_outcome}
 use Rattle.re_cli.specs.declared.command.Reading.{Reading}
-use Rattle.re_cli.specs.declared.command.Reading.TheVariants.{Diagram, Merge, Read, Rounds, Step, Trim, Universal, Zero}
+use Rattle.re_cli.specs.declared.command.Reading.TheVariants.{Diagram, Merge, Read, Rounds, Search, Step, Trim, Universal, Zero}
 use Rattle.re_cli.specs.Working.{diagram_outcome, done, merge_outcome, step_outcome, trim_outcome, universal_outcome}
 use Rattle.re_cli.specs.declared.status.Status.{Status}
 use Rattle.re_cli.specs.declared.status.Status.TheVariants.{Done, No, BadInput, Limit}
@@ -23,8 +24,8 @@ fault_line (WrongDegree line) = codes "input: line " ++ decimal line ++ codes ":
 fault_line (MissingBlock line) = codes "input: line " ++ decimal line ++ codes ": a block is missing\n"
 fault_line (ExtraBlock line) = codes "input: line " ++ decimal line ++ codes ": a third block\n"
 fault_line (DegreeOutOfRange degree) = codes "input: degree " ++ decimal degree ++ codes " is not from 2 to 6\n"
-fault_line (TooManyLabels line) = codes "limit: line " ++ decimal line ++ codes ": more than 64 labels\n"
-fault_line (TooManyConfigurations line) = codes "limit: line " ++ decimal line ++ codes ": more than 65536 configurations\n"
+fault_line (TooManyLabels line) = codes "limit: line " ++ decimal line ++ codes ": more than 128 labels\n"
+fault_line (TooManyConfigurations line) = codes "limit: line " ++ decimal line ++ codes ": more than 1048576 configurations\n"
 fault_line (BadSection line) = codes "input: line " ++ decimal line ++ codes ": section not expected\n"
 fault_line (BadEntry line) = codes "input: line " ++ decimal line ++ codes ": bad entry\n"
 fault_line (BadBack line) = codes "input: line " ++ decimal line ++ codes ": back is not before the last problem\n"
@@ -58,6 +59,7 @@ problem_outcome Merge problem = merge_outcome problem
 problem_outcome Trim problem = trim_outcome problem
 problem_outcome (Step n) problem = step_outcome n problem
 problem_outcome (Rounds most) problem = rounds_outcome most problem
+problem_outcome (Search kind steps changes) problem = search_outcome kind steps changes problem
 
 abbrev pub read_outcome : Reading → NamedProblem → Option InputFault → Outcome
 read_outcome reading problem None = problem_outcome reading problem

@@ -16,10 +16,13 @@ use Rattle.re_step.specs.declared.derivation.StepLimit.TheVariants.{Configuratio
 use Rattle.re_table.specs.Constraints.{Constraint}
 use Rattle.re_table.specs.GoodRows.{max_rows, max_sets}
 use Rattle.re_cli.specs.Outcome.{Outcome}
-use Rattle.re_cli.specs.declared.status.Status.TheVariants.{Done, Limit}
+use Rattle.re_cli.specs.declared.status.Status.TheVariants.{Done, Limit, No}
 
 abbrev pub done : List ℕ → Outcome
 done text = record { status = Done; text = text }
+
+abbrev pub refused : List ℕ → Outcome
+refused text = record { status = No; text = text }
 
 abbrev pub limit : List ℕ → Outcome
 limit text = record { status = Limit; text = text }
@@ -50,8 +53,8 @@ trim_outcome problem = done (canonical (trimmed_of problem))
 -- the line of a limit that the step of this number passes
 abbrev pub limit_line : ℕ → StepLimit → List ℕ
 limit_line number Rows = codes "limit: step " ++ decimal number ++ codes ": more than 1024 rows\n"
-limit_line number (Labels count) = codes "limit: step " ++ decimal number ++ codes ": more than 64 labels: " ++ decimal count ++ codes "\n"
-limit_line number Configurations = codes "limit: step " ++ decimal number ++ codes ": more than 65536 configurations\n"
+limit_line number (Labels count) = codes "limit: step " ++ decimal number ++ codes ": more than 128 labels: " ++ decimal count ++ codes "\n"
+limit_line number Configurations = codes "limit: step " ++ decimal number ++ codes ": more than 1048576 configurations\n"
 
 -- the meanings of the labels of the derived problem, an empty line, and its canonical text
 unfoldable pub derived_text : NamedProblem → List ℕ

@@ -4,13 +4,16 @@ ghost use Rattle.re_io.specs.Faults.{Rose};
 ghost use Rattle.re_problem.specs.CanonicalTexts.{canonical};
 ghost use Rattle.re_problem.specs.NamedProblems.{unnamed};
 ghost use Rattle.re_problem.specs.Zero.{zero_place};
+ghost use Rattle.re_cli.specs.Command.{IsReading, judges};
 ghost use Rattle.re_cli.specs.Output.{outcome_of, within_limit};
 ghost use Rattle.re_cli.specs.Outcome.{status_of};
+ghost use Rattle.re_cli.specs.Run.{MaySay};
 ghost use Rattle.re_cli.specs.Reading.{fault_line, fault_outcome, fault_status, fit_outcome, problem_outcome, reading_outcome};
 
-use crate::command::Reading;
+use crate::command::{Command, Reading};
 use crate::counting::rounds_output;
 use crate::output::{Output, Stop, too_long};
+use crate::searching::search_output;
 use crate::status::Answer;
 use crate::working::{diagram_output, merge_output, steps_output, trim_output, universal_output};
 use re_io::{LineFault, MAX_BYTES, Source, read_all};
@@ -44,10 +47,10 @@ fn line_of(alloc: Global, fault: InputFault) -> Result<String, AllocError>
             format!(in alloc; "input: degree {degree} is not from 2 to 6\n")
         }
         InputFault::TooManyLabels(line) => {
-            format!(in alloc; "limit: line {line}: more than 64 labels\n")
+            format!(in alloc; "limit: line {line}: more than 128 labels\n")
         }
         InputFault::TooManyConfigurations(line) => {
-            format!(in alloc; "limit: line {line}: more than 65536 configurations\n")
+            format!(in alloc; "limit: line {line}: more than 1048576 configurations\n")
         }
         InputFault::BadSection(line) => {
             format!(in alloc; "input: line {line}: section not expected\n")
@@ -115,6 +118,7 @@ fn zero_output(alloc: Global, problem: &Problem) -> Result<Output, NoMemory>
 }
 
 fn problem_output(alloc: Global, reading: Reading, problem: &Problem) -> Result<Output, NoMemory>
+    requires { IsReading reading }
     ensures { IfOk result (λ output. outcome_of output ≡ problem_outcome reading problem.now) }
 {
     match reading {
@@ -129,12 +133,16 @@ fn problem_output(alloc: Global, reading: Reading, problem: &Problem) -> Result<
         Reading::Trim => trim_output(alloc, problem),
         Reading::Step(steps) => steps_output(alloc, problem, steps),
         Reading::Rounds(most) => rounds_output(alloc, problem, most),
+        Reading::Search(kind, steps, changes) => {
+            search_output(alloc, kind, steps, changes, problem)
+        }
     }
 }
 
 #[tactic(auto, unfolding(crate::specs::Reading::reading_outcome))]
 fn text_output(alloc: Global, reading: Reading, text: &[u8]) -> Result<Output, NoMemory>
-    requires { length text.now ≤ MAX_BYTES }
+    requires within { length text.now ≤ MAX_BYTES }
+    requires reading { IsReading reading }
     ensures { IfOk result (λ output. outcome_of output ≡ reading_outcome reading text.now) }
 {
     match read_problem(alloc, text) {
@@ -151,8 +159,10 @@ pub(crate) fn read<S: Source>(
     reading: Reading,
     source: &mut S,
 ) -> Result<Output, Stop>
+    requires { IsReading reading }
     ensures output { IfOk result (λ output. (bytes : List ℕ) → S.left source.old ≡ Some bytes →
         outcome_of output ≡ within_limit (reading_outcome reading) bytes) }
+    ensures says { IfOk result (λ output. MaySay (status_of output.answer) (judges (Command.Reads reading))) }
     ensures emptied { IfOk result (λ _. (bytes : List ℕ) → S.left source.old ≡ Some bytes →
         length bytes ≤ MAX_BYTES → S.left source.new ≡ Some []) }
     ensures fault { IsErrOf result Stop.ReadFault → Rose (S.faults source.old) (S.faults source.new) }

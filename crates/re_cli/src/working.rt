@@ -1,6 +1,6 @@
 // The commands that work on a problem.
 ghost use Rattle.re_cli.specs.Output.{outcome_of};
-ghost use Rattle.re_cli.specs.Working.{constraint_at, derived_text, diagram_outcome, done, limit as limit_with, limit_line, merge_outcome, or_limit, step_outcome, stepped, trim_outcome, universal_outcome};
+ghost use Rattle.re_cli.specs.Working.{constraint_at, derived_text, diagram_outcome, done, limit as limit_with, limit_line, merge_outcome, or_limit, refused as refused_with, step_outcome, stepped, trim_outcome, universal_outcome};
 ghost use Rattle.re_problem.specs.NamedProblems.{unnamed};
 ghost use Rattle.re_step.specs.Derivations.{IsStep, step_limit};
 ghost use Rattle.std.specs.Fmt.{decimal};
@@ -23,6 +23,16 @@ pub(crate) fn done(text: Vec<u8>) -> Output
 {
     Output {
         answer: Answer::Done,
+        text,
+    }
+}
+
+/// The refusal with this text.
+pub(crate) fn refused(text: Vec<u8>) -> Output
+    ensures { outcome_of result ≡ refused_with text.items }
+{
+    Output {
+        answer: Answer::No,
         text,
     }
 }
@@ -96,9 +106,9 @@ fn rows_line(alloc: Global, number: u8) -> Result<String, AllocError>
 }
 
 fn labels_begin(alloc: Global, number: u8) -> Result<String, AllocError>
-    ensures { IfOk result (λ text. string_bytes text ≡ codes "limit: step " ++ decimal number ++ codes ": more than 64 labels: ") }
+    ensures { IfOk result (λ text. string_bytes text ≡ codes "limit: step " ++ decimal number ++ codes ": more than 128 labels: ") }
 {
-    format!(in alloc; "limit: step {number}: more than 64 labels: ")
+    format!(in alloc; "limit: step {number}: more than 128 labels: ")
 }
 
 fn count_line(alloc: Global, count: u32) -> Result<String, AllocError>
@@ -119,7 +129,7 @@ fn labels_line(alloc: Global, number: u8, count: u32) -> Result<String, AllocErr
 fn configurations_line(alloc: Global, number: u8) -> Result<String, AllocError>
     ensures { IfOk result (λ text. string_bytes text ≡ limit_line number StepLimit.Configurations) }
 {
-    format!(in alloc; "limit: step {number}: more than 65536 configurations\n")
+    format!(in alloc; "limit: step {number}: more than 1048576 configurations\n")
 }
 
 fn limit_line(alloc: Global, number: u8, limit: StepLimit) -> Result<String, AllocError>

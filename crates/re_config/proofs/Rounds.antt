@@ -25,10 +25,6 @@ pub insert-first : (xs : List ℕ) (x : ℕ) → insert xs 0 x ≡ x ∷ xs
 insert-first [] x = refl
 insert-first (y ∷ xs) x = refl
 
-pub chosen-none : (sets : List (List ℕ)) (index : ℕ) → length sets < 1 → IsChosen sets index index []
-chosen-none [] index h = (0, omega arith, omega arith, refl)
-chosen-none (s ∷ sets) index h = absurd (omega arith)
-
 pub chosen-step : (first : List ℕ) (others : List (List ℕ)) (index rounds label : ℕ) (labels : List ℕ) → 0 < length first → IsChosen others index rounds labels → label ≡ get_or first (rounds % length first) 0
     → IsChosen (first ∷ others) index (rounds / length first) (label ∷ labels)
 chosen-step first others index rounds label labels some (place, below, is, at) e =
@@ -44,29 +40,29 @@ chosen-step first others index rounds label labels some (place, below, is, at) e
       (λ i. e i ∷ at i) ∙ sym (get_or-choices first others (rounds % c) place (mod-lt rounds some) below),
     )
 
-pub chosen-found : (sets others : List (List ℕ)) (first : List ℕ) (index rounds count label : ℕ) (labels items : List ℕ) → first ∷ others ≡ sets → AllByRecursion (λ s. IsLabelSet 64 s × (0 < length s)) sets
+pub chosen-found : (sets others : List (List ℕ)) (first : List ℕ) (index rounds count label : ℕ) (labels items : List ℕ) → first ∷ others ≡ sets → AllByRecursion (λ s. IsLabelSet 128 s × (0 < length s)) sets
     → IsChosen others index rounds labels → count ≡ length first → label ≡ get_or first (rounds % count) 0 → items ≡ insert labels 0 label → IsChosen sets index (rounds / count) items
 chosen-found sets others first index rounds count label labels items e filled c n l i =
-    let full = subst (AllByRecursion (λ s. IsLabelSet 64 s × (0 < length s))) (sym e) filled in
+    let full = subst (AllByRecursion (λ s. IsLabelSet 128 s × (0 < length s))) (sym e) filled in
     let step = chosen-step first others index rounds label labels full.0.1 c (l ∙ ap (λ k. get_or first (rounds % k) 0) n) in
     subst (λ s. IsChosen s index (rounds / count) items) e
     (subst (λ k. IsChosen (first ∷ others) index (rounds / k) items) (sym n)
     (subst (IsChosen (first ∷ others) index (rounds / length first)) (sym (i ∙ insert-first labels label)) step))
 
--- there are at most 64 ^ 6 choices
-pub few-choices : (fuel : ℕ) (row : List (List ℕ)) → AllByRecursion (λ s. IsLabelSet 64 s × (0 < length s)) row → length row ≤ fuel → length (choices row) ≤ 64 ^ fuel
+-- there are at most 128 ^ 6 choices
+pub few-choices : (fuel : ℕ) (row : List (List ℕ)) → AllByRecursion (λ s. IsLabelSet 128 s × (0 < length s)) row → length row ≤ fuel → length (choices row) ≤ 128 ^ fuel
 few-choices zero [] h l = omega arith
 few-choices zero (s ∷ row) h l = absurd (omega arith)
 few-choices (suc fuel) [] h l =
-    let more : 1 ≤ 64 ^ fuel = few-choices fuel [] tt (omega arith) in
-    let p = pow-suc 64 fuel in
+    let more : 1 ≤ 128 ^ fuel = few-choices fuel [] tt (omega arith) in
+    let p = pow-suc 128 fuel in
     omega (arith, p, more)
 few-choices (suc fuel) (s ∷ row) h l =
-    let more : length (choices row) ≤ 64 ^ fuel = few-choices fuel row h.1 (omega arith) in
-    let p : 64 ^ suc fuel ≡ 64 ^ fuel * 64 = pow-suc 64 fuel in
-    let one : length s ≤ 64 = length-set 64 s h.0.0 in
+    let more : length (choices row) ≤ 128 ^ fuel = few-choices fuel row h.1 (omega arith) in
+    let p : 128 ^ suc fuel ≡ 128 ^ fuel * 128 = pow-suc 128 fuel in
+    let one : length s ≤ 128 = length-set 128 s h.0.0 in
     let size = length-choices s row in
-    let both : length s * length (choices row) ≤ 64 ^ fuel * 64 = product (length s) (length (choices row)) 64 (64 ^ fuel) one more in
+    let both : length s * length (choices row) ≤ 128 ^ fuel * 128 = product (length s) (length (choices row)) 128 (128 ^ fuel) one more in
     omega (arith, size, p, both)
   where
     product : (a b c d : ℕ) → a ≤ c → b ≤ d → a * b ≤ d * c

@@ -12,10 +12,10 @@ use Rattle.re_config.specs.Configs.{IsConfig, inserted, sorted}
 use Rattle.re_config.specs.Rearranging.{Rearranged, chained, kept, swapped, unmoved}
 use Rattle.re_labels.specs.Lists.{IsRising}
 
-inserted_low : (x y : ℕ) (xs : List ℕ) → x ≤ y → inserted x (y ∷ xs) ≡ x ∷ y ∷ xs
+pub inserted_low : (x y : ℕ) (xs : List ℕ) → x ≤ y → inserted x (y ∷ xs) ≡ x ∷ y ∷ xs
 inserted_low x y xs h = elim (leb_tells x y) [ inl t ↦ rw t.0 | inr t ↦ absurd (omega (arith, t.1)) ]
 
-inserted_high : (x y : ℕ) (xs : List ℕ) → y < x → inserted x (y ∷ xs) ≡ y ∷ inserted x xs
+pub inserted_high : (x y : ℕ) (xs : List ℕ) → y < x → inserted x (y ∷ xs) ≡ y ∷ inserted x xs
 inserted_high x y xs h = elim (leb_tells x y) [ inl t ↦ absurd (omega (arith, t.1)) | inr t ↦ rw t.0 ]
 
 or_lower : (x y : ℕ) → (x ≤ y) ⊎ (y < x)
@@ -173,7 +173,7 @@ pub take_front : {X : Type 0} (ws zs : List X) → take (length ws) (ws ++ zs) �
 take_front [] zs = refl
 take_front (w ∷ ws) zs = ap (λ l. w ∷ l) (take_front ws zs)
 
-take_all : {X : Type 0} (xs : List X) (i : ℕ) → length xs ≤ i → take i xs ≡ xs
+pub take_all : {X : Type 0} (xs : List X) (i : ℕ) → length xs ≤ i → take i xs ≡ xs
 take_all [] zero h = refl
 take_all [] (suc i) h = refl
 take_all (x ∷ xs) zero h = absurd (omega arith)
@@ -200,11 +200,11 @@ IsConfig-sorted degree n labels e h = record {
   ascends = sorted_rises labels;
 }
 
-pub IsConfig-of_sorted : (labels : List ℕ) → 2 ≤ length labels → length labels ≤ 6 → AllByRecursion (λ x. x < 64) labels
-    → (2 ≤ length (sorted labels)) × (length (sorted labels) ≤ 6) × IsConfig (length (sorted labels)) 64 (sorted labels)
+pub IsConfig-of_sorted : (labels : List ℕ) → 2 ≤ length labels → length labels ≤ 6 → AllByRecursion (λ x. x < 128) labels
+    → (2 ≤ length (sorted labels)) × (length (sorted labels) ≤ 6) × IsConfig (length (sorted labels)) 128 (sorted labels)
 IsConfig-of_sorted labels two six h =
     let e : length (sorted labels) ≡ length labels = length-sorted labels in
-    (omega arith, omega arith, IsConfig-sorted (length (sorted labels)) 64 labels (sym e) h)
+    (omega arith, omega arith, IsConfig-sorted (length (sorted labels)) 128 labels (sym e) h)
 
 -- to number anew and sort, the labels needn't be sorted before
 pub sorted_map : (g : ℕ → ℕ) (c : List ℕ) → sorted (map g (sorted c)) ≡ sorted (map g c)

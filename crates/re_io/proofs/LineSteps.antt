@@ -18,13 +18,6 @@ pub record Gathered (old now : LinesHeld) (before after : Option (List ℕ)) (by
   pub input : old.pending ++ bytes ≡ text ++ now.pending
   pub whole : Contains text 10 → ⊥
 
-pub nothing_gathered : (old now : LinesHeld) (before : Option (List ℕ)) → Takes old now before before [] → now.pending ≡ old.pending → Gathered old now before before [] []
-nothing_gathered old now before none same = record {
-  taken = none;
-  input = append-nil old.pending ∙ sym same;
-  whole = λ (k, within, there). absurd (omega (arith, within));
-}
-
 module _ (old now : LinesHeld) (before after : Option (List ℕ)) (bytes text : List ℕ) (g : Gathered old now before after bytes text) where
   pub feed_met : (new : LinesHeld) (longer rest : List ℕ) → GivesPart now.pending text true longer rest → new.taken ≡ now.taken → new.pending ≡ rest
       → (all : List ℕ) × Takes old new before after all × IsFirstLine (old.pending ++ all) (record { text = longer; ended = true }) new.pending after

@@ -49,12 +49,14 @@ pub struct Lines {
 impl Model for Lines {
     ghost use Rattle.std.specs.Prelude.{◌≡◌, ◌-◌, ◌≤◌, false, take, drop};
     ghost use Rattle.re_io.specs.LineReading.{LinesHeld};
+    ghost use Rattle.re_io.specs.declared.lines.TheConstants.{PIECE};
+    ghost use Rattle.re_io.specs.declared.read.TheConstants.{MAX_BYTES};
 
     ghost Value = { LinesHeld };
 
     ghost view = { λ a. record { taken = a.taken; pending = drop a.at (take a.end a.buffer); stopped = a.stopped } };
 
-    ghost invariant = { λ a. (a.at ≤ a.end) × (a.end ≤ 4096) × (a.stopped ≡ false → a.taken ≤ 16777216) };
+    ghost invariant = { λ a. (a.at ≤ a.end) × (a.end ≤ PIECE) × (a.stopped ≡ false → a.taken ≤ MAX_BYTES) };
 }
 
 // The place of the first line feed.

@@ -1,5 +1,6 @@
 // The reading of a whole input.
-ghost use Rattle.std.specs.Prelude.{◌≡◌, ◌<◌, ◌≤◌, ℕ, List, [], length, IfOk, IsErrOf};
+ghost use Rattle.std.specs.Io.KnownBytes.{Consumes};
+ghost use Rattle.std.specs.Prelude.{◌≡◌, ◌<◌, ◌≤◌, ◌↔◌, ℕ, List, [], length, IfOk, IsErrOf};
 ghost use Rattle.re_io.specs.Faults.{Rose};
 ghost use Rattle.re_io.specs.declared.read.LineFault.TheVariants.{NoMemory};
 
@@ -29,9 +30,14 @@ impl From<AllocError> for LineFault {
 }
 
 /// All bytes that the source gives up to its end. After an `Err` the source has been read in part.
+///
+/// `InputTooLong` comes exactly where more than `MAX_BYTES` bytes were taken, so after each other `Err` no more were, and
+/// `ReadFault` only where the source failed in this call.
 pub fn read_all<S: Source>(alloc: Global, source: &mut S) -> Result<Vec<u8>, LineFault>
     ensures all { IfOk result (λ all. (bytes : List ℕ) → S.left source.old ≡ Some bytes →
         (all.items ≡ bytes) × (S.left source.new ≡ Some [])) }
+    ensures takes { (bytes : List ℕ) × Consumes (S.left source.old) (S.left source.new) bytes
+        × (IsErrOf result LineFault.InputTooLong ↔ (MAX_BYTES < length bytes)) }
     ensures limit { IfOk result (λ all. length all.items ≤ MAX_BYTES) }
     ensures too_long { IsErrOf result LineFault.InputTooLong → (bytes : List ℕ) → S.left source.old ≡ Some bytes →
         MAX_BYTES < length bytes }
@@ -40,7 +46,7 @@ pub fn read_all<S: Source>(alloc: Global, source: &mut S) -> Result<Vec<u8>, Lin
 {
     let mut all = Vec::new(alloc);
     let mut buffer = [0; PIECE];
-    'pieces: while all.len() <= MAX_BYTES {
+    'pieces: loop {
         let count = match source.read(&mut buffer) {
             Ok(count) => count,
             Err(Failed) => return Err(LineFault::ReadFault),
@@ -48,7 +54,9 @@ pub fn read_all<S: Source>(alloc: Global, source: &mut S) -> Result<Vec<u8>, Lin
         if count == 0 {
             return Ok(all);
         }
+        if all.len() + count > MAX_BYTES {
+            return Err(LineFault::InputTooLong);
+        }
         all.extend_from_slice(&buffer[..count])?;
     }
-    Err(LineFault::InputTooLong)
 }

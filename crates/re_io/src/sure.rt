@@ -1,5 +1,8 @@
 // A source and a sink in memory that never fail.
-ghost use Rattle.std.specs.Prelude.{◌≡◌, ◌≤◌, ◌<◌, ◌++◌, [], length, take, drop, min};
+ghost use Rattle.std.specs.Io.{ReadsAtMost};
+ghost use Rattle.std.specs.Io.KnownBytes.{ReadConsumes};
+ghost use Rattle.std.specs.Prelude.{◌≡◌, ◌≤◌, ◌<◌, ◌++◌, [], Some, IfOk, length, take, drop, min};
+ghost use Rattle.re_io.specs.Faults.{HasCause};
 
 use crate::{Failed, Sink, SinkFault, Source};
 use std::alloc::Global;
@@ -71,7 +74,13 @@ impl Source for SureSource {
 
     ghost faults = { λ _. 0 };
 
-    fn read(&mut self, buf: &mut [u8]) -> Result<usize, Failed> {
+    fn read(&mut self, buf: &mut [u8]) -> Result<usize, Failed>
+        ensures bound { ReadsAtMost result buf.new }
+        ensures bytes { ReadConsumes (Some self.old.left) (Some self.new.left) result buf.new }
+        ensures cause { HasCause 0 0 result }
+        ensures piece { IfOk result (λ count. count ≤ self.old.piece) }
+        ensures same { self.new.piece ≡ self.old.piece }
+    {
         Ok(give(&self.bytes, &mut self.at, self.piece, buf))
     }
 }

@@ -4,10 +4,10 @@ use Rattle.std.specs.Prelude.{Contains}
 use Rattle.std.specs.List.{list_all, list_any}
 use Rattle.std.specs.Option.{option_and_then}
 use Rattle.std.proofs.lemmas.Bool.{false≢true}
-use Rattle.std.proofs.lemmas.List.{map-append}
+use Rattle.std.proofs.lemmas.List.{map-append, append-nil}
 use Rattle.re_config.proofs.Replacing.{support_of-push}
 use Rattle.re_config.specs.Configs.{support_of}
-use Rattle.re_items.proofs.Scanning.{append_nil, in_front}
+use Rattle.re_items.proofs.Scanning.{in_front}
 use Rattle.re_items.specs.Items.{labels_of, with_name}
 use Rattle.re_items.specs.Labels.{are_held, labels_held, names_or_none}
 use Rattle.re_labels.proofs.Before.{same_list-refl, same_list-same}
@@ -73,7 +73,7 @@ module _ (names : List (List ℕ)) (text : List ℕ) (front : List (List ℕ)) (
 
   pub all_labels_read : (rest : Option (List (List ℕ))) → rest ≡ Some [] → ReadLabels names text front rest labels → Some labels ≡ option_and_then (labels_held names) (labels_of text)
   all_labels_read rest end read =
-      let whole : labels_of text ≡ Some front = read.whole ∙ ap (in_front front) end ∙ ap Some (append_nil front) in
+      let whole : labels_of text ≡ Some front = read.whole ∙ ap (in_front front) end ∙ ap Some (append-nil front) in
       ap Some read.set ∙ sym (ap (option_and_then (labels_held names)) whole ∙ ap (λ t. cond t (Some (support_of (map (place_of names) front))) None) read.held)
 
   pub bad_labels : (rest : Option (List (List ℕ))) → rest ≡ None → ReadLabels names text front rest labels → None ≡ option_and_then (labels_held names) (labels_of text)
@@ -91,7 +91,7 @@ module _ (names : List (List ℕ)) (text : List ℕ) (front : List (List ℕ)) (
 
 -- ---- the names of a text, added one after another
 pub names_alone : (names : List (List ℕ)) → IsRising IsBefore names → names ≡ list_set (names ++ [])
-names_alone names rises = sym (ap list_set (append_nil names) ∙ one_set (list_set names) names (rising-list_set names) rises (In-list_set names) (list_set-In names))
+names_alone names rises = sym (ap list_set (append-nil names) ∙ one_set (list_set names) names (rising-list_set names) rises (In-list_set names) (list_set-In names))
 
 pub record AddedNames (old : List (List ℕ)) (text : List ℕ) (front : List (List ℕ)) (rest : Option (List (List ℕ))) (names : List (List ℕ)) : Type 0 where
   pub whole : labels_of text ≡ in_front front rest
@@ -118,17 +118,17 @@ module _ (old : List (List ℕ)) (text : List ℕ) (front : List (List ℕ)) (na
 
   pub names_added : (rest : Option (List (List ℕ))) → rest ≡ Some [] → AddedNames old text front rest names → names ≡ list_set (old ++ names_or_none (labels_of text))
   names_added rest end read =
-      let whole : labels_of text ≡ Some front = read.whole ∙ ap (in_front front) end ∙ ap Some (append_nil front) in
+      let whole : labels_of text ≡ Some front = read.whole ∙ ap (in_front front) end ∙ ap Some (append-nil front) in
       read.added ∙ ap (λ all. list_set (old ++ names_or_none all)) (sym whole)
 
-  pub too_many : (name : List ℕ) (rest before : Option (List (List ℕ))) → before ≡ with_name name rest → length names ≡ 64 → (Contains names name → ⊥) → is_some (labels_of text) ≡ true
-      → AddedNames old text front before names → 64 < length (list_set (old ++ names_or_none (labels_of text)))
+  pub too_many : (name : List ℕ) (rest before : Option (List (List ℕ))) → before ≡ with_name name rest → length names ≡ 128 → (Contains names name → ⊥) → is_some (labels_of text) ≡ true
+      → AddedNames old text front before names → 128 < length (list_set (old ++ names_or_none (labels_of text)))
   too_many name rest before next full apart some read = go rest (read.whole ∙ ap (in_front front) next)
     where
-      go : (rest : Option (List (List ℕ))) → labels_of text ≡ in_front front (with_name name rest) → 64 < length (list_set (old ++ names_or_none (labels_of text)))
+      go : (rest : Option (List (List ℕ))) → labels_of text ≡ in_front front (with_name name rest) → 128 < length (list_set (old ++ names_or_none (labels_of text)))
       go None whole = absurd (false≢true (sym (ap is_some whole) ∙ some))
       go (Some behind) whole =
-          let one : length (list_set (old ++ (front ++ name ∷ []))) ≡ 65 = ap length (sym (with_one name read.added)) ∙ longer_new names name apart ∙ omega arith in
+          let one : length (list_set (old ++ (front ++ name ∷ []))) ≡ 129 = ap length (sym (with_one name read.added)) ∙ longer_new names name apart ∙ omega arith in
           let all : (old ++ (front ++ name ∷ [])) ++ behind ≡ old ++ (front ++ name ∷ behind) = append_assoc old (front ++ name ∷ []) behind ∙ ap (λ l. old ++ l) (append_assoc front (name ∷ []) behind) in
           let more = list_set-longer (old ++ (front ++ name ∷ [])) behind in
           let same : length (list_set ((old ++ (front ++ name ∷ [])) ++ behind)) ≡ length (list_set (old ++ names_or_none (labels_of text))) =

@@ -3,18 +3,19 @@ ghost use Rattle.re_io.specs.declared.read.TheConstants.{MAX_BYTES};
 ghost use Rattle.re_map_texts.specs.Entries.{source, target};
 ghost use Rattle.re_map_texts.specs.MapTexts.{State, ended, judged, judged_from, judged_map, judged_start, judged_to, takes_entry};
 ghost use Rattle.re_map_texts.specs.Reading.{EndGives, Holds, IsAt, Reads};
-ghost use Rattle.re_map_texts.specs.Readings.{ReadsItem};
+ghost use Rattle.re_sections.specs.Readings.{ReadsItem};
 ghost use Rattle.re_items.specs.Items.{ItemText};
 ghost use Rattle.re_items.specs.Steps.{StandsOn};
 ghost use Rattle.std.specs.Prelude.{◌≡◌, ◌≤◌, ◌<◌, ◌+◌, [], List, ℕ, Some, length};
 
-use crate::entries::{MapKind, has_group, is_next, read_image, read_pair};
-use crate::sections::{Section, begins_section, read_section};
+use crate::entries::{MapKind, has_group, is_next, read_image};
+use crate::sections::{Section, read_section};
 use arrayvec::ArrayVec;
 use re_io::MAX_BYTES;
 use re_items::{Item, first_bad_byte, is_empty_line};
 use re_labels::{LabelSet, MAX_LABELS, Names};
 use re_problem::{InputFault, Problem, TextFault, TextReader};
+use re_sections::{begins_section, read_pair};
 use std::alloc::Global;
 
 /// Two problems, and the images of the first labels of the one, each as a set of labels of the other.
@@ -22,7 +23,7 @@ use std::alloc::Global;
 pub(crate) struct MapRead {
     pub(crate) from: Problem,
     pub(crate) to: Problem,
-    pub(crate) images: ArrayVec<LabelSet, 64>,
+    pub(crate) images: ArrayVec<LabelSet, 128>,
 }
 
 /// What was read behind some lines: nothing, lines of the first problem's text, the first problem and lines of the second one's text,

@@ -1,25 +1,15 @@
 -- Labels of a set, one after another; runs of equal sets; labels by their places.
+use Rattle.re_config.proofs.Sorting.{take_all}
 use Rattle.std.proofs.Common.{◌≡◌, ℕ, zero, suc, ◌<◌, ◌≤◌, ◌+◌, List, [], ◌∷◌, ◌++◌, length, flat_map, map, take, get_or, None, Some, refl, sym, ap, ◌∙◌, subst, arith, append_assoc}
 use Rattle.std.specs.List.{AllByRecursion}
 use Rattle.std.proofs.lemmas.List.{take_more}
 use Rattle.re_config.proofs.LeastLabels.{first-is}
 use Rattle.re_labels.proofs.Membership.{get_or-count_from, length-count_from, length-map'}
-use Rattle.re_labels.proofs.Numbers.{set_of-number}
+use Rattle.re_labels.proofs.Numbers.{set_of-number, rising_tail}
 use Rattle.re_labels.specs.Lists.{IsRising, count_from}
 use Rattle.re_labels.specs.Sets.{IsLabelSet, first_of, number, set_of, without_label}
 
 -- ---- the labels of a set
-pub none_left : (f : ℕ → List ℕ) (set : List ℕ) (old new : List ℕ) → first_of set ≡ None → new ≡ old → new ≡ old ++ flat_map f set
-none_left f [] old new e n = n ∙ sym (append-nil old)
-  where
-    append-nil : (xs : List ℕ) → xs ++ [] ≡ xs
-    append-nil [] = refl
-    append-nil (x ∷ xs) = ap (λ w. x ∷ w) (append-nil xs)
-none_left f (x ∷ set) old new e n = absurd (some_apart (sym e))
-  where
-    some_apart : None ≡ Some x → ⊥
-    some_apart e = cc
-
 pub label_then_rest : (f : ℕ → List ℕ) (set rest : List ℕ) (label : ℕ) (old middle new : List ℕ) → IsRising (λ x y. x < y) set → first_of set ≡ Some label → rest ≡ without_label set label
     → middle ≡ old ++ f label → new ≡ middle ++ flat_map f rest → new ≡ old ++ flat_map f set
 label_then_rest f set rest label old middle new r e w m n =
@@ -32,17 +22,13 @@ first_holds P set label r e h = (subst (AllByRecursion P) (first-is set label r 
 pub rest_holds : (P : ℕ → Type 0) (set rest : List ℕ) (label : ℕ) → IsRising (λ x y. x < y) set → first_of set ≡ Some label → rest ≡ without_label set label → AllByRecursion P set → AllByRecursion P rest
 rest_holds P set rest label r e w h = subst (AllByRecursion P) (sym w) (subst (AllByRecursion P) (first-is set label r e) h).1
 
-rising_rest : (x : ℕ) (xs : List ℕ) → IsRising (λ x y. x < y) (x ∷ xs) → IsRising (λ x y. x < y) xs
-rising_rest x [] r = tt
-rising_rest x (y ∷ xs) r = r.1
-
-pub rest_is : (set rest : List ℕ) (label : ℕ) → IsLabelSet 64 set → first_of set ≡ Some label → rest ≡ without_label set label → IsLabelSet 64 rest
+pub rest_is : (set rest : List ℕ) (label : ℕ) → IsLabelSet 128 set → first_of set ≡ Some label → rest ≡ without_label set label → IsLabelSet 128 rest
 rest_is set rest label is e w =
-    (subst (IsRising (λ x y. x < y)) (sym w) (rising_rest label (without_label set label) (subst (IsRising (λ x y. x < y)) (first-is set label is.0 e) is.0)), rest_holds (λ x. x < 64) set rest label is.0 e w is.1)
+    (subst (IsRising (λ x y. x < y)) (sym w) (rising_tail label (without_label set label) (subst (IsRising (λ x y. x < y)) (first-is set label is.0 e) is.0)), rest_holds (λ x. x < 128) set rest label is.0 e w is.1)
 
 -- ---- a run of equal sets
-pub set_there : (numbers : List ℕ) (sets : List (List ℕ)) (at : ℕ) (set : List ℕ) → numbers ≡ map number sets → at < length numbers → set ≡ get_or sets at set → IsLabelSet 64 set → set_of 64 (get_or numbers at 0) ≡ set
-set_there numbers sets at set e l s is = ap (λ n. set_of 64 (get_or n at 0)) e ∙ ap (set_of 64) (go sets at (let n = length-map' number sets in let m = ap length e in omega (arith, l, n, m)) ∙ ap number (sym s)) ∙ (set_of-number 64 set is).1
+pub set_there : (numbers : List ℕ) (sets : List (List ℕ)) (at : ℕ) (set : List ℕ) → numbers ≡ map number sets → at < length numbers → set ≡ get_or sets at set → IsLabelSet 128 set → set_of 128 (get_or numbers at 0) ≡ set
+set_there numbers sets at set e l s is = ap (λ n. set_of 128 (get_or n at 0)) e ∙ ap (set_of 128) (go sets at (let n = length-map' number sets in let m = ap length e in omega (arith, l, n, m)) ∙ ap number (sym s)) ∙ (set_of-number 128 set is).1
   where
     go : (sets : List (List ℕ)) (at : ℕ) → at < length sets → get_or (map number sets) at 0 ≡ number (get_or sets at set)
     go [] at l = absurd (omega arith)
@@ -64,12 +50,6 @@ meanings_step f n i old new l e a =
         append-nil [] = refl
         append-nil (x ∷ xs) = ap (λ w. x ∷ w) (append-nil xs)
     flat_map_push (x ∷ xs) = ap (λ w. f x ++ w) (flat_map_push xs) ∙ sym (append_assoc (f x) (flat_map f xs) (f i))
-
-take_all : {X : Type 0} (xs : List X) (i : ℕ) → length xs ≤ i → take i xs ≡ xs
-take_all [] zero l = refl
-take_all [] (suc i) l = refl
-take_all (x ∷ xs) zero l = absurd (omega arith)
-take_all (x ∷ xs) (suc i) l = ap (λ w. x ∷ w) (take_all xs i (omega arith))
 
 pub meanings_done : (f : ℕ → List ℕ) (n i : ℕ) (text : List ℕ) → n ≤ i → text ≡ flat_map f (take i (count_from 0 n)) → text ≡ flat_map f (count_from 0 n)
 meanings_done f n i text l e = e ∙ ap (flat_map f) (take_all (count_from 0 n) i (let m = length-count_from 0 n in omega (arith, m, l)))

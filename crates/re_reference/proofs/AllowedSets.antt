@@ -1,4 +1,5 @@
 -- Allowed multisets of sets, by rows.
+use Rattle.re_labels.proofs.Tests.{same_tests}
 use Rattle.std.proofs.Common.{◌≡◌, ℕ, zero, suc, ◌<◌, ◌≤◌, Bool, true, false, List, [], ◌∷◌, length, map, refl, sym, ap, ◌∙◌, subst, arith, Some}
 use Rattle.std.specs.List.{AllByRecursion}
 use Rattle.re_config.proofs.LawsOfRows.{multisets_law}
@@ -17,28 +18,23 @@ use Rattle.re_table.specs.Constraints.{Constraint}
 use Rattle.re_table.specs.GoodRows.{is_allowed}
 use Rattle.re_reference.specs.Reading.{AreSets}
 
-both_ways : (a b : Bool) → (a ≡ true → b ≡ true) → (b ≡ true → a ≡ true) → a ≡ b
-both_ways true b f g = sym (f refl)
-both_ways false true f g = g refl
-both_ways false false f g = refl
-
 -- the row of some sets
-pub row_is : (sets : List (List ℕ)) → 2 ≤ length sets → length sets ≤ 6 → AreSets sets → row_of 64 sets ≡ Some (in_order 64 sets)
+pub row_is : (sets : List (List ℕ)) → 2 ≤ length sets → length sets ≤ 6 → AreSets sets → row_of 128 sets ≡ Some (in_order 128 sets)
 row_is sets two six are =
     sym (row_found sets (sorted (map number sets)) two six (filled-is_full sets (AllByRecursion-weaker _ _ (λ s h. h.1) sets are)) refl)
 
-in_order_moved : (sets : List (List ℕ)) → AreSets sets → Rearranged sets (in_order 64 sets)
-in_order_moved sets are = subst (λ t. Rearranged t (in_order 64 sets)) (row_numbers 64 sets are) (Rearranged-map (set_of 64) (Rearranged-sorted (map number sets)))
+in_order_moved : (sets : List (List ℕ)) → AreSets sets → Rearranged sets (in_order 128 sets)
+in_order_moved sets are = subst (λ t. Rearranged t (in_order 128 sets)) (row_numbers 128 sets are) (Rearranged-map (set_of 128) (Rearranged-sorted (map number sets)))
 
-pub in_order_length : (sets row : List (List ℕ)) → AreSets sets → row ≡ in_order 64 sets → length row ≡ length sets
+pub in_order_length : (sets row : List (List ℕ)) → AreSets sets → row ≡ in_order 128 sets → length row ≡ length sets
 in_order_length sets row are e = ap length e ∙ sym (length-Rearranged (in_order_moved sets are))
 
-pub in_order_allowed : (K : Constraint) (sets row : List (List ℕ)) → AreSets sets → row ≡ in_order 64 sets → is_allowed K row ≡ is_allowed K sets
+pub in_order_allowed : (K : Constraint) (sets row : List (List ℕ)) → AreSets sets → row ≡ in_order 128 sets → is_allowed K row ≡ is_allowed K sets
 in_order_allowed K sets row are e =
     let moved = in_order_moved sets are in
-    ap (is_allowed K) e ∙ both_ways (is_allowed K (in_order 64 sets)) (is_allowed K sets)
-    (λ h. IsAllowed-is_allowed K sets (IsAllowed-Rearranged K (Rearranged-sym moved) (is_allowed-IsAllowed K (in_order 64 sets) h)))
-    (λ h. IsAllowed-is_allowed K (in_order 64 sets) (IsAllowed-Rearranged K moved (is_allowed-IsAllowed K sets h)))
+    ap (is_allowed K) e ∙ same_tests (is_allowed K (in_order 128 sets)) (is_allowed K sets)
+    (λ h. IsAllowed-is_allowed K sets (IsAllowed-Rearranged K (Rearranged-sym moved) (is_allowed-IsAllowed K (in_order 128 sets) h)))
+    (λ h. IsAllowed-is_allowed K (in_order 128 sets) (IsAllowed-Rearranged K moved (is_allowed-IsAllowed K sets h)))
 
 set_there : (P : List ℕ → Type 0) (sets : List (List ℕ)) (i : ℕ) → AllByRecursion P sets → i < length sets → P (set_at sets i)
 set_there P [] i h l = absurd (omega arith)
@@ -52,6 +48,3 @@ placed_are sets (i ∷ places) are h = (set_there _ sets i are h.0, placed_are s
 
 pub all_configs : (d k : ℕ) (all : List (List ℕ)) → all ≡ multisets d 0 k → AllByRecursion (IsConfig d k) all
 all_configs d k all e = subst (AllByRecursion (IsConfig d k)) (sym e) (AllByRecursion-from_contains (IsConfig d k) (multisets d 0 k) (λ v held. ((multisets_law d k).1 v).0 held))
-
-pub few_configs : (d n : ℕ) (v : List ℕ) → IsConfig d n v → n < 64 → IsConfig (length v) 64 v
-few_configs d n v is low = record { count = refl; below = AllByRecursion-weaker (λ x. x < n) (λ x. x < 64) (λ x l. omega (arith, l)) v is.below; ascends = is.ascends }

@@ -6,7 +6,7 @@ use Rattle.std.proofs.Math.Pow.{pow_mono}
 use Rattle.re_config.proofs.Sorting.{sorted_again}
 use Rattle.re_config.specs.Configs.{sorted}
 use Rattle.re_config.specs.Rows.{all_sets}
-use Rattle.re_labels.proofs.Membership.{AllByRecursion-contains, AllByRecursion-from_contains, AllByRecursion-weaker, Contains-here, Contains-later, length-count_from, length-map'}
+use Rattle.re_labels.proofs.Membership.{AllByRecursion-contains, AllByRecursion-from_contains, AllByRecursion-weaker, Contains-here, Contains-later, length-count_from, length-map', map-alike}
 use Rattle.re_labels.specs.Lists.{count_from, place_of, same_list}
 use Rattle.re_labels.specs.Sets.{IsLabelSet, set_of}
 use Rattle.re_problem.proofs.DerivedProblem.{max_row_ascends}
@@ -20,41 +20,37 @@ filter_shorter : {X : Type 0} (p : X → Bool) (xs : List X) → length (filter 
 filter_shorter p [] = omega arith
 filter_shorter p (x ∷ xs) = let more = filter_shorter p xs in elim (p x) as (λ b. length (cond b (x ∷ filter p xs) (filter p xs)) ≤ suc (length xs)) [ true ↦ omega (arith, more) | false ↦ omega (arith, more) ]
 
-few_powers : (n : ℕ) → n ≤ 6 → 2 ^ n - 1 < 64
+few_powers : (n : ℕ) → n ≤ 6 → 2 ^ n - 1 < 128
 few_powers n h = let p : 2 ^ n ≤ 2 ^ 6 = pow_mono h in omega (arith, p)
 
-pub sets_few : (K : Constraint) (n : ℕ) (sets : List (List ℕ)) → n ≤ 6 → sets ≡ max_sets K n → length sets < 64
+pub sets_few : (K : Constraint) (n : ℕ) (sets : List (List ℕ)) → n ≤ 6 → sets ≡ max_sets K n → length sets < 128
 sets_few K n sets h e =
     let shorter : length (max_sets K n) ≤ length (all_sets n) = filter_shorter (λ set. list_any (list_any (same_list set)) (max_rows K n)) (all_sets n) in
     let all : length (all_sets n) ≡ 2 ^ n - 1 = length-map' (set_of n) (count_from 1 (2 ^ n - 1)) ∙ length-count_from 1 (2 ^ n - 1) in
     let few = few_powers n h in
-    subst (λ sets. length sets < 64) (sym e) (omega (arith, shorter, all, few))
+    subst (λ sets. length sets < 128) (sym e) (omega (arith, shorter, all, few))
 
 pub sets_are : (K : Constraint) (n : ℕ) (sets : List (List ℕ)) → n ≤ 6 → sets ≡ max_sets K n → AreSets sets
-sets_are K n sets h e = subst AreSets (sym e) (AllByRecursion-from_contains (λ s. IsLabelSet 64 s × (0 < length s)) (max_sets K n) (λ set held.
+sets_are K n sets h e = subst AreSets (sym e) (AllByRecursion-from_contains (λ s. IsLabelSet 128 s × (0 < length s)) (max_sets K n) (λ set held.
     let (row, at, there) = max_sets-from K n set held in
     let is = AllByRecursion-contains (λ s. IsLabelSet n s × (0 < length s)) row set (maximal K n row at).is_row.sets there in
-    ((is.0.0, AllByRecursion-weaker (λ x. x < n) (λ x. x < 64) (λ x l. omega (arith, l)) set is.0.1), is.1)))
-
-map_alike : {X Y : Type 0} (f g : X → Y) (xs : List X) → ((x : X) → Contains xs x → f x ≡ g x) → map f xs ≡ map g xs
-map_alike f g [] h = refl
-map_alike f g (x ∷ xs) h = λ i. h x (Contains-here x xs) i ∷ map_alike f g xs (λ y held. h y (Contains-later y x xs held)) i
+    ((is.0.0, AllByRecursion-weaker (λ x. x < n) (λ x. x < 128) (λ x l. omega (arith, l)) set is.0.1), is.1)))
 
 -- the configurations of the maximal rows ascend as they stand
 pub configs_are : (K : Constraint) (n : ℕ) (sets configs : List (List ℕ)) (rows : List (List (List ℕ))) → sets ≡ max_sets K n → rows ≡ max_rows K n
     → configs ≡ map (λ row. sorted (map (place_of sets) row)) rows → configs ≡ map (map (place_of (max_sets K n))) (max_rows K n)
 configs_are K n sets configs rows e f c =
     c ∙ ap (map (λ row. sorted (map (place_of sets) row))) f ∙ ap (λ sets. map (λ row. sorted (map (place_of sets) row)) (max_rows K n)) e
-    ∙ map_alike (λ row. sorted (map (place_of (max_sets K n)) row)) (map (place_of (max_sets K n))) (max_rows K n) (λ row held. sorted_again (map (place_of (max_sets K n)) row) (max_row_ascends K n row held))
+    ∙ map-alike (λ row. sorted (map (place_of (max_sets K n)) row)) (map (place_of (max_sets K n))) (max_rows K n) (λ row held. sorted_again (map (place_of (max_sets K n)) row) (max_row_ascends K n row held))
 
 place_of-most : (sets : List (List ℕ)) (set : List ℕ) → place_of sets set ≤ length sets
 place_of-most [] set = omega arith
 place_of-most (t ∷ sets) set = let more = place_of-most sets set in elim (same_list t set) as (λ b. cond b 0 (suc (place_of sets set)) ≤ suc (length sets)) [ true ↦ omega arith | false ↦ omega (arith, more) ]
 
-pub places_low : (sets row : List (List ℕ)) (labels : List ℕ) → length sets < 64 → labels ≡ map (place_of sets) row → AllByRecursion (λ x. x < 64) labels
-places_low sets row labels h e = subst (AllByRecursion (λ x. x < 64)) (sym e) (go row)
+pub places_low : (sets row : List (List ℕ)) (labels : List ℕ) → length sets < 128 → labels ≡ map (place_of sets) row → AllByRecursion (λ x. x < 128) labels
+places_low sets row labels h e = subst (AllByRecursion (λ x. x < 128)) (sym e) (go row)
   where
-    go : (row : List (List ℕ)) → AllByRecursion (λ x. x < 64) (map (place_of sets) row)
+    go : (row : List (List ℕ)) → AllByRecursion (λ x. x < 128) (map (place_of sets) row)
     go [] = tt
     go (s ∷ row) = let most = place_of-most sets s in (omega (arith, most), go row)
 

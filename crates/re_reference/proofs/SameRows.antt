@@ -11,15 +11,8 @@ use Rattle.re_labels.proofs.Rising.{rising-map}
 use Rattle.re_labels.specs.Sets.{number}
 use Rattle.re_table.proofs.Goodness.{filled-is_full}
 
-pub row_again : (row sets : List (List ℕ)) → 2 ≤ length row → length row ≤ 6 → IsRow (length row) 64 row → sets ≡ row → row_of 64 sets ≡ Some row
+pub row_again : (row sets : List (List ℕ)) → 2 ≤ length row → length row ≤ 6 → IsRow (length row) 128 row → sets ≡ row → row_of 128 sets ≡ Some row
 row_again row sets two six is e =
     let rises = rising-map (λ s t. number s ≤ number t) (λ x y. x ≤ y) number row (λ s t i j le. le) is.ascends in
     let full = filled-is_full row (AllByRecursion-weaker _ _ (λ s h. h.1) row is.sets) in
-    ap (row_of 64) e ∙ sym (row_found row (map number row) two six full (sym (sorted_again (map number row) rises))) ∙ ap Some (row_numbers 64 row is.sets)
-
--- rows are compared by the numbers of their sets
-pub numbers_cmp : (row other : List (List ℕ)) → slice_cmp (λ s t. nat_cmp (number s) (number t)) row other ≡ row_cmp row other
-numbers_cmp [] [] = refl
-numbers_cmp [] (t ∷ other) = refl
-numbers_cmp (s ∷ row) [] = refl
-numbers_cmp (s ∷ row) (t ∷ other) = ap (ordering_then (nat_cmp (number s) (number t))) (numbers_cmp row other)
+    ap (row_of 128) e ∙ sym (row_found row (map number row) two six full (sym (sorted_again (map number row) rises))) ∙ ap Some (row_numbers 128 row is.sets)

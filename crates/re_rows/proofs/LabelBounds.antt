@@ -9,7 +9,7 @@ use Rattle.re_labels.proofs.Tests.{eqb-true}
 use Rattle.re_labels.specs.Sets.{IsIn, IsLabelSet, after_of}
 use Rattle.re_strength.proofs.LabelsAbove.{next_above, nothing_above}
 use Rattle.re_strength.proofs.Parting.{empty_set}
-use Rattle.re_rows.proofs.Walks.{always, never}
+use Rattle.re_strength.proofs.Walks.{always, never}
 
 pub none_below : (s : List ℕ) (n : ℕ) (r : Bool) → r ≡ eqb (length s) 0 → n ≡ 0 → IsTrue r ↔ IsLabelSet n s
 none_below s n r e z = (
@@ -25,7 +25,7 @@ turned : (r b : Bool) → b ≡ not r → not b ≡ r
 turned true b e = ap not e
 turned false b e = ap not e
 
-pub below_last : (s : List ℕ) (n : ℕ) (o : Option ℕ) (r : Bool) → IsLabelSet 64 s → (n ≡ 0 → ⊥) → o ≡ after_of s (n - 1) → is_some o ≡ not r → IsTrue r ↔ IsLabelSet n s
+pub below_last : (s : List ℕ) (n : ℕ) (o : Option ℕ) (r : Bool) → IsLabelSet 128 s → (n ≡ 0 → ⊥) → o ≡ after_of s (n - 1) → is_some o ≡ not r → IsTrue r ↔ IsLabelSet n s
 below_last s n None r set some e f = subst (λ b. IsTrue b ↔ IsLabelSet n s) (turned r false f) (always (set.0, AllByRecursion-from_contains (λ x. x < n) s (λ x i. low x i)))
   where
     low : (x : ℕ) → IsIn x s → x < n

@@ -8,17 +8,17 @@ use re_table::{Constraint, InsertFault};
 use std::alloc::{AllocError, Global};
 use std::test::Fail;
 
-// The constraint of the configurations of these two labels each, taken below 64.
+// The constraint of the configurations of these two labels each, taken below 128.
 fn filled(alloc: Global, pairs: &[[u8; 2]]) -> Result<Constraint, InsertFault> {
     let mut constraint = Constraint::new(alloc, 2);
     for pair in pairs {
-        constraint.insert(Config::from_labels(&[pair[0] % 64, pair[1] % 64]))?;
+        constraint.insert(Config::from_labels(&[pair[0] % 128, pair[1] % 128]))?;
     }
     Ok(constraint)
 }
 
 // The rows of the sets with these numbers, as far as they are rows.
-fn listed(alloc: Global, numbers: &[[u64; 2]]) -> Result<Vec<Row>, AllocError> {
+fn listed(alloc: Global, numbers: &[[u128; 2]]) -> Result<Vec<Row>, AllocError> {
     let mut rows = Vec::new(alloc);
     for pair in numbers {
         let sets = [LabelSet::of_number(pair[0]), LabelSet::of_number(pair[1])];
@@ -31,11 +31,11 @@ fn listed(alloc: Global, numbers: &[[u64; 2]]) -> Result<Vec<Row>, AllocError> {
 
 fn are_rows(constraint: &Constraint, rows: &[Row]) -> bool {
     let _degree = constraint.degree();
-    are_maximal_rows(constraint, 64, rows)
+    are_maximal_rows(constraint, 128, rows)
 }
 
 // Whether the rows of these numbers are the maximal rows of the constraint of these pairs.
-fn judged(alloc: Global, pairs: &[[u8; 2]], numbers: &[[u64; 2]]) -> Result<bool, Fail> {
+fn judged(alloc: Global, pairs: &[[u8; 2]], numbers: &[[u128; 2]]) -> Result<bool, Fail> {
     let constraint = filled(alloc, pairs)?;
     let rows = listed(alloc, numbers)?;
     Ok(are_rows(&constraint, rows.as_slice()))
@@ -77,7 +77,7 @@ fn different(alloc: Global, labels: u8) -> Result<Constraint, InsertFault> {
     let mut constraint = Constraint::new(alloc, 2);
     for label in 0..labels {
         for other in 0..label {
-            constraint.insert(Config::from_labels(&[label % 64, other % 64]))?;
+            constraint.insert(Config::from_labels(&[label % 128, other % 128]))?;
         }
     }
     Ok(constraint)
@@ -88,8 +88,8 @@ fn halves(alloc: Global) -> Result<Vec<Row>, AllocError> {
     let mut rows = Vec::new(alloc);
     for number in 1..1024u64 {
         let sets = [
-            LabelSet::of_number(number),
-            LabelSet::of_number(2047 - number),
+            LabelSet::of_number(u128::from(number)),
+            LabelSet::of_number(u128::from(2047 - number)),
         ];
         if let Some(row) = Row::from_sets(&sets) {
             rows.push(row)?;
@@ -104,10 +104,10 @@ fn adding_up(i: u8, j: u8, k: u8) -> Config
 {
     let rest = 64u8.wrapping_sub(i).wrapping_sub(j).wrapping_sub(k) % 16;
     Config::from_labels(&[
-        i % 64,
-        j.wrapping_add(8) % 64,
-        k.wrapping_add(16) % 64,
-        rest.wrapping_add(32) % 64,
+        i % 128,
+        j.wrapping_add(8) % 128,
+        k.wrapping_add(16) % 128,
+        rest.wrapping_add(32) % 128,
     ])
 }
 

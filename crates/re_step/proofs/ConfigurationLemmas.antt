@@ -2,7 +2,7 @@
 use Rattle.std.proofs.Common.{◌≡◌, ℕ, zero, suc, ◌<◌, ◌≤◌, ◌+◌, List, [], ◌∷◌, ◌++◌, length, map, take, get_or, Contains, refl, sym, ap, ◌∙◌, subst, arith}
 use Rattle.std.specs.List.{AllByRecursion}
 use Rattle.std.proofs.lemmas.List.{take_more}
-use Rattle.re_config.proofs.Sorting.{length-sorted}
+use Rattle.re_config.proofs.Sorting.{length-sorted, take_all}
 use Rattle.re_config.specs.Configs.{sorted}
 use Rattle.re_labels.proofs.ListSets.{list_set_push}
 use Rattle.re_labels.proofs.Membership.{AllByRecursion-contains, Contains-here, Contains-later, length-map'}
@@ -11,10 +11,10 @@ use Rattle.re_labels.specs.Lists.{place_of}
 use Rattle.re_labels.specs.ListSets.{list_set, with_list}
 use Rattle.re_table.proofs.Insertions.{length-with_list_most}
 
-pub places_below : (sets row : List (List ℕ)) (labels : List ℕ) → length sets ≤ 64 → ((set : List ℕ) → Contains row set → Contains sets set) → labels ≡ map (place_of sets) row → AllByRecursion (λ x. x < 64) labels
-places_below sets row labels few there e = subst (AllByRecursion (λ x. x < 64)) (sym e) (go row there)
+pub places_below : (sets row : List (List ℕ)) (labels : List ℕ) → length sets ≤ 128 → ((set : List ℕ) → Contains row set → Contains sets set) → labels ≡ map (place_of sets) row → AllByRecursion (λ x. x < 128) labels
+places_below sets row labels few there e = subst (AllByRecursion (λ x. x < 128)) (sym e) (go row there)
   where
-    go : (row : List (List ℕ)) → ((set : List ℕ) → Contains row set → Contains sets set) → AllByRecursion (λ x. x < 64) (map (place_of sets) row)
+    go : (row : List (List ℕ)) → ((set : List ℕ) → Contains row set → Contains sets set) → AllByRecursion (λ x. x < 128) (map (place_of sets) row)
     go [] h = tt
     go (s ∷ row) h = let l : place_of sets s < length sets = place_of-below sets s (h s (Contains-here s row)) in (omega (arith, l, few), go row (λ t i. h t (Contains-later t s row i)))
 
@@ -45,12 +45,3 @@ configs_step sets rows i row config configs after l at c e few a =
     = a ∙ ap (with_list configs) c ∙ ap (λ w. with_list w (config_of sets row)) e ∙ sym (list_set_push (take i (map (config_of sets) rows)) (config_of sets row)) ∙ ap list_set (sym longer) in
     let most = length-with_list_most configs config in
     (is, subst (λ w. length w ≤ i + 1) (sym a) (omega (arith, most, few)))
-
-take_all : {X : Type 0} (xs : List X) (i : ℕ) → length xs ≤ i → take i xs ≡ xs
-take_all [] zero l = refl
-take_all [] (suc i) l = refl
-take_all (x ∷ xs) zero l = absurd (omega arith)
-take_all (x ∷ xs) (suc i) l = ap (λ w. x ∷ w) (take_all xs i (omega arith))
-
-pub configs_done : (sets : List (List ℕ)) (rows : List (List (List ℕ))) (i : ℕ) (configs : List (List ℕ)) → length rows ≤ i → configs ≡ list_set (take i (map (config_of sets) rows)) → configs ≡ list_set (map (config_of sets) rows)
-configs_done sets rows i configs l e = e ∙ ap list_set (take_all (map (config_of sets) rows) i (let n = length-map' (config_of sets) rows in omega (arith, n, l)))

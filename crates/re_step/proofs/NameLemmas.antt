@@ -1,4 +1,5 @@
 -- The names of the labels of a derived problem.
+use Rattle.re_config.proofs.Sorting.{take_all}
 use Rattle.std.proofs.Common.{◌≡◌, ℕ, zero, suc, ◌<◌, ◌≤◌, ◌+◌, Bool, true, false, cond, leb, List, [], ◌∷◌, ◌++◌, ◌&&◌, length, map, take, get_or, ◌⊎◌, codes, inl, inr, refl, sym, ap, ◌∙◌, subst, arith}
 use Rattle.std.specs.List.{AllByRecursion, list_all}
 use Rattle.std.specs.Cmp.Lexicographic.{slice_cmp}
@@ -26,7 +27,7 @@ letters : List (List ℕ)
 letters = map (λ i. letter i ∷ []) (count_from 0 52)
 
 numbered : List (List ℕ)
-numbered = map (λ i. codes "L" ++ three_digits i) (count_from 0 64)
+numbered = map (λ i. codes "L" ++ three_digits i) (count_from 0 128)
 
 letters_rise : rising_test letters ≡ true
 unfolding rising_test letters
@@ -82,7 +83,7 @@ map_alike f g h [] = refl
 map_alike f g h (x ∷ xs) = λ i. h x i ∷ map_alike f g h xs i
 
 -- the names are the first of the letters, or of the numbered ones
-names_are : (count : ℕ) → count ≤ 64 → (label_names count ≡ take count letters) ⊎ (label_names count ≡ take count numbered)
+names_are : (count : ℕ) → count ≤ 128 → (label_names count ≡ take count letters) ⊎ (label_names count ≡ take count numbered)
 unfolding letters numbered
 names_are count most = go (leb count 52) refl
   where
@@ -90,9 +91,9 @@ names_are count most = go (leb count 52) refl
     go true e = inl (map_alike (label_name count) (λ i. letter i ∷ []) (λ i. ap (λ b. cond b (letter i ∷ []) (codes "L" ++ three_digits i)) e) (count_from 0 count)
         ∙ sym (take_counted (λ i. letter i ∷ []) 0 count 52 (leb-true count 52 e)))
     go false e = inr (map_alike (label_name count) (λ i. codes "L" ++ three_digits i) (λ i. ap (λ b. cond b (letter i ∷ []) (codes "L" ++ three_digits i)) e) (count_from 0 count)
-        ∙ sym (take_counted (λ i. codes "L" ++ three_digits i) 0 count 64 most))
+        ∙ sym (take_counted (λ i. codes "L" ++ three_digits i) 0 count 128 most))
 
-pub IsNames-label_names : (count : ℕ) → count ≤ 64 → IsNames (label_names count)
+pub IsNames-label_names : (count : ℕ) → count ≤ 128 → IsNames (label_names count)
 IsNames-label_names count most = record {
   ascends = elim (names_are count most) [
     | inl e ↦ subst (IsRising IsBefore) (sym e) (rising_take count letters (from_rising_test letters letters_rise))
@@ -129,13 +130,7 @@ names_step count i name l n names after e few a =
     let most = length-with_list_most names name in
     (is, subst (λ w. length w ≤ i + 1) (sym a) (omega (arith, most, few)))
 
-take_all : {X : Type 0} (xs : List X) (i : ℕ) → length xs ≤ i → take i xs ≡ xs
-take_all [] zero l = refl
-take_all [] (suc i) l = refl
-take_all (x ∷ xs) zero l = absurd (omega arith)
-take_all (x ∷ xs) (suc i) l = ap (λ w. x ∷ w) (take_all xs i (omega arith))
-
-pub names_done : (count i : ℕ) (names : List (List ℕ)) → count ≤ 64 → count ≤ i → names ≡ list_set (take i (label_names count)) → names ≡ label_names count
+pub names_done : (count i : ℕ) (names : List (List ℕ)) → count ≤ 128 → count ≤ i → names ≡ list_set (take i (label_names count)) → names ≡ label_names count
 names_done count i names most l e =
     e ∙ ap list_set (take_all (label_names count) i (let n = length-label_names count in omega (arith, n, l)))
     ∙ one_set (list_set (label_names count)) (label_names count) (rising-list_set (label_names count)) (IsNames-label_names count most).ascends (In-list_set (label_names count)) (list_set-In (label_names count))

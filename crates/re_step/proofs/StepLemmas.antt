@@ -1,4 +1,7 @@
 -- The derived problem, its sets and its limits.
+use Rattle.re_strength.proofs.LabelsAbove.{ltb_not}
+use Rattle.re_problem.proofs.ZeroPlaces.{get-Contains}
+use Rattle.re_config.proofs.Rows.{number_filled}
 use Rattle.std.proofs.Common.{◌≡◌, ℕ, zero, suc, ◌<◌, ◌≤◌, ◌^◌, Bool, true, false, cond, ltb, List, [], ◌∷◌, length, map, flat_map, get_or, Contains, Option, None, Some, is_some, inl, refl, sym, ap, ◌∙◌, subst, arith}
 use Rattle.std.specs.List.{AllByRecursion}
 use Rattle.std.specs.Prelude.{MatchOption}
@@ -7,7 +10,7 @@ use Rattle.std.proofs.lemmas.Nat.{pow_pos}
 use Rattle.re_config.proofs.Sorting.{sorted_again}
 use Rattle.re_config.specs.Configs.{IsConfig, sorted}
 use Rattle.re_labels.proofs.ListSets.{In-list_set, list_set-In, one_set, rising-list_set}
-use Rattle.re_labels.proofs.Membership.{AllByRecursion-contains, AllByRecursion-from_contains, AllByRecursion-weaker, Contains-flat_map, Contains-flat_map_cases, Contains-here, Contains-later, Contains-map}
+use Rattle.re_labels.proofs.Membership.{AllByRecursion-contains, AllByRecursion-from_contains, AllByRecursion-weaker, Contains-flat_map, Contains-flat_map_cases, Contains-here, Contains-later, Contains-map, map-alike}
 use Rattle.re_labels.proofs.Before.{same_list-refl}
 use Rattle.re_labels.specs.Lists.{IsRising, place_of, same_list}
 use Rattle.re_labels.specs.ListSets.{list_set}
@@ -31,18 +34,14 @@ use Rattle.re_step.specs.declared.derivation.StepLimit.TheVariants.{Configuratio
 set_is : (K : Constraint) (n : ℕ) (row : List (List ℕ)) → Contains (max_rows K n) row → (set : List ℕ) → Contains row set → IsLabelSet n set × (0 < length set)
 set_is K n row held set there = AllByRecursion-contains (λ s. IsLabelSet n s × (0 < length s)) row set (maximal K n row held).is_row.sets there
 
-above_zero : (set : List ℕ) → 0 < length set → 0 < number set
-above_zero [] h = absurd (omega arith)
-above_zero (x ∷ set) h = let p : 0 < 2 ^ x = pow_pos x in omega (arith, p)
-
 pub rows_filled : (K : Constraint) (n : ℕ) (rows : List (List (List ℕ))) → rows ≡ max_rows K n → AllByRecursion (AllByRecursion (λ set. 0 < number set)) rows
 rows_filled K n rows e = subst (AllByRecursion (AllByRecursion (λ set. 0 < number set))) (sym e)
-    (AllByRecursion-from_contains (AllByRecursion (λ set. 0 < number set)) (max_rows K n) (λ row held. AllByRecursion-from_contains (λ set. 0 < number set) row (λ set there. above_zero set (set_is K n row held set there).1)))
+    (AllByRecursion-from_contains (AllByRecursion (λ set. 0 < number set)) (max_rows K n) (λ row held. AllByRecursion-from_contains (λ set. 0 < number set) row (λ set there. number_filled set (set_is K n row held set there).1)))
 
-pub rows_sets : (K : Constraint) (n : ℕ) (rows : List (List (List ℕ))) → n ≤ 64 → rows ≡ max_rows K n → AllByRecursion (AllByRecursion (IsLabelSet 64)) rows
-rows_sets K n rows most e = subst (AllByRecursion (AllByRecursion (IsLabelSet 64))) (sym e)
-    (AllByRecursion-from_contains (AllByRecursion (IsLabelSet 64)) (max_rows K n) (λ row held. AllByRecursion-from_contains (IsLabelSet 64) row (λ set there.
-    let is = (set_is K n row held set there).0 in (is.0, AllByRecursion-weaker (λ x. x < n) (λ x. x < 64) (λ x l. omega (arith, l, most)) set is.1))))
+pub rows_sets : (K : Constraint) (n : ℕ) (rows : List (List (List ℕ))) → n ≤ 128 → rows ≡ max_rows K n → AllByRecursion (AllByRecursion (IsLabelSet 128)) rows
+rows_sets K n rows most e = subst (AllByRecursion (AllByRecursion (IsLabelSet 128))) (sym e)
+    (AllByRecursion-from_contains (AllByRecursion (IsLabelSet 128)) (max_rows K n) (λ row held. AllByRecursion-from_contains (IsLabelSet 128) row (λ set there.
+    let is = (set_is K n row held set there).0 in (is.0, AllByRecursion-weaker (λ x. x < n) (λ x. x < 128) (λ x l. omega (arith, l, most)) set is.1))))
 
 pub rows_alike : (K : Constraint) (n d : ℕ) (rows : List (List (List ℕ))) → d ≡ K.degree → rows ≡ max_rows K n → AllByRecursion (λ row. length row ≡ d) rows
 rows_alike K n d rows f e = subst (AllByRecursion (λ row. length row ≡ d)) (sym e) (AllByRecursion-from_contains (λ row. length row ≡ d) (max_rows K n) (λ row held. (maximal K n row held).is_row.count ∙ sym f))
@@ -65,26 +64,22 @@ rows_there K n rows sets e f = subst (AllByRecursion (λ row. (set : List ℕ) �
     (AllByRecursion-from_contains (λ row. (set : List ℕ) → Contains row set → Contains sets set) (max_rows K n) (λ row held set there. subst (λ l. Contains l set) (sym f) (max_sets-row K n row held set there)))
 
 -- ---- its active configurations
-map_alike : {X Y : Type 0} (f g : X → Y) (xs : List X) → ((x : X) → Contains xs x → f x ≡ g x) → map f xs ≡ map g xs
-map_alike f g [] h = refl
-map_alike f g (x ∷ xs) h = λ i. h x (Contains-here x xs) i ∷ map_alike f g xs (λ y held. h y (Contains-later y x xs held)) i
-
 pub active_is : (K : Constraint) (n : ℕ) (rows : List (List (List ℕ))) (sets configs : List (List ℕ)) → rows ≡ max_rows K n → sets ≡ max_sets K n
     → configs ≡ list_set (map (λ row. sorted (map (place_of sets) row)) rows) → configs ≡ map (map (place_of (max_sets K n))) (max_rows K n)
 active_is K n rows sets configs e f c =
     let there = map (map (place_of (max_sets K n))) (max_rows K n) in
     c ∙ ap (λ r. list_set (map (λ row. sorted (map (place_of sets) row)) r)) e ∙ ap (λ s. list_set (map (λ row. sorted (map (place_of s) row)) (max_rows K n))) f
-    ∙ ap list_set (map_alike (λ row. sorted (map (place_of (max_sets K n)) row)) (map (place_of (max_sets K n))) (max_rows K n) (λ row held. sorted_again (map (place_of (max_sets K n)) row) (max_row_ascends K n row held)))
+    ∙ ap list_set (map-alike (λ row. sorted (map (place_of (max_sets K n)) row)) (map (place_of (max_sets K n))) (max_rows K n) (λ row held. sorted_again (map (place_of (max_sets K n)) row) (max_row_ascends K n row held)))
     ∙ one_set (list_set there) there (rising-list_set there) (rising-max_configs K n) (In-list_set there) (list_set-In there)
 
 -- ---- it is a problem with names
-wider : (n : ℕ) (constraint : Constraint) → n ≤ 64 → IsConstraint n constraint → IsConstraint 64 constraint
+wider : (n : ℕ) (constraint : Constraint) → n ≤ 128 → IsConstraint n constraint → IsConstraint 128 constraint
 wider n constraint few is = record {
   least = is.least;
   most = is.most;
-  configs = AllByRecursion-weaker (IsConfig constraint.degree n) (IsConfig constraint.degree 64) (λ config c. record {
+  configs = AllByRecursion-weaker (IsConfig constraint.degree n) (IsConfig constraint.degree 128) (λ config c. record {
     count = c.count;
-    below = AllByRecursion-weaker (λ x. x < n) (λ x. x < 64) (λ x l. omega (arith, l, few)) config c.below;
+    below = AllByRecursion-weaker (λ x. x < n) (λ x. x < 128) (λ x l. omega (arith, l, few)) config c.below;
     ascends = c.ascends;
   }) constraint.configs is.configs;
   ascends = is.ascends;
@@ -105,24 +100,16 @@ place_again (s ∷ sets) r (suc i) l =
     there (s ∷ sets) zero l = refl
     there (s ∷ sets) (suc i) l = there sets i (omega arith)
 
-get_there : (sets : List (List ℕ)) (i : ℕ) → i < length sets → Contains sets (get_or sets i [])
-get_there sets i l = (i, l, go sets i l)
-  where
-    go : (sets : List (List ℕ)) (i : ℕ) → i < length sets → get_or sets i (get_or sets i []) ≡ get_or sets i []
-    go [] i l = absurd (omega arith)
-    go (s ∷ sets) zero l = refl
-    go (s ∷ sets) (suc i) l = go sets i (omega arith)
-
 -- each set is one of a row, and so its place is a label of an active configuration
 each_occurs : (P : Problem) (label : ℕ) → label < length (max_sets P.passive P.labels) → OccursIn (derived P).active label
 each_occurs P label l =
     let sets = max_sets P.passive P.labels in
     let set = get_or sets label [] in
-    let r = max_sets-from P.passive P.labels set (get_there sets label l) in
+    let r = max_sets-from P.passive P.labels set (get-Contains sets label l) in
     let at : place_of sets set ≡ label = place_again sets (rising-max_sets P.passive P.labels) label l in
     (map (place_of sets) r.0, Contains-map (map (place_of sets)) (max_rows P.passive P.labels) r.0 r.1, subst (Contains (map (place_of sets) r.0)) at (Contains-map (place_of sets) r.0 set r.2))
 
-pub IsNamedProblem-derived : (P : Problem) → IsProblem P → length (max_sets P.passive P.labels) ≤ 64 → IsNamedProblem (named_derived P)
+pub IsNamedProblem-derived : (P : Problem) → IsProblem P → length (max_sets P.passive P.labels) ≤ 128 → IsNamedProblem (named_derived P)
 IsNamedProblem-derived P is few =
     let n = length (max_sets P.passive P.labels) in
     record {
@@ -131,7 +118,7 @@ IsNamedProblem-derived P is few =
       occur = λ label l. inl (each_occurs P label (subst (λ m. label < m) (length-label_names n) l));
     }
 
-pub built_is : (P : Problem) (names : List (List ℕ)) (active passive : Constraint) (result : Option NamedProblem) → IsProblem P → length (max_sets P.passive P.labels) ≤ 64
+pub built_is : (P : Problem) (names : List (List ℕ)) (active passive : Constraint) (result : Option NamedProblem) → IsProblem P → length (max_sets P.passive P.labels) ≤ 128
     → names ≡ label_names (length (max_sets P.passive P.labels)) → active ≡ (derived P).active → passive ≡ (derived P).passive → result ≡ built names active passive → result ≡ Some (named_derived P)
 built_is P names active passive result is few n a p e =
     let whole : built names active passive ≡ built (label_names (length (max_sets P.passive P.labels))) (derived P).active (derived P).passive = (λ i. built (n i) (a i) (p i)) in
@@ -152,29 +139,10 @@ some_apart x e = false≢true (ap is_some e)
 abbrev limit_by : Bool → Bool → Bool → ℕ → Option StepLimit
 limit_by rows labels configs count = cond rows (Some Rows) (cond labels (Some (Labels count)) (cond configs (Some Configurations) None))
 
-tests : (P : Problem) (a b c : Bool) → ltb 1024 (length (max_rows P.passive P.labels)) ≡ a → ltb 64 (length (max_sets P.passive P.labels)) ≡ b → ltb 65536 (length (derived P).passive.configs) ≡ c
+tests : (P : Problem) (a b c : Bool) → ltb 1024 (length (max_rows P.passive P.labels)) ≡ a → ltb 128 (length (max_sets P.passive P.labels)) ≡ b → ltb 1048576 (length (derived P).passive.configs) ≡ c
     → step_limit P ≡ limit_by a b c (length (max_sets P.passive P.labels))
 tests P a b c e f g = λ i. limit_by (e i) (f i) (g i) (length (max_sets P.passive P.labels))
 
-not_over : (a b : ℕ) → b ≤ a → ltb a b ≡ false
-not_over a b l = go (ltb a b) refl
-  where
-    go : (c : Bool) → ltb a b ≡ c → ltb a b ≡ false
-    go false e = e
-    go true e = let low = ltb-true a b e in absurd (omega (arith, low, l))
-
-pub rows_limit : (P : Problem) → 1024 < length (max_rows P.passive P.labels) → step_limit P ≡ Some Rows
-rows_limit P over = tests P true (ltb 64 (length (max_sets P.passive P.labels))) (ltb 65536 (length (derived P).passive.configs)) (lt-ltb 1024 (length (max_rows P.passive P.labels)) over) refl refl
-
-pub labels_limit : (P : Problem) (count : ℕ) → length (max_rows P.passive P.labels) ≤ 1024 → count ≡ length (max_sets P.passive P.labels) → 64 < count → step_limit P ≡ Some (Labels count)
-labels_limit P count rows e over =
-    tests P false true (ltb 65536 (length (derived P).passive.configs)) (not_over 1024 (length (max_rows P.passive P.labels)) rows) (lt-ltb 64 (length (max_sets P.passive P.labels)) (subst (λ n. 64 < n) e over)) refl
-    ∙ ap (λ n. Some (Labels n)) (sym e)
-
-pub configurations_limit : (P : Problem) → length (max_rows P.passive P.labels) ≤ 1024 → length (max_sets P.passive P.labels) ≤ 64 → 65536 < length (derived P).passive.configs → step_limit P ≡ Some Configurations
-configurations_limit P rows labels over =
-    tests P false false true (not_over 1024 (length (max_rows P.passive P.labels)) rows) (not_over 64 (length (max_sets P.passive P.labels)) labels) (lt-ltb 65536 (length (derived P).passive.configs) over)
-
-pub no_limit : (P : Problem) → length (max_rows P.passive P.labels) ≤ 1024 → length (max_sets P.passive P.labels) ≤ 64 → length (derived P).passive.configs ≤ 65536 → step_limit P ≡ None
+pub no_limit : (P : Problem) → length (max_rows P.passive P.labels) ≤ 1024 → length (max_sets P.passive P.labels) ≤ 128 → length (derived P).passive.configs ≤ 1048576 → step_limit P ≡ None
 no_limit P rows labels configs =
-    tests P false false false (not_over 1024 (length (max_rows P.passive P.labels)) rows) (not_over 64 (length (max_sets P.passive P.labels)) labels) (not_over 65536 (length (derived P).passive.configs) configs)
+    tests P false false false (ltb_not 1024 (length (max_rows P.passive P.labels)) rows) (ltb_not 128 (length (max_sets P.passive P.labels)) labels) (ltb_not 1048576 (length (derived P).passive.configs) configs)

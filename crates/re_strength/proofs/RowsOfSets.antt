@@ -25,35 +25,35 @@ pub AreSets-more : (n m : ℕ) → n ≤ m → (sets : List (List ℕ)) → AreS
 AreSets-more n m h sets k = AllByRecursion-weaker (λ s. IsLabelSet n s × (0 < length s)) (λ s. IsLabelSet m s × (0 < length s))
     (λ s a. ((a.0.0, AllByRecursion-weaker (λ x. x < n) (λ x. x < m) (λ x l. omega (arith, l, h)) s a.0.1), a.1)) sets k
 
-pub in_order_moved : (sets : List (List ℕ)) → AreSets 64 sets → Rearranged sets (in_order 64 sets)
-in_order_moved sets h = subst (λ t. Rearranged t (in_order 64 sets)) (row_numbers 64 sets h) (Rearranged-map (set_of 64) (Rearranged-sorted (map number sets)))
+pub in_order_moved : (sets : List (List ℕ)) → AreSets 128 sets → Rearranged sets (in_order 128 sets)
+in_order_moved sets h = subst (λ t. Rearranged t (in_order 128 sets)) (row_numbers 128 sets h) (Rearranged-map (set_of 128) (Rearranged-sorted (map number sets)))
 
 from_numbers : (r : List (List ℕ)) → IsRising (λ x y. x ≤ y) (map number r) → IsRising (λ s t. number s ≤ number t) r
 from_numbers [] h = tt
 from_numbers (s ∷ []) h = tt
 from_numbers (s ∷ t ∷ r) h = (h.0, from_numbers (t ∷ r) h.1)
 
-numbers_below : (sets : List (List ℕ)) → AreSets 64 sets → AllByRecursion (λ x. x < 2 ^ 64) (map number sets)
+numbers_below : (sets : List (List ℕ)) → AreSets 128 sets → AllByRecursion (λ x. x < 2 ^ 128) (map number sets)
 numbers_below [] h = tt
-numbers_below (s ∷ sets) h = ((set_of-number 64 s h.0.0).0, numbers_below sets h.1)
+numbers_below (s ∷ sets) h = ((set_of-number 128 s h.0.0).0, numbers_below sets h.1)
 
-pub in_order_row : (n : ℕ) → n ≤ 64 → (d : ℕ) (sets : List (List ℕ)) → length sets ≡ d → AreSets n sets → IsRow d n (in_order 64 sets)
+pub in_order_row : (n : ℕ) → n ≤ 128 → (d : ℕ) (sets : List (List ℕ)) → length sets ≡ d → AreSets n sets → IsRow d n (in_order 128 sets)
 in_order_row n few d sets e h =
-    let whole = AreSets-more n 64 few sets h in
+    let whole = AreSets-more n 128 few sets h in
     let p = in_order_moved sets whole in
     let v = sorted (map number sets) in
-    let below = AllByRecursion-Rearranged (λ x. x < 2 ^ 64) (Rearranged-sorted (map number sets)) (numbers_below sets whole) in
+    let below = AllByRecursion-Rearranged (λ x. x < 2 ^ 128) (Rearranged-sorted (map number sets)) (numbers_below sets whole) in
     record {
       count = sym (length-Rearranged p) ∙ e;
       sets = AreSets-Rearranged n p h;
-      ascends = from_numbers (in_order 64 sets) (subst (IsRising (λ x y. x ≤ y)) (sym (numbers_back 64 v below)) (sorted_rises (map number sets)));
+      ascends = from_numbers (in_order 128 sets) (subst (IsRising (λ x y. x ≤ y)) (sym (numbers_back 128 v below)) (sorted_rises (map number sets)));
     }
 
-pub made : (sets : List (List ℕ)) (o : Option (List (List ℕ))) → 2 ≤ length sets → length sets ≤ 6 → AreSets 64 sets → o ≡ row_of 64 sets → o ≡ Some (in_order 64 sets)
+pub made : (sets : List (List ℕ)) (o : Option (List (List ℕ))) → 2 ≤ length sets → length sets ≤ 6 → AreSets 128 sets → o ≡ row_of 128 sets → o ≡ Some (in_order 128 sets)
 made sets o two six h e = e ∙ sym (row_found sets (sorted (map number sets)) two six (filled-is_full sets (AllByRecursion-weaker _ _ (λ s a. a.1) sets h)) refl)
 
 -- what dominates the row dominates the sets, and the other way round
-pub sets_dominated : (rows : List (List (List ℕ))) (sets row : List (List ℕ)) (r : Bool) → AreSets 64 sets → row ≡ in_order 64 sets → r ≡ is_dominated rows row
+pub sets_dominated : (rows : List (List (List ℕ))) (sets row : List (List ℕ)) (r : Bool) → AreSets 128 sets → row ≡ in_order 128 sets → r ≡ is_dominated rows row
     → IsTrue r ↔ IsDominated rows sets
 sets_dominated rows sets row r h e told =
     let p : Rearranged sets row = subst (Rearranged sets) (sym e) (in_order_moved sets h) in (
@@ -68,10 +68,3 @@ filled n (s ∷ r) h = (h.0.1, filled n r h.1)
 pub AreSets-filled : (n : ℕ) (r : List (List ℕ)) → AllByRecursion (IsLabelSet n) r → AreFilled r → AreSets n r
 AreSets-filled n [] h k = tt
 AreSets-filled n (s ∷ r) h k = ((h.0, k.0), AreSets-filled n r h.1 k.1)
-
--- rows are compared by the numbers of their sets
-pub numbers_cmp : (row other : List (List ℕ)) → slice_cmp (λ s t. nat_cmp (number s) (number t)) row other ≡ row_cmp row other
-numbers_cmp [] [] = refl
-numbers_cmp [] (t ∷ other) = refl
-numbers_cmp (s ∷ row) [] = refl
-numbers_cmp (s ∷ row) (t ∷ other) = ap (ordering_then (nat_cmp (number s) (number t))) (numbers_cmp row other)

@@ -18,12 +18,12 @@ pub struct Strength {
     /// The number.
     pub labels: u8,
     /// What the labels go up to, each set at its label's place.
-    pub ups: ArrayVec<LabelSet, 64>,
-    apart: ArrayVec<LabelSet, 64>,
-    past: ArrayVec<LabelSet, 64>,
-    strong_first: ArrayVec<LabelSet, 64>,
-    weak_first: ArrayVec<LabelSet, 64>,
-    ghost few: { labels ≤ 64 },
+    pub ups: ArrayVec<LabelSet, 128>,
+    apart: ArrayVec<LabelSet, 128>,
+    past: ArrayVec<LabelSet, 128>,
+    strong_first: ArrayVec<LabelSet, 128>,
+    weak_first: ArrayVec<LabelSet, 128>,
+    ghost few: { labels ≤ 128 },
     ghost count: { length ups.items ≡ labels },
     ghost alike: { length apart.items ≡ labels },
     ghost beside: { length past.items ≡ labels },
@@ -34,7 +34,7 @@ pub struct Strength {
 
 // The labels that do not go up to this one.
 fn apart_from(ups: &[LabelSet], label: u8) -> LabelSet
-    requires few { length ups.now ≤ 64 }
+    requires few { length ups.now ≤ 128 }
     requires label { label < length ups.now }
     ensures { (z : ℕ) → z < length ups.now → has result z ≡ not (has (ups_in ups.now z) label) }
 {
@@ -49,7 +49,7 @@ fn apart_from(ups: &[LabelSet], label: u8) -> LabelSet
 
 // The labels below the number that are not in the set.
 fn others(labels: u8, set: LabelSet) -> LabelSet
-    requires { labels ≤ 64 }
+    requires { labels ≤ 128 }
     ensures { (z : ℕ) → z < labels → has result z ≡ not (has set z) }
 {
     let mut other = LabelSet::empty();
@@ -63,7 +63,7 @@ fn others(labels: u8, set: LabelSet) -> LabelSet
 
 // The labels that go up to so many.
 fn with_count(ups: &[LabelSet], count: u8) -> LabelSet
-    requires { length ups.now ≤ 64 }
+    requires { length ups.now ≤ 128 }
 {
     let mut labels = LabelSet::empty();
     for label in 0..ups.len() {
@@ -75,11 +75,11 @@ fn with_count(ups: &[LabelSet], count: u8) -> LabelSet
 }
 
 // The labels by how many they go up to, those with few of them first.
-fn few_first(ups: &[LabelSet]) -> ArrayVec<LabelSet, 64>
-    requires { length ups.now ≤ 64 }
+fn few_first(ups: &[LabelSet]) -> ArrayVec<LabelSet, 128>
+    requires { length ups.now ≤ 128 }
 {
     let mut levels = ArrayVec::new();
-    for count in 1..65 {
+    for count in 1..129 {
         let level = with_count(ups, count);
         if !level.is_empty() {
             let _ = levels.try_push(level);
@@ -89,7 +89,7 @@ fn few_first(ups: &[LabelSet]) -> ArrayVec<LabelSet, 64>
 }
 
 // The sets from the last to the first.
-fn turned(sets: &[LabelSet]) -> ArrayVec<LabelSet, 64> {
+fn turned(sets: &[LabelSet]) -> ArrayVec<LabelSet, 128> {
     let mut turned = ArrayVec::new();
     for set in sets.iter().rev() {
         let _ = turned.try_push(*set);
@@ -98,8 +98,8 @@ fn turned(sets: &[LabelSet]) -> ArrayVec<LabelSet, 64> {
 }
 
 impl Strength {
-    /// Each label goes up to those at least as strong. With n labels it looks up at most n * n labels in place of each label of
-    /// each configuration.
+    /// Each label goes up to those at least as strong. They are found in one walk over the rests of the configurations, and what
+    /// follows costs about the square of the number of labels.
     pub fn of(constraint: &Constraint, labels: u8) -> Strength
         requires { labels ≤ MAX_LABELS }
         ensures labels { result.labels ≡ labels }
@@ -107,10 +107,7 @@ impl Strength {
         ensures strong { IsStrength constraint.now (ups_in result.ups.items) }
     {
         let _degree = constraint.degree();
-        let mut ups = ArrayVec::new();
-        for label in 0..labels {
-            ups.push(constraint.up_set(label, labels));
-        }
+        let ups = re_rests::up_sets(constraint, labels);
         let mut apart = ArrayVec::new();
         for label in 0..labels {
             apart.push(apart_from(ups.as_slice(), label));

@@ -1,19 +1,24 @@
-//! A constraint as the ascending list of its configurations.
+//! A constraint: its configurations as the leaves of a prefix tree.
 ghost use Rattle.re_labels.specs.Lists.{IsBefore, IsRising, place_of};
 ghost use Rattle.re_labels.specs.ListSets.{list_set, with_list};
 ghost use Rattle.re_config.specs.Configs.{image_of};
 ghost use Rattle.std.specs.List.Sorted.{IsPermutation};
 ghost use Rattle.re_table.specs.Constraints.{IsConstraint, images_of};
+ghost use Rattle.re_table.specs.GoodRows.{is_allowed};
+ghost use Rattle.re_table.specs.PrefixTrees.{IsPrefixTree, held_configs};
 ghost use Rattle.std.specs.List.{AllByRecursion};
 ghost use Rattle.std.specs.Prelude.{◌≡◌, ◌≤◌, ◌<◌, ◌↔◌, [], length, slice_index_or, OnErr, OnOk, MatchResult, IsSome, IsTrue, IfOk, IfSome, insert, map, Contains};
 
-use re_config::Config;
+use crate::prefix_tree::{
+    Node, copied, draws_from, images_in_order, is_held, leaf_at, leaf_count, make_root, put,
+};
+use re_config::{Config, Row};
 use re_labels::{MAX_LABELS, NoMemory};
 use std::alloc::Global;
 use std::marker::Model;
 
 /// The most configurations that a constraint holds.
-pub const MAX_CONFIGURATIONS: usize = 65_536;
+pub const MAX_CONFIGURATIONS: usize = 1_048_576;
 
 /// Why a configuration could not be added.
 #[derive(Clone, Copy, Debug, PartialEq, Eq)]
@@ -26,11 +31,11 @@ pub enum InsertFault {
 
 /// The configurations that may stand around the nodes of one side: a degree from 2 to 6, and at most
 /// `MAX_CONFIGURATIONS` configurations of that many labels in ascending order, each once. Contracts
-/// see it as the degree and that list.
+/// see it as the degree and that list. It holds them as the leaves of a tree by their labels.
 #[derive(Drop)]
 pub struct Constraint {
     degree: u8,
-    held: Vec<Config>,
+    nodes: Vec<Node>,
 }
 
 impl Model for Constraint {
@@ -41,48 +46,14 @@ impl Model for Constraint {
 
     ghost Value = { Configurations };
 
-    ghost view = { λ c. record { degree = c.degree; configs = c.held.items } };
+    ghost use Rattle.re_table.specs.PrefixTrees.{IsTable, held_configs};
 
-    ghost invariant = { λ c. (length c.held.items ≤ MAX_CONFIGURATIONS) × IsConstraint MAX_LABELS (record { degree = c.degree; configs = c.held.items }) };
+    ghost view = { λ c. record { degree = c.degree; configs = held_configs c.nodes.items } };
+
+    ghost invariant = { λ c. IsTable c.degree MAX_CONFIGURATIONS c.nodes.items × IsConstraint MAX_LABELS (record { degree = c.degree; configs = held_configs c.nodes.items }) };
 }
 
-// Where the configuration stands, or else where it goes.
-fn place_in(configs: &[Config], config: &Config) -> Result<usize, usize>
-    requires { IsRising IsBefore configs.now }
-    ensures { MatchResult result
-        (λ place. (place < length configs.now) × Contains configs.now config.now × (place_of configs.now config.now ≡ place) × (with_list configs.now config.now ≡ configs.now))
-        (λ place. (place ≤ length configs.now) × (Contains configs.now config.now → ⊥) × (with_list configs.now config.now ≡ insert configs.now place config.now)) }
-{
-    match configs.last() {
-        None => return Err(0),
-        Some(last) => {
-            if last < config {
-                return Err(configs.len());
-            }
-        }
-    }
-    configs.binary_search(config)
-}
-
-// The images of the configurations, in ascending order.
-fn images_in_order(
-    alloc: Global,
-    configs: &[Config],
-    images: &[u8],
-) -> Result<Vec<Config>, NoMemory>
-    requires known { AllByRecursion (AllByRecursion (λ label. label < length images.now)) configs.now }
-    requires below { AllByRecursion (λ image. image < MAX_LABELS) images.now }
-    ensures { IfOk result (λ all. IsPermutation (map (image_of images.now) configs.now) all.items) }
-{
-    let mut all = Vec::new(alloc);
-    for config in configs {
-        all.push(config.image(images))?;
-    }
-    all.sort()?;
-    Ok(all)
-}
-
-// The constraint of these configurations, which ascend or take an insertion each.
+// The constraint of these configurations.
 fn collected(alloc: Global, degree: u8, configs: &[Config]) -> Result<Constraint, NoMemory>
     requires least { 2 ≤ degree }
     requires most { degree ≤ 6 }
@@ -112,7 +83,7 @@ impl Constraint {
     {
         Constraint {
             degree,
-            held: Vec::new(alloc),
+            nodes: Vec::new(alloc),
         }
     }
 
@@ -130,29 +101,43 @@ impl Constraint {
         ensures most { result ≤ MAX_CONFIGURATIONS }
         ensures constraint { IsConstraint MAX_LABELS self.now }
     {
-        self.held.len()
+        leaf_count(self.nodes.as_slice())
+    }
+
+    /// The nodes of its prefix tree, which `Branches` walks down.
+    pub fn nodes(&self) -> &[Node]
+        ensures tree { IsPrefixTree self.now.degree result.now }
+        ensures configs { held_configs result.now ≡ self.now.configs }
+    {
+        self.nodes.as_slice()
     }
 
     /// The configuration at this place of the ascending list, where places count from 0. None exactly
-    /// at and past `len`.
+    /// at and past `len`. It goes down the tree by the numbers of leaves, past at most as many siblings
+    /// on each level as there are labels.
     pub fn get(&self, place: usize) -> Option<&Config>
         ensures within { IsSome result ↔ (place < length self.now.configs) }
         ensures config { IfSome result (λ config. config.now ≡ slice_index_or self.now.configs place []) }
     {
-        self.held.get(place)
+        if place >= self.len() {
+            return None;
+        }
+        Some(leaf_at(self.nodes.as_slice(), self.degree, place))
     }
 
-    /// Whether this is one of its configurations. With n configurations it compares about log n of them.
+    /// Whether this is one of its configurations. It goes down the tree by its labels and stops at the
+    /// first one that no configuration goes on with.
     pub fn contains(&self, config: &Config) -> bool
         ensures { IsTrue result ↔ Contains self.now.configs config.now }
     {
-        place_in(self.held.as_slice(), config).is_ok()
+        config.labels().len() == self.degree as usize && is_held(self.nodes.as_slice(), config)
     }
 
     /// One more configuration, which counts once; the answer says whether it is new. A configuration
     /// that is not held is refused with `TooManyConfigurations` exactly where `MAX_CONFIGURATIONS` are
-    /// held. After a refusal nothing has changed. With n configurations it compares about log n of
-    /// them, and one behind the last only one; it moves those that stand behind the new one.
+    /// held. After a refusal nothing has changed. It goes down the tree by the labels, past at most as
+    /// many siblings on each level as there are labels, adds a node for each label that is new on this
+    /// way, and moves nothing.
     pub fn insert(&mut self, config: Config) -> Result<bool, InsertFault>
         requires { length config ≡ self.old.degree }
         ensures degree { self.new.degree ≡ self.old.degree }
@@ -162,44 +147,47 @@ impl Constraint {
         ensures err { OnErr result (self.new ≡ self.old) }
     {
         let _labels = config.labels();
-        match place_in(self.held.as_slice(), &config) {
-            Ok(_) => Ok(false),
-            Err(place) => {
-                if self.held.len() == MAX_CONFIGURATIONS {
-                    return Err(InsertFault::TooManyConfigurations);
-                }
-                if let Err(_) = self.held.insert(place, config) {
-                    return Err(InsertFault::NoMemory);
-                }
-                Ok(true)
-            }
+        if let Err(_) = make_root(&mut self.nodes, self.degree) {
+            return Err(InsertFault::NoMemory);
         }
+        put(&mut self.nodes, config)
     }
 
     /// The same constraint in memory of its own.
     pub fn copy(&self) -> Result<Constraint, NoMemory>
         ensures { IfOk result (λ constraint. constraint ≡ self.now) }
     {
-        let mut held = Vec::new(*self.held.allocator());
-        for config in &self.held {
-            held.push(config.copy())?;
+        let mut nodes = Vec::new(*self.nodes.allocator());
+        for node in &self.nodes {
+            nodes.push(copied(node))?;
         }
         Ok(Constraint {
             degree: self.degree,
-            held,
+            nodes,
         })
     }
 
     /// The constraint with the images of the configurations, each once, where `images` has the images of
-    /// all labels in order. The images are sorted first, so that n of them cost about n log n.
+    /// all labels in order. The images are sorted first, so that n of them cost about n log n, and go in
+    /// in ascending order.
     pub fn image(&self, images: &[u8]) -> Result<Constraint, NoMemory>
         requires known { AllByRecursion (AllByRecursion (λ label. label < length images.now)) self.now.configs }
         requires below { AllByRecursion (λ image. image < MAX_LABELS) images.now }
         ensures degree { IfOk result (λ constraint. constraint.degree ≡ self.now.degree) }
         ensures configs { IfOk result (λ constraint. constraint.configs ≡ images_of images.now self.now) }
     {
-        let alloc = *self.held.allocator();
-        let all = images_in_order(alloc, self.held.as_slice(), images)?;
+        let alloc = *self.nodes.allocator();
+        let all = images_in_order(alloc, self.nodes.as_slice(), images)?;
         collected(alloc, self.degree, all.as_slice())
+    }
+
+    /// Whether some choice of one label of each set of the row is a configuration. It takes no memory. It goes down the tree
+    /// with the sets that are left, and leaves a branch as soon as its label is in none of them; it stops at the first
+    /// configuration that fits.
+    pub fn allows(&self, row: &Row) -> bool
+        requires { length row.now ≡ self.now.degree }
+        ensures { result ≡ is_allowed self.now row.now }
+    {
+        draws_from(self.nodes.as_slice(), row.sets())
     }
 }

@@ -2,10 +2,10 @@
 use Rattle.std.proofs.Common.{◌≡◌, ℕ, zero, suc, ◌+◌, ◌-◌, ◌<◌, ◌≤◌, Bool, true, false, List, [], ◌∷◌, length, sym, ◌∙◌, subst, ◌⊎◌, inl, inr, arith}
 use Rattle.std.specs.Prelude.{Contains, IsTrue, slice_set, ◌↔◌}
 use Rattle.std.proofs.lemmas.Bool.{false≢true}
-use Rattle.re_boxes.proofs.Grown.{added_good, nothing_above}
+use Rattle.re_boxes.proofs.Grown.{added_good, nothing_above, with_label_itself, with_label_within, added_above, both_added}
 use Rattle.re_boxes.proofs.Spread.{AreFilled, IsGood-under, IsIn-filled, one_label}
 use Rattle.re_boxes.specs.Grown.{IsGrown, added}
-use Rattle.re_config.proofs.ChoicesOfRows.{IsUnder-refl}
+use Rattle.re_config.proofs.ChoicesOfRows.{IsUnder-refl, IsUnder-trans}
 use Rattle.re_config.proofs.Placing.{Dominates-trans}
 use Rattle.re_config.proofs.Rearranging.{Rearranged-sym}
 use Rattle.re_config.proofs.Rows.{AreSets-Rearranged, not_larger, total, total-Rearranged, under_total}
@@ -20,44 +20,25 @@ use Rattle.re_table.proofs.MaxRows.{IsMaximal-max_rows}
 use Rattle.re_table.specs.Constraints.{Constraint}
 use Rattle.re_table.specs.GoodRows.{IsGood, IsMaximal, max_rows}
 use Rattle.re_strength.proofs.RowsOfSets.{AreSets-more, filled, in_order_moved, in_order_row}
-use Rattle.re_strength.proofs.SetsAtPlaces.{IsUnder-trans, all_at, all_set, set_there, under_at, under_set}
+use Rattle.re_strength.proofs.SetsAtPlaces.{all_at, all_set, set_there, under_at, under_set}
 use Rattle.re_strength.specs.Choosing.{AreGoodChoices}
 use Rattle.re_strength.specs.Sets.{AreSets}
 use Rattle.re_universal.specs.Growing.{IsGrownFrom, IsTried}
 
 -- ---- a set with one more label
-label_there : (s : List ℕ) (x : ℕ) → IsIn x (with_label s x)
-label_there s x = IsIn-union s (x ∷ []) x (inr (Contains-here x []))
-
-set_within : (s : List ℕ) (x : ℕ) → IsWithin s (with_label s x)
-set_within s x z i = IsIn-union s (x ∷ []) z (inl i)
-
-with_label_under : (s t : List ℕ) (x : ℕ) → IsWithin s t → IsWithin (with_label s x) (with_label t x)
-with_label_under s t x h z i = elim (IsIn-union_cases s (x ∷ []) z i) [ inl k ↦ set_within t x z (h z k) | inr k ↦ IsIn-union t (x ∷ []) z (inr k) ]
-
 added_filled : (i x : ℕ) (r : List (List ℕ)) → AreFilled r → AreFilled (added i x r)
-added_filled i x r h = all_set (λ s. 0 < length s) r i (with_label (set_at r i) x) h (IsIn-filled x (with_label (set_at r i) x) (label_there (set_at r i) x))
+added_filled i x r h = all_set (λ s. 0 < length s) r i (with_label (set_at r i) x) h (IsIn-filled x (with_label (set_at r i) x) (with_label_itself (set_at r i) x))
 
 added_sets : (n i x : ℕ) (r : List (List ℕ)) → x < n → i < length r → AreSets n r → AreSets n (added i x r)
 added_sets n i x r below b h =
-    all_set _ r i (with_label (set_at r i) x) h (IsLabelSet-with_label n (set_at r i) x below (all_at _ r i h b).0, IsIn-filled x (with_label (set_at r i) x) (label_there (set_at r i) x))
-
-added_above : (i x : ℕ) (r : List (List ℕ)) → IsUnder r (added i x r)
-added_above i x r = under_set r r i (with_label (set_at r i) x) (IsUnder-refl r) (set_within (set_at r i) x)
-
-both_added : (i x : ℕ) (r t : List (List ℕ)) → IsUnder r t → IsUnder (added i x r) (added i x t)
-both_added i x [] [] h = tt
-both_added i x [] (w ∷ t) h = absurd h
-both_added i x (s ∷ r) [] h = absurd h
-both_added zero x (s ∷ r) (w ∷ t) h = (with_label_under s w x h.0, h.1)
-both_added (suc i) x (s ∷ r) (w ∷ t) h = (h.0, both_added i x r t h.1)
+    all_set _ r i (with_label (set_at r i) x) h (IsLabelSet-with_label n (set_at r i) x below (all_at _ r i h b).0, IsIn-filled x (with_label (set_at r i) x) (with_label_itself (set_at r i) x))
 
 -- the choices that have the label at the place are choices of the sets with it
 only_choices : (i x : ℕ) (r : List (List ℕ)) (c : List ℕ) → IsChoice c (slice_set r i (x ∷ [])) → IsChoice c (added i x r)
 only_choices i x [] c k = k
 only_choices zero x (s ∷ r) [] k = absurd k
 only_choices (suc i) x (s ∷ r) [] k = absurd k
-only_choices zero x (s ∷ r) (z ∷ c) k = (subst (λ y. IsIn y (with_label s x)) (sym (one_label z x k.0)) (label_there s x), k.1)
+only_choices zero x (s ∷ r) (z ∷ c) k = (subst (λ y. IsIn y (with_label s x)) (sym (one_label z x k.0)) (with_label_itself s x), k.1)
 only_choices (suc i) x (s ∷ r) (z ∷ c) k = (k.0, only_choices i x r c k.1)
 
 module _ (constraint : Constraint) (n : ℕ) where
@@ -72,7 +53,7 @@ module _ (constraint : Constraint) (n : ℕ) where
   tried_refused r i x can told never good = absurd (false≢true (sym never ∙ told.1 (λ c k. good.choice c (only_choices i x r c k))))
 
   pub tried_added : (r more : List (List ℕ)) (i x : ℕ) → i < length r → more ≡ added i x r → IsTried constraint more i x
-  tried_added r more i x b e good = subst (λ t. IsIn x (set_at t i)) (sym e) (subst (IsIn x) (sym (set_there r i (with_label (set_at r i) x) b)) (label_there (set_at r i) x))
+  tried_added r more i x b e good = subst (λ t. IsIn x (set_at t i)) (sym e) (subst (IsIn x) (sym (set_there r i (with_label (set_at r i) x) b)) (with_label_itself (set_at r i) x))
 
   pub grown_added : (r more : List (List ℕ)) (i x : ℕ) (can : Bool) → IsTrue can ↔ AreGoodChoices constraint (slice_set r i (x ∷ [])) → can ≡ true → i < length r → x < n
       → IsGood constraint r → AreSets n r → more ≡ added i x r → IsGrownFrom constraint n r more
@@ -111,16 +92,16 @@ module _ (constraint : Constraint) (n : ℕ) where
       last_or_before a b k h = grind arith
 
   -- ---- the row at the end
-  module _ (few : n ≤ 64) (t : List (List ℕ)) (good : IsGood constraint t) (sets : AreSets n t) where
-    moved : Rearranged t (in_order 64 t)
-    moved = in_order_moved t (AreSets-more n 64 few t sets)
+  module _ (few : n ≤ 128) (t : List (List ℕ)) (good : IsGood constraint t) (sets : AreSets n t) where
+    moved : Rearranged t (in_order 128 t)
+    moved = in_order_moved t (AreSets-more n 128 few t sets)
 
-    over : Dominates (in_order 64 t) t
+    over : Dominates (in_order 128 t) t
     over = (t, Rearranged-sym moved, IsUnder-refl t)
 
-    grown_row : IsGrown constraint n t → IsMaximal constraint n (in_order 64 t)
+    grown_row : IsGrown constraint n t → IsMaximal constraint n (in_order 128 t)
     grown_row grown =
-        let r = in_order 64 t in
+        let r = in_order 128 t in
         let row = in_order_row n few constraint.degree t good.count sets in
         record {
           is_row = row;
@@ -135,8 +116,8 @@ module _ (constraint : Constraint) (n : ℕ) where
               not_larger n constraint.degree q r rowq row dom (omega (arith, le, same, other));
         }
 
-    pub grown_maximal : IsGrown constraint n t → (row : List (List ℕ)) → row ≡ in_order 64 t → Contains (max_rows constraint n) row
-    grown_maximal grown row e = subst (Contains (max_rows constraint n)) (sym e) (In-Contains (in_order 64 t) (max_rows constraint n) (IsMaximal-max_rows constraint n (in_order 64 t) (grown_row grown)))
+    pub grown_maximal : IsGrown constraint n t → (row : List (List ℕ)) → row ≡ in_order 128 t → Contains (max_rows constraint n) row
+    grown_maximal grown row e = subst (Contains (max_rows constraint n)) (sym e) (In-Contains (in_order 128 t) (max_rows constraint n) (IsMaximal-max_rows constraint n (in_order 128 t) (grown_row grown)))
 
-    pub grown_dominates : (s : List (List ℕ)) → IsUnder s t → (row : List (List ℕ)) → row ≡ in_order 64 t → Dominates row s
+    pub grown_dominates : (s : List (List ℕ)) → IsUnder s t → (row : List (List ℕ)) → row ≡ in_order 128 t → Dominates row s
     grown_dominates s under row e = subst (λ r. Dominates r s) (sym e) (t, Rearranged-sym moved, under)

@@ -1,4 +1,5 @@
 -- What the loops of `all_views` do to lists.
+use Rattle.re_labels.proofs.Membership.{count_from-last}
 use Rattle.std.proofs.Common.{◌≡◌, ℕ, zero, suc, pred, ◌+◌, ◌-◌, ◌≤◌, ◌<◌, List, [], ◌∷◌, ◌++◌, length, take, get_or, map, sym, ap, ◌∙◌, arith, add-one, append_assoc}
 use Rattle.std.specs.Prelude.{flat_map}
 use Rattle.std.proofs.lemmas.Grind.{flat_map-append}
@@ -37,10 +38,6 @@ spread_more shown f lists next old items read i item same below is so_far here =
     ∙ ap (λ l. old ++ l) (ap (λ l. flat_map f (map shown (take i items)) ++ l) (sym (append-nil (f (shown item))))
     ∙ (sym (flat_map-append f (map shown (take i items)) (shown item ∷ []))
     ∙ ap (flat_map f) (sym (map-append shown (take i items) (item ∷ [])) ∙ ap (map shown) (sym taken))))))
-
-count_from-last : (i n : ℕ) → count_from i (suc n) ≡ count_from i n ++ (i + n) ∷ []
-count_from-last i zero = let e : i ≡ i + 0 = omega arith in ap (λ x. x ∷ []) e
-count_from-last i (suc n) = let e : suc i + n ≡ i + suc n = omega arith in ap (λ l. i ∷ l) (count_from-last (suc i) n ∙ ap (λ x. count_from (suc i) n ++ x ∷ []) e)
 
 -- the lists for one more number are added
 pub counted_more : {C : Type 0} (f : ℕ → List C) (lists next : List C) (n : ℕ) → lists ≡ flat_map f (count_from 1 n) → next ≡ lists ++ f (n + 1) → next ≡ flat_map f (count_from 1 (n + 1))

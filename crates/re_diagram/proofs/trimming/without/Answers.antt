@@ -5,10 +5,10 @@ use Rattle.re_labels.specs.Lists.{count_from}
 use Rattle.re_labels.specs.Sets.{IsLabelSet}
 use Rattle.re_problem.specs.NamedProblems.{NamedProblem}
 use Rattle.re_table.specs.Strength.{constraint_without}
-use Rattle.re_diagram.proofs.Counted.{length-map_counted}
-use Rattle.re_diagram.proofs.MergedLabels.{built-along}
+use Rattle.re_changes.proofs.Counted.{length-map_counted}
+use Rattle.re_changes.proofs.RenumberedProblems.{built-along}
 use Rattle.re_diagram.proofs.TrimmedProblems.{IsLabelSet-all_but, covered-first, without-below, without-built, without-known}
-use Rattle.re_diagram.specs.Renumbering.{number_among, renumbered}
+use Rattle.re_changes.specs.Renumbering.{number_among, renumbered}
 use Rattle.re_diagram.specs.Trimming.{all_but, named_without}
 use Rattle.re_diagram.proofs.trimming.without.Goals as goal
 
@@ -50,8 +50,8 @@ renumbered-requires-clause-below c =
     let n : c.len-labels.result ≡ length c.args.problem.now.names = c.len-labels.ensures.len ∙ ap length c.names.ensures.names in
     let images : c.as_slice-3.result.now ≡ map (number_among (all_but c.args.label (length c.args.problem.now.names))) (count_from 0 (length c.args.problem.now.names)) =
     c.as_slice-3.ensures.value ∙ c.numbers_among-images.ensures ∙ (λ i. map (number_among ((c.as_slice.ensures.value ∙ c.all_but-stay.ensures ∙ ap (all_but c.args.label) n) i)) (count_from 0 (n i))) in
-    subst (AllByRecursion (λ image. image < 64)) (sym images)
-    (without-below c.args.label (length c.args.problem.now.names) 64 (covered-first c.args.problem.now c.args.label c.requires).0 c.names.ensures.problem.names.few)
+    subst (AllByRecursion (λ image. image < 128)) (sym images)
+    (without-below c.args.label (length c.args.problem.now.names) 128 (covered-first c.args.problem.now c.args.label c.requires).0 c.names.ensures.problem.names.few)
 
 pub renumbered-requires-clause-built : goal.renumbered-requires-clause-built
 renumbered-requires-clause-built c =

@@ -2,8 +2,8 @@ use Rattle.std.proofs.Common.{◌≡◌, ◌∙◌, [], ap, sym}
 use Rattle.std.proofs.lemmas.Bool.{false≢true}
 use Rattle.re_config.proofs.Placing.{Dominates-dominates, dominates-Dominates}
 use Rattle.re_config.specs.Rows.{Dominates, row_cmp}
-use Rattle.re_rows.proofs.Orders.{equal_from, equal_rows, equal_told, row_cmp-same}
-use Rattle.re_rows.proofs.Walks.{all_walked, always, never, one_more}
+use Rattle.re_strength.proofs.EqualRows.{equal_from, equal_rows, equal_told, row_cmp-same}
+use Rattle.re_strength.proofs.Walks.{all_walked, always, never, one_more}
 use Rattle.re_rows.proofs.judging.is_apart.Goals as goal
 use Rattle.re_rows.proofs.judging.is_apart.Goals.{else-dominates-via-then-dominates+else-ne, else-dominates-via-else-dominates}
 
@@ -22,7 +22,7 @@ loop-other-preserved c =
     one_more [] (λ r. Dominates row r → row ≡ r) c.args.rows.now c.loop-other.other-index other c.loop-other-test.true c.other-item.is c.loop-other.invariant
     (elim c.else-dominates.branch [
       | else-dominates-via-then-dominates+else-ne w ↦ λ dom.
-          equal_rows 64 row other c.sets-sets.ensures.row.sets c.sets-others.ensures.row.sets (sym w.row_order.ensures ∙ equal_from w.row_order.result (sym w.ne.ensures ∙ w.if-ne.false))
+          equal_rows 128 row other c.sets-sets.ensures.row.sets c.sets-others.ensures.row.sets (sym w.row_order.ensures ∙ equal_from w.row_order.result (sym w.ne.ensures ∙ w.if-ne.false))
       | else-dominates-via-else-dominates w ↦ λ dom. absurd (false≢true (sym w.if-dominates.false ∙ c.dominates.ensures ∙ Dominates-dominates row other dom))
     ])
 

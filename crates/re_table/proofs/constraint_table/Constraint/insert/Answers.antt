@@ -1,13 +1,17 @@
-use Rattle.std.proofs.Common.{◌≡◌, ◌≤◌, length, sym, ap, ◌∙◌, subst, insert, arith}
-use Rattle.re_labels.specs.ListSets.{with_list}
-use Rattle.re_table.proofs.Insertions.{IsConstraint-with}
+use Rattle.std.proofs.Common.{◌≡◌, ◌∙◌, ap, sym, subst, length}
+use Rattle.std.specs.Prelude.{Contains, IfOk, IsTrue, ◌↔◌}
+use Rattle.re_table.proofs.Insertions.{IsConstraint-either}
+use Rattle.re_table.specs.PrefixTrees.{IsTable, held_configs}
 use Rattle.re_table.proofs.constraint_table.Constraint.insert.Goals as goal
 
-pub invariant_of-self-in-Err : goal.invariant_of-self-in-Err
-invariant_of-self-in-Err c =
-    let place : with_list c.self.inside.held.items c.args.config ≡ insert c.self.inside.held.items c.in-Err.place c.args.config =
-    subst (λ items. with_list items c.args.config ≡ insert items c.in-Err.place c.args.config) c.as_slice.ensures.value c.in-Err.ensures.2 in
-    let new : c.insert.new.self.items ≡ with_list c.self.inside.held.items c.args.config = c.in_default.ensures.items ∙ sym place in
-    let degree : length c.args.config ≡ c.self.inside.degree = c.requires ∙ ap (λ s. s.degree) (sym c.self.view_is) in
-    let few : length c.insert.new.self.items ≤ 65536 = omega (arith, c.in_default.ensures.len, c.len.ensures, c.self.invariant.0) in
-    (few, IsConstraint-with c.self.inside.degree c.self.inside.held.items c.insert.new.self.items c.args.config c.self.invariant.1 degree c.labels-labels.ensures.config new)
+pub invariant_of-self-2 : goal.invariant_of-self-2
+invariant_of-self-2 c =
+    let degree : length c.args.config ≡ c.self.inside.degree = c.requires ∙ ap (λ s. s.degree) (sym c.self.view_is) in (
+      subst (λ d. IsTable d 1048576 c.put.new.nodes.items) degree c.put.ensures.table,
+      IsConstraint-either c.self.inside.degree (held_configs c.self.inside.nodes.items) (held_configs c.make_root.new.nodes.items) (held_configs c.put.new.nodes.items) c.args.config c.put.result
+          c.self.invariant.1 c.make_root.ensures.held degree c.labels-labels.ensures.config c.put.ensures.held c.put.ensures.err,
+    )
+
+pub returns-clause-is_new : goal.returns-clause-is_new
+returns-clause-is_new c =
+    subst (λ l. IfOk c.put.result (λ is_new. IsTrue is_new ↔ (Contains l c.args.config → ⊥))) (c.make_root.ensures.held ∙ ap (λ s. s.configs) c.self.view_is) c.put.ensures.is_new

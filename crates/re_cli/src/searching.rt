@@ -1,0 +1,75 @@
+// The commands that search for a certificate.
+ghost use Rattle.re_cli.specs.Command.{least_steps};
+ghost use Rattle.re_cli.specs.Output.{outcome_of};
+ghost use Rattle.re_cli.specs.Searching.{not_found_line, search_outcome, searched};
+ghost use Rattle.re_cli.specs.Working.{refused as refused_with};
+ghost use Rattle.re_search.specs.Searches.{Answers};
+ghost use Rattle.std.specs.Prelude.{◌≡◌, ◌≤◌, IfOk};
+
+use crate::output::Output;
+use crate::status::Answer;
+use crate::text::{begun, push_number, push_words};
+use crate::working::{done, refused};
+use re_cert::Kind;
+use re_cert_text::print_certificate;
+use re_labels::NoMemory;
+use re_problem::Problem;
+use re_search::{FindFault, Search, find_fixed, find_lower, find_upper};
+use std::alloc::Global;
+
+// What the search for a bound of this kind comes to.
+fn find(
+    alloc: Global,
+    kind: Kind,
+    steps: u8,
+    changes: u8,
+    problem: &Problem,
+) -> Result<Search, FindFault>
+    requires least { least_steps kind ≤ steps }
+    requires steps { steps ≤ 64 }
+    requires changes { changes ≤ 8 }
+    ensures { Answers kind steps changes problem.now result }
+{
+    match kind {
+        Kind::Lower => find_lower(alloc, problem, steps, changes),
+        Kind::Upper => find_upper(alloc, problem, steps, changes),
+        Kind::Fixed => find_fixed(alloc, problem, steps, changes),
+    }
+}
+
+// The output for a search without success.
+fn not_found(alloc: Global, nodes: u32, cut: u32) -> Result<Output, NoMemory>
+    ensures { IfOk result (λ output. outcome_of output ≡ refused_with (not_found_line nodes cut)) }
+{
+    let mut text = begun(alloc, "not found: nodes ")?;
+    push_number(alloc, &mut text, nodes as usize)?;
+    push_words(&mut text, ", cut ")?;
+    push_number(alloc, &mut text, cut as usize)?;
+    push_words(&mut text, "\n")?;
+    Ok(refused(text))
+}
+
+/// The certificate that a search finds, or the counts of its nodes, unless these are too many.
+#[tactic(auto, unfolding(crate::specs::Searching::search_outcome))]
+pub(crate) fn search_output(
+    alloc: Global,
+    kind: Kind,
+    steps: u8,
+    changes: u8,
+    problem: &Problem,
+) -> Result<Output, NoMemory>
+    requires least { least_steps kind ≤ steps }
+    requires steps { steps ≤ 64 }
+    requires changes { changes ≤ 8 }
+    ensures { IfOk result (λ output. outcome_of output ≡ search_outcome kind steps changes problem.now) }
+{
+    match find(alloc, kind, steps, changes, problem) {
+        Ok(Search::Found(certificate)) => Ok(done(print_certificate(alloc, &certificate)?)),
+        Ok(Search::NotFound { nodes, cut }) => not_found(alloc, nodes, cut),
+        Err(FindFault::TooManyNodes) => Ok(Output {
+            answer: Answer::Limit,
+            text: begun(alloc, "limit: more than 20000 nodes\n")?,
+        }),
+        Err(FindFault::NoMemory) => Err(NoMemory),
+    }
+}

@@ -1,0 +1,10 @@
+use Rattle.std.proofs.Common.{◌≡◌, ℕ, ◌<◌, [], length, get_or}
+use Rattle.re_entries.specs.LabelsOver.{labels_over}
+use Rattle.re_entries.specs.RowEntries.{image_entries}
+use Rattle.re_entries.proofs.row_maps.all_labels_over.Given as goal
+
+abbrev pub invariant-loop-label : goal.invariant-loop-label
+invariant-loop-label l = record {
+  count : length l.over ≡ 128;
+  over : (k : ℕ) → k < l.label → get_or l.over k [] ≡ labels_over (image_entries l.rows l.images) k;
+}

@@ -1,0 +1,5 @@
+use Rattle.re_entries.proofs.RowChoices.{kept-by_row}
+use Rattle.re_entries.proofs.row_maps.keeps_allowed_by_row.Goals as goal
+
+pub returns : goal.returns
+returns c = kept-by_row 128 c.args.from.now c.args.to.now c.args.rows.now c.args.images.now c.takes_all_choices.result c.degree-degree.ensures.constraint c.takes_all_choices.ensures

@@ -1,0 +1,4 @@
+pub mod ColourNames
+pub mod Listing
+pub mod Sizes
+pub mod Whole

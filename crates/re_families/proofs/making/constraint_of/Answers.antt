@@ -1,0 +1,67 @@
+use Rattle.std.proofs.Common.{◌≡◌, ◌∙◌, ◌<◌, ap, sym, subst, arith, [], filter, length}
+use Rattle.std.specs.List.{AllByRecursion}
+use Rattle.re_config.specs.Orders.{multisets}
+use Rattle.re_families.specs.Families.{rule, rules_of}
+use Rattle.re_labels.proofs.Membership.{AllByRecursion-weaker}
+use Rattle.re_families.proofs.Listing.{all_kept, config_is, is_config, kept, left, passed, room}
+use Rattle.re_families.proofs.making.constraint_of.Goals as goal
+
+pub loop-picks-init : goal.loop-picks-init
+loop-picks-init c = record {
+  degree = c.new-constraint.ensures.degree;
+  all = c.into_iter-picks-iterator.ensures.into_iter_gives ∙ c.new-picks-items.ensures;
+  configs = λ number. c.new-constraint.ensures.empty;
+}
+
+pub config_of-config-requires-clause-two : goal.config_of-config-requires-clause-two
+config_of-config-requires-clause-two c =
+    let is = is_config c.args.degree c.args.labels c.loop-picks.yielded c.loop-picks.picks-iterator c.next.new.self c.in-Some.picks c.loop-picks.invariant.all c.in-Some.ensures.steps in
+    omega (arith, is.count, ap length c.numbers.ensures)
+
+pub config_of-config-requires-clause-below : goal.config_of-config-requires-clause-below
+config_of-config-requires-clause-below c =
+    let is = is_config c.args.degree c.args.labels c.loop-picks.yielded c.loop-picks.picks-iterator c.next.new.self c.in-Some.picks c.loop-picks.invariant.all c.in-Some.ensures.steps in
+    subst (AllByRecursion (λ x. x < 128)) (sym c.numbers.ensures) (AllByRecursion-weaker (λ x. x < c.args.labels) (λ x. x < 128) (λ x l. omega (arith, l)) c.in-Some.picks is.below)
+
+pub put-requires-clause-degree : goal.put-requires-clause-degree
+put-requires-clause-degree c =
+    let is = is_config c.args.degree c.args.labels c.loop-picks.yielded c.loop-picks.picks-iterator c.next.new.self c.in-Some.picks c.loop-picks.invariant.all c.in-Some.ensures.steps in
+    ap length (config_is c.args.degree c.args.labels c.in-Some.picks c.numbers.result.now c.config_of-config.result is c.numbers.ensures c.config_of-config.ensures) ∙ is.count ∙ sym c.loop-picks.invariant.degree
+
+pub put-requires-clause-room : goal.put-requires-clause-room
+put-requires-clause-room c =
+    room (rule (rules_of c.args.kind 0) c.args.side) c.args.degree c.args.labels c.loop-picks.yielded c.loop-picks.picks-iterator c.loop-picks.constraint.configs c.requires.most c.requires.labels
+    c.loop-picks.invariant.all (c.loop-picks.invariant.configs 0)
+
+pub loop-picks-preserved : goal.loop-picks-preserved
+loop-picks-preserved c =
+    let is = is_config c.args.degree c.args.labels c.loop-picks.yielded c.loop-picks.picks-iterator c.next.new.self c.in-Some.picks c.loop-picks.invariant.all c.in-Some.ensures.steps in
+    let same = config_is c.args.degree c.args.labels c.in-Some.picks c.numbers.result.now c.config_of-config.result is c.numbers.ensures c.config_of-config.ensures in
+    record {
+      degree = c.in_ok-put.ensures.degree ∙ c.loop-picks.invariant.degree;
+      all = passed (multisets c.args.degree 0 c.args.labels) c.loop-picks.yielded c.loop-picks.picks-iterator c.next.new.self c.in-Some.picks c.loop-picks.invariant.all c.in-Some.ensures.steps;
+      configs = λ number.
+          let p = rule (rules_of c.args.kind number) c.args.side in
+          kept p c.loop-picks.yielded c.loop-picks.constraint.configs c.in-Some.picks (c.loop-picks.invariant.configs number) c.put.new.constraint.configs c.config_of-config.result
+          (ap p (sym same) ∙ sym (c.if-not-may_stand.ensures number)) same c.in_ok-put.ensures.configs;
+    }
+
+pub loop-picks-preserved-then-not-may_stand : goal.loop-picks-preserved-then-not-may_stand
+loop-picks-preserved-then-not-may_stand c =
+    let is = is_config c.args.degree c.args.labels c.loop-picks.yielded c.loop-picks.picks-iterator c.next.new.self c.in-Some.picks c.loop-picks.invariant.all c.in-Some.ensures.steps in
+    let same = config_is c.args.degree c.args.labels c.in-Some.picks c.numbers.result.now c.config_of-config.result is c.numbers.ensures c.config_of-config.ensures in
+    record {
+      degree = c.loop-picks.invariant.degree;
+      all = passed (multisets c.args.degree 0 c.args.labels) c.loop-picks.yielded c.loop-picks.picks-iterator c.next.new.self c.in-Some.picks c.loop-picks.invariant.all c.in-Some.ensures.steps;
+      configs = λ number.
+          let p = rule (rules_of c.args.kind number) c.args.side in
+          left p c.loop-picks.yielded c.loop-picks.constraint.configs c.in-Some.picks (c.loop-picks.invariant.configs number) (ap p (sym same) ∙ sym (c.if-not-may_stand.ensures number));
+    }
+
+pub returns : goal.returns
+returns c = λ number labels.
+    let none : c.loop-picks.picks-iterator ≡ [] = c.in-None.ensures.steps.0 in
+    let p = rule (rules_of c.args.kind number) c.args.side in
+    let configs = all_kept p c.args.degree c.args.labels c.loop-picks.yielded c.loop-picks.picks-iterator c.loop-picks.constraint.configs c.loop-picks.invariant.all none (c.loop-picks.invariant.configs number) in
+    let whole = configs ∙ ap (λ n. filter p (multisets c.args.degree 0 n)) (sym labels) in
+    (λ i. record { degree = c.loop-picks.invariant.degree i; configs = whole i })

@@ -1,0 +1,4 @@
+pub mod Rests
+pub mod Fitting
+pub mod NextLabels
+pub mod Visits

@@ -1,0 +1,291 @@
+//! The walk over a search tree, with one path in memory.
+ghost use Rattle.re_cert.specs.Bounds.{is_lower, step_of};
+ghost use Rattle.re_changes.specs.Changes.{changed_times};
+ghost use Rattle.re_problem.specs.NamedProblems.{unnamed};
+ghost use Rattle.re_search.specs.Walking.{IsLevel, Visits, Walks, below_made, node_at};
+ghost use Rattle.re_step.specs.Derivations.{IsStep};
+ghost use Rattle.re_tree.specs.Nodes.{child, goes_on, is_zero, preorder, steps_from, succeeds};
+ghost use Rattle.std.specs.Prelude.{◌≡◌, ◌≤◌, ◌+◌, ◌++◌, ◌∷◌, ◌&&◌, ◌||◌, [], OnOk, flat_map, length, map, nat_lt, not, suc};
+
+use crate::counting::is_zero;
+use crate::derivations::Derivations;
+use crate::returning::way_back;
+use crate::steps::{Level, end_of, has_lower_steps, step_to};
+use crate::types::FindFault;
+use re_cert::{Kind, Step};
+use re_changes::{Changed, changes_of};
+use re_labels::NoMemory;
+use re_problem::Problem;
+use re_step::{Derived, StepFault};
+use std::alloc::Global;
+
+/// The most nodes of a search.
+pub const MAX_NODES: u32 = 20_000;
+
+/// How many nodes a search has come to, and at how many of them the derived problem passed a limit.
+#[derive(Clone, Copy)]
+pub(crate) struct Count {
+    pub(crate) nodes: u32,
+    pub(crate) cut: u32,
+}
+
+/// How a walk over some nodes ends.
+#[derive(Clone, Copy)]
+pub(crate) enum Walked {
+    /// At a success, to which the path leads.
+    Found,
+    /// Behind the last of them, with no success.
+    Passed(Count),
+}
+
+/// What is searched: the kind of bound, the most changes of a derived problem, and the first problem.
+#[derive(Clone, Copy)]
+pub(crate) struct Tree<'a> {
+    pub(crate) alloc: Global,
+    pub(crate) kind: Kind,
+    pub(crate) most: u8,
+    pub(crate) first: &'a Problem,
+}
+
+/// What is found at a node.
+pub(crate) enum Visited {
+    /// It is a success.
+    Success,
+    /// It is none, and has no children.
+    Leaf,
+    /// It has no children because its derived problem passes a limit.
+    Cut,
+    /// It has children, which are made of its derived problem.
+    Inner(Derived),
+}
+
+// Whether the node at the end of the path is a success.
+fn succeeds(tree: &Tree, path: &[Step], left: u8, zero: bool) -> bool
+    requires short { length (map step_of path.now) ≤ 64 }
+    requires zero { zero ≡ is_zero (node_at tree.now.first.now (map step_of path.now) left).problem }
+    ensures { result ≡ succeeds tree.now.kind tree.now.first.now (node_at tree.now.first.now (map step_of path.now) left) }
+{
+    match tree.kind {
+        Kind::Lower => left == 0 && !zero,
+        Kind::Upper => left == 0 && zero,
+        Kind::Fixed => !zero && way_back(tree.first, path).is_some(),
+    }
+}
+
+// Whether the node may have children.
+fn goes_on(kind: Kind, left: u8, zero: bool) -> bool
+    ensures { result ≡ (nat_lt 0 left && (not (is_lower kind) || not zero)) }
+{
+    left > 0 && (!has_lower_steps(kind) || !zero)
+}
+
+// What is found at the node at the end of the path.
+fn visit(
+    tree: &Tree,
+    derivations: &mut Derivations,
+    path: &[Step],
+    left: u8,
+) -> Result<Visited, FindFault>
+    requires { length (map step_of path.now) + left ≤ 64 }
+    ensures { Visits tree.now.kind tree.now.first.now (node_at tree.now.first.now (map step_of path.now) left) result }
+{
+    let problem = end_of(tree.first, path);
+    let zero = is_zero(problem);
+    if succeeds(tree, path, left, zero) {
+        return Ok(Visited::Success);
+    }
+    if !goes_on(tree.kind, left, zero) {
+        return Ok(Visited::Leaf);
+    }
+    match derivations.derive(problem) {
+        Ok(derived) => Ok(Visited::Inner(derived)),
+        Err(StepFault::Limit(_)) => Ok(Visited::Cut),
+        Err(StepFault::NoMemory) => Err(FindFault::NoMemory),
+    }
+}
+
+/// Walks over the node at the end of the path and those below it, in preorder, up to the first success. Behind the walk the path is
+/// what it was, or leads to the success. The derived problem of a node is computed once, or copied where an equal problem was derived
+/// lately; one path is held.
+#[cycle(walk)]
+pub(crate) fn walk(
+    tree: &Tree,
+    derivations: &mut Derivations,
+    path: &mut Vec<Step>,
+    left: u8,
+    count: Count,
+) -> Result<Walked, FindFault>
+    requires most { tree.now.most ≤ 8 }
+    requires short { length (map step_of path.old.items) + left ≤ 64 }
+    requires nodes { count.nodes ≤ MAX_NODES }
+    requires cut { count.cut ≤ count.nodes }
+    ensures { Walks tree.now.kind tree.now.first.now count (preorder tree.now.kind tree.now.most left (node_at tree.now.first.now (map step_of path.old.items) left)) (map step_of path.old.items) (map step_of path.new.items) result }
+{
+    if count.nodes >= MAX_NODES {
+        return Err(FindFault::TooManyNodes);
+    }
+    let nodes = count.nodes + 1;
+    match visit(tree, derivations, path.as_slice(), left) {
+        Ok(Visited::Success) => Ok(Walked::Found),
+        Ok(Visited::Leaf) => Ok(Walked::Passed(Count {
+            nodes,
+            cut: count.cut,
+        })),
+        Ok(Visited::Cut) => Ok(Walked::Passed(Count {
+            nodes,
+            cut: count.cut + 1,
+        })),
+        Ok(Visited::Inner(derived)) => walk_children(
+            tree,
+            derivations,
+            path,
+            left - 1,
+            derived,
+            Count {
+                nodes,
+                cut: count.cut,
+            },
+        ),
+        Err(fault) => Err(fault),
+    }
+}
+
+// Walks over the children of the node at the end of the path, which are made of this derived problem, and those below them.
+#[cycle(walk)]
+fn walk_children(
+    tree: &Tree,
+    derivations: &mut Derivations,
+    path: &mut Vec<Step>,
+    left: u8,
+    derived: Derived,
+    count: Count,
+) -> Result<Walked, FindFault>
+    requires most { tree.now.most ≤ 8 }
+    requires short { length (map step_of path.old.items) + suc left ≤ 64 }
+    requires nodes { count.nodes ≤ MAX_NODES }
+    requires cut { count.cut ≤ count.nodes }
+    requires derived { IsStep (unnamed (node_at tree.now.first.now (map step_of path.old.items) (suc left)).problem) derived }
+    ensures { let node = node_at tree.now.first.now (map step_of path.old.items) (suc left) in
+        Walks tree.now.kind tree.now.first.now count (flat_map (preorder tree.now.kind tree.now.most left) (map (child node) (steps_from tree.now.kind tree.now.most node.problem))) (map step_of path.old.items) (map step_of path.new.items) result }
+{
+    let Derived {
+        problem,
+        sets,
+        rows,
+    } = derived;
+    let level = Level { rows, sets };
+    let start = Changed::unchanged(problem);
+    let mut count = count;
+    for changes in 0..tree.most + 1 {
+        match walk_changed(
+            tree,
+            derivations,
+            path,
+            left,
+            &level,
+            &start,
+            changes,
+            count,
+        ) {
+            Ok(Walked::Passed(next)) => count = next,
+            Ok(Walked::Found) => return Ok(Walked::Found),
+            Err(fault) => return Err(fault),
+        }
+    }
+    Ok(Walked::Passed(count))
+}
+
+// Walks over the children that this many changes more make, and those below them.
+#[cycle(walk)]
+fn walk_changed(
+    tree: &Tree,
+    derivations: &mut Derivations,
+    path: &mut Vec<Step>,
+    left: u8,
+    level: &Level,
+    made: &Changed,
+    changes: u8,
+    count: Count,
+) -> Result<Walked, FindFault>
+    requires most { tree.now.most ≤ 8 }
+    requires changes { changes ≤ 8 }
+    requires short { length (map step_of path.old.items) + suc left ≤ 64 }
+    requires nodes { count.nodes ≤ MAX_NODES }
+    requires cut { count.cut ≤ count.nodes }
+    requires level { IsLevel (node_at tree.now.first.now (map step_of path.old.items) (suc left)).problem level.now }
+    requires images { length made.now.images ≡ length level.now.sets.items }
+    ensures { Walks tree.now.kind tree.now.first.now count (flat_map (below_made tree.now.kind tree.now.most left (node_at tree.now.first.now (map step_of path.old.items) (suc left))) (changed_times (is_lower tree.now.kind) changes made.now))
+        (map step_of path.old.items) (map step_of path.new.items) result }
+{
+    if changes == 0 {
+        return walk_child(tree, derivations, path, left, level, made, count);
+    }
+    let labels = made.problem().names().len() as u8;
+    let Ok(all) = changes_of(tree.alloc, has_lower_steps(tree.kind), labels) else {
+        return Err(FindFault::NoMemory);
+    };
+    let mut count = count;
+    for change in all.as_slice() {
+        let Ok(next) = made.changed(tree.alloc, *change) else {
+            return Err(FindFault::NoMemory);
+        };
+        match walk_changed(
+            tree,
+            derivations,
+            path,
+            left,
+            level,
+            &next,
+            changes - 1,
+            count,
+        ) {
+            Ok(Walked::Passed(next)) => count = next,
+            Ok(Walked::Found) => return Ok(Walked::Found),
+            Err(fault) => return Err(fault),
+        }
+    }
+    Ok(Walked::Passed(count))
+}
+
+// One step more.
+fn push(path: &mut Vec<Step>, step: Step) -> Result<(), NoMemory>
+    ensures { OnOk result (path.new.items ≡ path.old.items ++ step ∷ []) }
+{
+    Ok(path.push(step)?)
+}
+
+// Walks over one child, and those below it.
+#[cycle(walk)]
+fn walk_child(
+    tree: &Tree,
+    derivations: &mut Derivations,
+    path: &mut Vec<Step>,
+    left: u8,
+    level: &Level,
+    made: &Changed,
+    count: Count,
+) -> Result<Walked, FindFault>
+    requires most { tree.now.most ≤ 8 }
+    requires short { length (map step_of path.old.items) + suc left ≤ 64 }
+    requires nodes { count.nodes ≤ MAX_NODES }
+    requires cut { count.cut ≤ count.nodes }
+    requires level { IsLevel (node_at tree.now.first.now (map step_of path.old.items) (suc left)).problem level.now }
+    requires images { length made.now.images ≡ length level.now.sets.items }
+    ensures { Walks tree.now.kind tree.now.first.now count (below_made tree.now.kind tree.now.most left (node_at tree.now.first.now (map step_of path.old.items) (suc left)) made.now) (map step_of path.old.items) (map step_of path.new.items) result }
+{
+    let depth = path.as_slice().len();
+    let Ok(step) = step_to(tree.alloc, tree.kind, level, made) else {
+        return Err(FindFault::NoMemory);
+    };
+    if push(path, step).is_err() {
+        return Err(FindFault::NoMemory);
+    }
+    match walk(tree, derivations, path, left, count) {
+        Ok(Walked::Passed(next)) => {
+            path.truncate(depth);
+            Ok(Walked::Passed(next))
+        }
+        Ok(Walked::Found) => Ok(Walked::Found),
+        Err(fault) => Err(fault),
+    }
+}

@@ -1,0 +1,3 @@
+pub mod KnownLabels
+pub mod ReadPairs
+pub mod SectionWords

@@ -1,0 +1,3 @@
+pub mod Pairs
+pub mod Readings
+pub mod SectionLines

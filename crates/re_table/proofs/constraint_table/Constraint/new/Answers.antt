@@ -1,0 +1,11 @@
+use Rattle.std.proofs.Common.{sym, subst, List}
+use Rattle.re_table.proofs.TreeSteps.{IsTable-empty}
+use Rattle.re_table.specs.Constraints.{IsConstraint}
+use Rattle.re_table.specs.PrefixTrees.{IsTable, held_configs}
+use Rattle.re_table.specs.declared.prefix_tree.Node.{Node}
+use Rattle.re_table.proofs.constraint_table.Constraint.new.Goals as goal
+
+pub invariant_of-result : goal.invariant_of-result
+invariant_of-result c =
+    subst (λ (l : List Node). IsTable c.args.degree 1048576 l × IsConstraint 128 (record { degree = c.args.degree; configs = held_configs l })) (sym c.new.ensures.items)
+    (IsTable-empty c.args.degree 1048576, record { least = c.requires.least; most = c.requires.most; configs = tt; ascends = tt })

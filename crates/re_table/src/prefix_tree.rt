@@ -1,0 +1,441 @@
+//! The nodes of a prefix tree of configurations, in one vector.
+ghost use Rattle.re_table.specs.PrefixTrees.{IsInnerPlace, IsLink, IsPrefixTree, IsTable, IsTree, first_of, held_configs, leaf_configs, leaves_of, node_at};
+ghost use Rattle.re_table.specs.TreeGrowth.{IsFound, linked, way_nodes, with_first, with_leaves};
+ghost use Rattle.re_config.specs.Configs.{image_of};
+ghost use Rattle.re_labels.specs.ListSets.{with_list};
+ghost use Rattle.re_labels.specs.Sets.{IsLabelSet};
+ghost use Rattle.re_table.specs.Fitting.{Completes, CompletesFrom, IsOpen};
+ghost use Rattle.std.specs.List.{AllByRecursion, remove};
+ghost use Rattle.std.specs.List.Sorted.{IsPermutation};
+ghost use Rattle.std.specs.Vec.{vec_capacity, vec_len};
+ghost use Rattle.re_table.specs.TreeWalks.{IsMissing, precedes};
+ghost use Rattle.std.specs.Prelude.{◌≡◌, ◌<◌, ◌≤◌, ◌+◌, ◌^◌, ◌==◌, ◌∷◌, ◌++◌, [], ℕ, Contains, List, IfOk, IsTrue, MatchOption, MatchResult, OnErr, OnOk, ◌↔◌, count_by, map, length, slice_index_or};
+
+use crate::{InsertFault, MAX_CONFIGURATIONS};
+use arrayvec::ArrayVec;
+use re_config::Config;
+use re_labels::{LabelSet, MAX_LABELS, NoMemory};
+use std::alloc::Global;
+
+/// What lies below a node: an inner node names its first child and counts the leaves below it, and a leaf holds a configuration.
+#[derive(Drop)]
+pub enum Kind {
+    Inner { first: u32, leaves: u32 },
+    Leaf(Config),
+}
+
+/// A node: the label on its way down, and the place of its next sibling, which has a higher label. The root lies at
+/// place 0, and no node names it, so 0 stands where there is no sibling or no child.
+#[derive(Drop)]
+pub struct Node {
+    pub(crate) label: u8,
+    pub(crate) next: u32,
+    pub(crate) kind: Kind,
+}
+
+/// The place of the first child, or 0.
+pub fn first_of(kind: &Kind) -> u32
+    ensures { result ≡ first_of kind.now }
+{
+    match kind {
+        Kind::Inner { first, .. } => *first,
+        Kind::Leaf(_) => 0,
+    }
+}
+
+fn leaves_of(kind: &Kind) -> u32
+    ensures { result ≡ leaves_of kind.now }
+{
+    match kind {
+        Kind::Inner { leaves, .. } => *leaves,
+        Kind::Leaf(_) => 1,
+    }
+}
+
+/// Between which children a label is missing: the last one with a lower label, and the first one with a higher label, or 0.
+#[derive(Clone, Copy)]
+pub struct Between {
+    before: usize,
+    after: usize,
+}
+
+/// The child with this label, or where it is missing.
+fn child_of(nodes: &[Node], parent: usize, label: u8) -> Result<usize, Between>
+    requires { IsInnerPlace nodes.now parent }
+    ensures { MatchResult result
+        (λ place. (place < length nodes.now) × ((degree : ℕ) (key : ℕ → List ℕ) → IsTree degree nodes.now (held_configs nodes.now) key → length (key parent) < degree → key place ≡ label ∷ key parent))
+        (λ between. (between.before < length nodes.now) × (between.after < length nodes.now)
+        × ((degree : ℕ) (key : ℕ → List ℕ) → IsTree degree nodes.now (held_configs nodes.now) key → length (key parent) < degree → IsMissing nodes.now key (key parent) label between.before between.after)) }
+{
+    let mut before = 0;
+    let mut at = first_of(&nodes[parent].kind) as usize;
+    while at != 0 {
+        let here = nodes[at].label;
+        if here == label {
+            return Ok(at);
+        }
+        if label < here {
+            return Err(Between { before, after: at });
+        }
+        before = at;
+        at = nodes[at].next as usize;
+    }
+    Err(Between { before, after: 0 })
+}
+
+/// Where the way of a configuration leaves the tree: behind how many of its labels, at which place, and between which children.
+#[derive(Clone, Copy)]
+pub struct Gap {
+    depth: usize,
+    parent: usize,
+    between: Between,
+}
+
+/// Goes down the way of the configuration and notes the inner places on it. None where it leads to a leaf.
+pub fn gap_of(nodes: &[Node], config: &Config, way: &mut ArrayVec<usize, 6>) -> Option<Gap>
+    requires tree { IsPrefixTree (length config.now) nodes.now }
+    requires filled { 0 < length nodes.now }
+    requires empty { way.old.items ≡ [] }
+    ensures { MatchOption result
+        (Contains (held_configs nodes.now) config.now)
+        (λ gap. IsFound nodes.now config.now way.new.items gap.depth gap.parent gap.between.before gap.between.after) }
+{
+    let labels = config.labels();
+    let mut place = 0;
+    for depth in 0..labels.len() {
+        way.push(place);
+        match child_of(nodes, place, labels[depth]) {
+            Ok(child) => {
+                place = child;
+            }
+            Err(between) => {
+                return Some(Gap {
+                    depth,
+                    parent: place,
+                    between,
+                });
+            }
+        }
+    }
+    None
+}
+
+// One more node, for which there is room.
+fn push_node(nodes: &mut Vec<Node>, node: Node)
+    requires { vec_len nodes.old < vec_capacity nodes.old }
+    ensures items { nodes.new.items ≡ nodes.old.items ++ node ∷ [] }
+    ensures capacity { vec_capacity nodes.old ≤ vec_capacity nodes.new }
+{
+    match nodes.push(node) {
+        Ok(()) => {}
+        Err(_) => unreachable!(),
+    }
+}
+
+/// The new nodes on the way from a gap to a leaf with the configuration; the topmost is a sibling before `after`.
+fn add_way(nodes: &mut Vec<Node>, config: Config, depth: usize, after: usize)
+    requires inside { depth < length config }
+    requires room { vec_len nodes.old + length config ≤ vec_capacity nodes.old }
+    requires few { vec_len nodes.old + length config < 2 ^ 32 }
+    requires after { after < vec_len nodes.old }
+    ensures { nodes.new.items ≡ nodes.old.items ++ way_nodes config depth after (length nodes.old.items) }
+{
+    let last = config.labels().len() - 1;
+    let mut next = after as u32;
+    for level in depth..last {
+        let label = config.labels()[level];
+        let first = nodes.len() as u32 + 1;
+        push_node(
+            nodes,
+            Node {
+                label,
+                next,
+                kind: Kind::Inner { first, leaves: 1 },
+            },
+        );
+        next = 0;
+    }
+    let label = config.labels()[last];
+    push_node(
+        nodes,
+        Node {
+            label,
+            next,
+            kind: Kind::Leaf(config),
+        },
+    );
+}
+
+fn set_first(kind: &mut Kind, other: u32)
+    ensures { kind.new ≡ with_first kind.old other }
+{
+    if let Kind::Inner { first, .. } = kind {
+        *first = other;
+    }
+}
+
+// One leaf more.
+fn count_leaf(kind: &mut Kind)
+    requires { leaves_of kind.old + 1 < 2 ^ 32 }
+    ensures { kind.new ≡ with_leaves kind.old 1 }
+{
+    if let Kind::Inner { leaves, .. } = kind {
+        *leaves += 1;
+    }
+}
+
+/// Links the child at `start` behind its sibling `before`, or as the first one of its parent where that is 0.
+fn link(nodes: &mut [Node], parent: usize, before: usize, start: u32)
+    requires parent { parent < length nodes.old }
+    requires before { before < length nodes.old }
+    ensures { nodes.new ≡ linked nodes.old parent before start }
+{
+    if before == 0 {
+        set_first(&mut nodes[parent].kind, start);
+    } else {
+        nodes[before].next = start;
+    }
+}
+
+/// Counts one leaf more at each of the places.
+fn count_way(nodes: &mut [Node], way: &[usize])
+    requires within { (j : ℕ) → j < length way.now → slice_index_or way.now j 0 < length nodes.old }
+    requires fits { (q : ℕ) → leaves_of (node_at nodes.old q).kind + length way.now < 2 ^ 32 }
+    ensures label { (q : ℕ) → (node_at nodes.new q).label ≡ (node_at nodes.old q).label }
+    ensures next { (q : ℕ) → (node_at nodes.new q).next ≡ (node_at nodes.old q).next }
+    ensures kind { (q : ℕ) → (node_at nodes.new q).kind ≡ with_leaves (node_at nodes.old q).kind (count_by (λ p. p == q) way.now) }
+{
+    for place in way {
+        count_leaf(&mut nodes[*place].kind);
+    }
+}
+
+/// Puts the configuration in at its gap, counted at the places above it.
+fn grow(nodes: &mut Vec<Node>, config: Config, gap: Gap, way: &[usize])
+    requires tree { IsPrefixTree (length config) nodes.old.items }
+    requires found { IsFound nodes.old.items config way.now gap.depth gap.parent gap.between.before gap.between.after }
+    requires room { vec_len nodes.old + length config ≤ vec_capacity nodes.old }
+    requires few { vec_len nodes.old + length config < 2 ^ 32 }
+    requires counted { length (held_configs nodes.old.items) + 7 < 2 ^ 32 }
+    ensures tree { IsPrefixTree (length config) nodes.new.items }
+    ensures leaves { leaf_configs nodes.new.items ≡ leaf_configs nodes.old.items ++ config ∷ [] }
+    ensures held { held_configs nodes.new.items ≡ with_list (held_configs nodes.old.items) config }
+    ensures len { vec_len nodes.new ≤ vec_len nodes.old + length config }
+{
+    let _labels = config.labels();
+    let start = nodes.len() as u32;
+    add_way(nodes, config, gap.depth, gap.between.after);
+    link(nodes.as_mut_slice(), gap.parent, gap.between.before, start);
+    count_way(nodes.as_mut_slice(), way);
+}
+
+/// The child below which the leaf with this number lies, where leaves are counted below the parent, and its number there.
+fn child_with(nodes: &[Node], parent: usize, number: usize) -> (usize, usize)
+    requires inner { IsInnerPlace nodes.now parent }
+    requires within { number < leaves_of (node_at nodes.now parent).kind }
+    ensures place { result.0 < length nodes.now }
+    ensures within { result.1 < leaves_of (node_at nodes.now result.0).kind }
+    ensures key { (degree : ℕ) (key : ℕ → List ℕ) → IsTree degree nodes.now (held_configs nodes.now) key → length (key parent) < degree → key result.0 ≡ (node_at nodes.now result.0).label ∷ key parent }
+    ensures before { (degree : ℕ) (key : ℕ → List ℕ) → IsTree degree nodes.now (held_configs nodes.now) key → length (key parent) < degree
+        → result.1 + count_by (precedes (key result.0)) (held_configs nodes.now) ≡ number + count_by (precedes (key parent)) (held_configs nodes.now) }
+{
+    let mut rest = number;
+    let mut at = first_of(&nodes[parent].kind) as usize;
+    loop {
+        let below = leaves_of(&nodes[at].kind) as usize;
+        if rest < below {
+            return (at, rest);
+        }
+        rest -= below;
+        at = nodes[at].next as usize;
+    }
+}
+
+/// The configuration of the leaf with this number.
+pub fn leaf_at(nodes: &[Node], degree: u8, number: usize) -> &Config
+    requires tree { IsPrefixTree degree nodes.now }
+    requires within { number < length (held_configs nodes.now) }
+    ensures { result.now ≡ slice_index_or (held_configs nodes.now) number [] }
+{
+    let mut place = 0;
+    let mut rest = number;
+    for _level in 0..degree {
+        (place, rest) = child_with(nodes, place, rest);
+    }
+    match &nodes[place].kind {
+        Kind::Leaf(config) => config,
+        Kind::Inner { .. } => unreachable!(),
+    }
+}
+
+/// How many leaves there are.
+pub fn leaf_count(nodes: &[Node]) -> usize
+    requires { (degree : ℕ) × IsPrefixTree degree nodes.now }
+    ensures { result ≡ length (held_configs nodes.now) }
+{
+    match nodes.first() {
+        Some(root) => leaves_of(&root.kind) as usize,
+        None => 0,
+    }
+}
+
+/// The root, where there is no node yet, with room for a whole way below it.
+pub fn make_root(nodes: &mut Vec<Node>, degree: u8) -> Result<(), NoMemory>
+    requires degree { 0 < degree }
+    requires table { IsTable degree MAX_CONFIGURATIONS nodes.old.items }
+    ensures table { IsTable degree MAX_CONFIGURATIONS nodes.new.items }
+    ensures held { held_configs nodes.new.items ≡ held_configs nodes.old.items }
+    ensures filled { OnOk result (0 < length nodes.new.items) }
+    ensures empty { OnErr result (held_configs nodes.old.items ≡ []) }
+{
+    if nodes.is_empty() {
+        nodes.reserve(degree as usize + 1)?;
+        push_node(
+            nodes,
+            Node {
+                label: 0,
+                next: 0,
+                kind: Kind::Inner {
+                    first: 0,
+                    leaves: 0,
+                },
+            },
+        );
+    }
+    Ok(())
+}
+
+/// Puts the configuration in. It makes room for the whole way first, so that want of memory changes nothing.
+pub fn put(nodes: &mut Vec<Node>, config: Config) -> Result<bool, InsertFault>
+    requires table { IsTable (length config) MAX_CONFIGURATIONS nodes.old.items }
+    requires filled { 0 < length nodes.old.items }
+    ensures table { IsTable (length config) MAX_CONFIGURATIONS nodes.new.items }
+    ensures held { OnOk result (held_configs nodes.new.items ≡ with_list (held_configs nodes.old.items) config) }
+    ensures is_new { IfOk result (λ is_new. IsTrue is_new ↔ (Contains (held_configs nodes.old.items) config → ⊥)) }
+    ensures full { (result ≡ Err InsertFault.TooManyConfigurations) ↔ ((length (held_configs nodes.old.items) ≡ MAX_CONFIGURATIONS) × (Contains (held_configs nodes.old.items) config → ⊥)) }
+    ensures err { OnErr result (held_configs nodes.new.items ≡ held_configs nodes.old.items) }
+{
+    let labels = config.labels().len();
+    let mut way = ArrayVec::new();
+    let gap = match gap_of(nodes.as_slice(), &config, &mut way) {
+        None => return Ok(false),
+        Some(gap) => gap,
+    };
+    if leaf_count(nodes.as_slice()) == MAX_CONFIGURATIONS {
+        return Err(InsertFault::TooManyConfigurations);
+    }
+    if let Err(_) = nodes.reserve(labels) {
+        return Err(InsertFault::NoMemory);
+    }
+    grow(nodes, config, gap, way.as_slice());
+    Ok(true)
+}
+
+/// The same node.
+pub fn copied(node: &Node) -> Node
+    ensures { result ≡ node.now }
+{
+    let kind = match &node.kind {
+        Kind::Inner { first, leaves } => Kind::Inner {
+            first: *first,
+            leaves: *leaves,
+        },
+        Kind::Leaf(config) => Kind::Leaf(config.copy()),
+    };
+    Node {
+        label: node.label,
+        next: node.next,
+        kind,
+    }
+}
+
+/// Whether the configuration is at a leaf.
+pub fn is_held(nodes: &[Node], config: &Config) -> bool
+    requires { IsPrefixTree (length config.now) nodes.now }
+    ensures { IsTrue result ↔ Contains (held_configs nodes.now) config.now }
+{
+    if nodes.is_empty() {
+        return false;
+    }
+    let mut way = ArrayVec::new();
+    match gap_of(nodes, config, &mut way) {
+        None => true,
+        Some(_) => false,
+    }
+}
+
+/// The images of the configurations, in ascending order.
+pub fn images_in_order(
+    alloc: Global,
+    nodes: &[Node],
+    images: &[u8],
+) -> Result<Vec<Config>, NoMemory>
+    requires known { AllByRecursion (AllByRecursion (λ label. label < length images.now)) (leaf_configs nodes.now) }
+    requires below { AllByRecursion (λ image. image < MAX_LABELS) images.now }
+    ensures { IfOk result (λ all. IsPermutation (map (image_of images.now) (leaf_configs nodes.now)) all.items) }
+{
+    let mut all = Vec::new(alloc);
+    for node in nodes {
+        if let Kind::Leaf(config) = &node.kind {
+            all.push(config.image(images))?;
+        }
+    }
+    all.sort()?;
+    Ok(all)
+}
+
+/// The sets without the one at this place.
+fn without(sets: &[LabelSet], place: usize) -> ArrayVec<LabelSet, 6>
+    requires place { place < length sets.now }
+    requires six { length sets.now ≤ 6 }
+    ensures { result.items ≡ remove sets.now place }
+{
+    let mut rest = ArrayVec::new();
+    for before in &sets[..place] {
+        rest.push(*before);
+    }
+    for after in &sets[place + 1..] {
+        rest.push(*after);
+    }
+    rest
+}
+
+/// Whether some configuration below the siblings from this one on draws its labels from there on from the sets, one from
+/// each. A branch is left where its label is in no set, or no branch below it draws the others.
+fn completes_from(nodes: &[Node], at: usize, sets: &[LabelSet]) -> bool
+    requires open { IsOpen nodes.now at sets.now }
+    requires six { length sets.now ≤ 6 }
+    ensures { (degree : ℕ) (key : ℕ → List ℕ) (above : List ℕ) (least : ℕ) → IsTree degree nodes.now (held_configs nodes.now) key → length above + length sets.now ≡ degree
+        → IsLink nodes.now key above least at → IsTrue result ↔ CompletesFrom (held_configs nodes.now) above least sets.now }
+{
+    if at == 0 {
+        return false;
+    }
+    let label = nodes[at].label;
+    let first = first_of(&nodes[at].kind) as usize;
+    for place in 0..sets.len() {
+        if sets[place].has(label) {
+            let rest = without(sets, place);
+            if rest.is_empty() {
+                return true;
+            }
+            if completes_from(nodes, first, rest.as_slice()) {
+                return true;
+            }
+        }
+    }
+    completes_from(nodes, nodes[at].next as usize, sets)
+}
+
+/// Whether some configuration draws its labels from the sets, one from each.
+pub fn draws_from(nodes: &[Node], sets: &[LabelSet]) -> bool
+    requires tree { IsPrefixTree (length sets.now) nodes.now }
+    requires some { 0 < length sets.now }
+    requires six { length sets.now ≤ 6 }
+    ensures { IsTrue result ↔ Completes (held_configs nodes.now) [] sets.now }
+{
+    match nodes.first() {
+        Some(root) => completes_from(nodes, first_of(&root.kind) as usize, sets),
+        None => false,
+    }
+}

@@ -29,7 +29,7 @@ one_step() {
     printf '== end\n'
 }
 
-for n in 3 4 5 6; do
+for n in 3 4 5 6 7; do
     colouring "$n" > "$folder/colours-$n.txt"
     one_step "$folder/colours-$n.txt" > "$folder/colours-$n-lower.txt"
 done

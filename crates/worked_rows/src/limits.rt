@@ -82,7 +82,7 @@ fn most_configurations(rt: HostRuntime) -> Result<(), Fail> {
             COLOURS,
             Status::Done,
             126 + 1 + 63 + 1 + 212_247,
-            "L000 = [1]\n",
+            "(L000) = [1]\n",
         ),
         ("rounds 1", COLOURS, Status::Done, 1, "more than 1\n"),
     ] {

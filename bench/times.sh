@@ -43,6 +43,10 @@ universal colours-11-edges.txt
 universal colours-12-edges.txt
 step 1 colours-12-edges.txt
 universal apart.txt
+universal all.txt
+step 1 colours-6-edges.txt
+step 1 colours-6-triples.txt
+step 1 complements.txt
 rounds 2 colours-6-edges.txt
 check colours-6-lower.txt
 read 16-labels-ascending.txt

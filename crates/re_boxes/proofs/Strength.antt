@@ -1,21 +1,17 @@
 -- The labels at least as strong as a label go up, and so does each label by itself.
 use Rattle.re_table.proofs.Strengths.{Contains-Pick, Pick-Contains}
-use Rattle.std.proofs.Common.{◌≡◌, ℕ, ◌<◌, true, false, cond, eqb, List, [], ◌∷◌, ◌++◌, refl, sym, ap, subst, inl, inr}
-use Rattle.std.specs.Prelude.{Contains}
+use Rattle.std.proofs.Common.{List, [], append_assoc, cond, eqb, false, inl, inr, refl, subst, sym, true, ℕ, ◌++◌, ◌<◌, ◌∷◌, ◌≡◌}
 use Rattle.std.specs.List.{AllZip}
 use Rattle.re_config.proofs.Placing.{Pick, Rearranged-Pick, here, picked, there}
 use Rattle.re_config.proofs.Rearranging.{Rearranged-refl, Rearranged-sym}
 use Rattle.re_config.proofs.Sorting.{Rearranged-sorted}
 use Rattle.re_config.specs.Configs.{replaced, sorted}
 use Rattle.re_config.specs.Rearranging.{Rearranged, chained, kept, swapped}
-use Rattle.re_labels.proofs.Membership.{Contains-cases, Contains-here, Contains-later, Contains-none}
 use Rattle.re_labels.proofs.Tests.{eqb-same, eqb-true}
 use Rattle.re_labels.specs.Sets.{IsIn}
 use Rattle.re_table.proofs.Goodness.{Has-Rearranged}
 use Rattle.re_table.specs.Constraints.{Constraint, Has}
 use Rattle.re_table.specs.Strength.{IsAtLeastAsStrong}
-use Rattle.re_boxes.proofs.Spread.{one_label}
-use Rattle.re_boxes.specs.Boxes.{IsStrength}
 use Rattle.re_boxes.specs.Strength.{IsAbove, StrengthLaw}
 
 -- ---- one label in place of another
@@ -50,10 +46,6 @@ module _ (constraint : Constraint) where
       (stronger_first y z a.0 two (Has-Rearranged constraint (replaced_order x y a.1) (one config held has)))
 
 -- ---- each label of a configuration in turn
-append_snoc : (p : List ℕ) (y : ℕ) (c : List ℕ) → (p ++ y ∷ []) ++ c ≡ p ++ y ∷ c
-append_snoc [] y c = refl
-append_snoc (x ∷ p) y c = ap (λ r. x ∷ r) (append_snoc p y c)
-
 -- configurations stay when one label goes up, so they stay when each does
 pub keeps_by_one : (constraint : Constraint) (ups : ℕ → List ℕ) → ((p q : List ℕ) (x y : ℕ) → IsIn y (ups x) → Has constraint (p ++ x ∷ q) → Has constraint (p ++ y ∷ q))
     → (p c e : List ℕ) → AllZip (λ x y. IsIn y (ups x)) c e → Has constraint (p ++ c) → Has constraint (p ++ e)
@@ -61,8 +53,8 @@ keeps_by_one constraint ups one p [] [] h k = k
 keeps_by_one constraint ups one p [] (y ∷ e) h k = absurd h
 keeps_by_one constraint ups one p (x ∷ c) [] h k = absurd h
 keeps_by_one constraint ups one p (x ∷ c) (y ∷ e) h k =
-    subst (Has constraint) (append_snoc p y e)
-    (keeps_by_one constraint ups one (p ++ y ∷ []) c e h.1 (subst (Has constraint) (sym (append_snoc p y c)) (one p c x y h.0 k)))
+    subst (Has constraint) (append_assoc p (y ∷ []) e)
+    (keeps_by_one constraint ups one (p ++ y ∷ []) c e h.1 (subst (Has constraint) (sym (append_assoc p (y ∷ []) c)) (one p c x y h.0 k)))
 
 pub strength_law : StrengthLaw
 strength_law constraint n ups exact = record {

@@ -4,7 +4,7 @@ use Rattle.std.specs.List.{AllByRecursion}
 use Rattle.std.proofs.lemmas.Bool.Decides.{nat_tests}
 use Rattle.std.proofs.lemmas.List.{map-append, append-nil}
 use Rattle.re_canonical.proofs.ConfigLines.{IsNamed, config_again, config_allowed, config_degree, config_feed, config_filled, config_items, config_names, config_no_degree, config_spells, config_written, name_at, relabelled}
-use Rattle.re_canonical.proofs.RunItems.{degree_digit, each_degree}
+use Rattle.re_canonical.proofs.RunItems.{degree_digit}
 use Rattle.re_canonical.proofs.StandingLines.{AllFilled, AllStand, MayStand}
 use Rattle.re_canonical.specs.CanonicalLines.{block_lines, lines_for}
 use Rattle.re_config.specs.Configs.{IsConfig, sorted}
@@ -25,6 +25,7 @@ use Rattle.re_problem.specs.NamedProblems.{OccursIn}
 use Rattle.re_problem.specs.ProblemTexts.{begins_empty, block_configs, block_degree, degree_as, degree_fault, fault_if, line_degree, line_items, names_in, spelled_in, spells}
 use Rattle.re_problem.specs.declared.fault.InputFault.TheVariants.{DegreeOutOfRange, WrongDegree}
 use Rattle.re_table.specs.Constraints.{Constraint, IsConstraint}
+use Rattle.re_labels.proofs.Places.{each_degree}
 
 -- the names that stand on the lines
 abbrev pub written_names : List (List ℕ) → List (List ℕ)

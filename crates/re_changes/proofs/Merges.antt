@@ -1,25 +1,25 @@
 -- Merges one after another: what they make is a relaxation of the first problem.
-use Rattle.std.proofs.Common.{◌≡◌, ℕ, zero, suc, ◌+◌, ◌<◌, ◌≤◌, Bool, true, false, cond, List, [], ◌∷◌, length, map, get_or, flat_map, Option, None, Some, refl, sym, ap, ◌∙◌, subst, arith, inl, inr, ◌-◌}
+use Rattle.std.proofs.Common.{◌≡◌, ℕ, zero, suc, ◌+◌, ◌<◌, true, cond, List, [], length, map, get_or, None, Some, refl, sym, ap, ◌∙◌, subst, arith, inl, inr, ◌-◌}
 use Rattle.std.specs.Prelude.{Contains, option_and_then}
-use Rattle.std.proofs.lemmas.List.{get_or-map, map-id}
-use Rattle.re_config.proofs.Sorting.{sorted_again, sorted_map}
-use Rattle.re_config.specs.Configs.{IsConfig, image_at, sorted}
-use Rattle.re_labels.proofs.Membership.{AllByRecursion-contains, Contains-In, In, In-Contains, In-flat_map_from, In-map_from, count_from_range, get_or-count_from, length-count_from, length-map'}
+use Rattle.std.proofs.lemmas.List.{get_or-map}
+use Rattle.re_config.proofs.Sorting.{sorted_map}
+use Rattle.re_config.specs.Configs.{image_at, sorted}
+use Rattle.re_labels.proofs.Membership.{In, In-Contains, In-flat_map_from, In-map_from, count_from_range, get_or-count_from, length-count_from, length-map'}
 use Rattle.re_labels.proofs.Sets.{IsIn-has}
 use Rattle.re_labels.specs.Lists.{count_from}
 use Rattle.re_labels.specs.Sets.{has}
-use Rattle.re_problem.proofs.StepLaws.{map-map}
+use Rattle.re_problem.proofs.StepLaws.{IsRelaxed-itself, map-map}
 use Rattle.re_problem.specs.NamedProblems.{NamedProblem, unnamed}
 use Rattle.re_problem.specs.Problems.{IsProblem, Problem}
 use Rattle.re_problem.specs.Steps.{IsRelaxed}
-use Rattle.re_table.specs.Constraints.{Constraint, Has, IsConstraint}
+use Rattle.re_table.specs.Constraints.{Constraint, Has}
 use Rattle.re_changes.proofs.Numbering.{at_number}
 use Rattle.re_changes.proofs.OneChange.{IsLabelSet-staying, IsProblem-after, below-counted, merge-stays, new_number}
-use Rattle.re_table.proofs.ConstraintImages.{config-below, image-held}
-use Rattle.re_changes.specs.Changes.{Changed, IsChange, after, all_changed, all_changes, all_merges, becomes, changed_by, changed_times, goes_to, new_numbers, staying, unchanged}
+use Rattle.re_table.proofs.ConstraintImages.{image-held}
+use Rattle.re_changes.specs.Changes.{Changed, after, all_changed, all_merges, becomes, changed_by, changed_times, goes_to, new_numbers, staying, unchanged}
 use Rattle.re_changes.specs.Renumbering.{number_among}
 use Rattle.re_changes.specs.declared.change.Change.{Change}
-use Rattle.re_changes.specs.declared.change.Change.TheVariants.{LeaveOut, Merge}
+use Rattle.re_changes.specs.declared.change.Change.TheVariants.{Merge}
 
 -- ---- relaxations
 -- a relaxation of a relaxation
@@ -33,20 +33,6 @@ IsRelaxed-trans problem middle next f g one two = record {
   where
     through : (constraint : Constraint) (config : List ℕ) → Has constraint (map g (sorted (map f config))) → Has constraint (map (λ x. g (f x)) config)
     through constraint config held = subst (λ c. Contains constraint.configs c) (sorted_map g (map f config) ∙ ap sorted (map-map g f config)) held
-
--- a problem is a relaxation of itself
-pub IsRelaxed-same : (problem : Problem) → IsProblem problem → IsRelaxed problem problem (λ x. x)
-IsRelaxed-same problem is = record {
-  active_degree = refl;
-  passive_degree = refl;
-  active = itself problem.active is.active;
-  passive = itself problem.passive is.passive;
-}
-  where
-    itself : (constraint : Constraint) → IsConstraint problem.labels constraint → (config : List ℕ) → Contains constraint.configs config → Has constraint (map (λ x. x) config)
-    itself constraint is config held =
-        let ascending : sorted config ≡ config = sorted_again config (AllByRecursion-contains (IsConfig constraint.degree problem.labels) constraint.configs config is.configs held).ascends in
-        rw (map-id config, ascending) held
 
 -- ---- one merge
 pub merge-relaxed : (x y : ℕ) (named : NamedProblem) → IsRelaxed (unnamed named) (unnamed (after (Merge x y) named)) (image_at (new_numbers (Merge x y) named))
@@ -90,7 +76,7 @@ IsMerged-unchanged named is = record {
       let z : 0 + label ≡ label = omega arith in
       get_or-map (λ (label : ℕ). Some label) (count_from 0 (length named.names)) label 0 None m ∙ ap Some (get_or-count_from 0 (length named.names) label 0 l ∙ z);
   below = λ label l. l;
-  relaxed = IsRelaxed-same (unnamed named) is;
+  relaxed = IsRelaxed-itself (unnamed named) is;
 }
 
 pub IsMerged-merge : (named : NamedProblem) (made : Changed) (x y : ℕ) → IsMerged named made → x < y → y < length made.problem.names → IsMerged named (changed_by (Merge x y) made)

@@ -1,30 +1,27 @@
 -- What one change does: the labels that stay, the new numbers, the problem that it makes.
-use Rattle.std.proofs.Common.{◌≡◌, ℕ, zero, suc, ◌+◌, ◌<◌, ◌≤◌, Bool, true, false, cond, not, ◌||◌, eqb, ltb, List, [], ◌∷◌, length, map, get_or, None, Some, ◌⊎◌, inl, inr, refl, sym, ap, ◌∙◌, subst, arith}
-use Rattle.std.specs.Prelude.{Contains, filter}
+use Rattle.std.proofs.Common.{◌≡◌, ℕ, ◌+◌, ◌<◌, ◌≤◌, Bool, true, false, cond, not, ◌||◌, eqb, List, length, map, Some, ◌⊎◌, inl, inr, refl, sym, ap, ◌∙◌, subst, arith}
+use Rattle.std.specs.Prelude.{filter}
 use Rattle.std.specs.List.{AllByRecursion}
 use Rattle.std.proofs.lemmas.Bool.{false≢true}
-use Rattle.std.proofs.lemmas.Bool.Decides.{nat_tests}
 use Rattle.std.proofs.lemmas.List.{get_or-map}
-use Rattle.re_config.specs.Configs.{IsConfig, image_at}
-use Rattle.re_labels.proofs.Before.{IsBefore-trans}
-use Rattle.re_labels.proofs.Membership.{AllByRecursion-In, AllByRecursion-from_In, Contains-In, In, In-Contains, In-filter, In-filter_from, In-map_from, count_from_range, Contains-count_from, get_or-count_from, length-count_from, any-In}
+use Rattle.re_config.specs.Configs.{image_at}
+use Rattle.re_labels.proofs.Membership.{AllByRecursion-from_In, Contains-In, In, In-Contains, In-filter, In-filter_from, In-map_from, count_from_range, Contains-count_from, get_or-count_from, length-count_from, any-In}
 use Rattle.re_labels.proofs.Numbers.{IsLabelSet-count_from, IsLabelSet-filter}
-use Rattle.re_labels.proofs.Rising.{rising-filter}
-use Rattle.re_labels.proofs.Sets.{IsIn-has, has-IsIn}
-use Rattle.re_labels.proofs.Tests.{eqb-apart, eqb-same, eqb-true, or-left, or-right, or-true}
-use Rattle.re_labels.specs.Lists.{IsBefore, count_from}
+use Rattle.re_labels.proofs.Sets.{IsIn-has}
+use Rattle.re_labels.proofs.Tests.{eqb-apart, eqb-true, or-left, or-right, or-true}
+use Rattle.re_labels.specs.Lists.{count_from}
 use Rattle.re_labels.specs.Sets.{IsLabelSet, has}
-use Rattle.re_problem.proofs.Building.{fact-occurs, occurs-fact}
+use Rattle.re_problem.proofs.Building.{occurs-fact}
 use Rattle.re_problem.specs.NamedProblems.{IsNamedProblem, NamedProblem, OccursIn, built, occurs, unnamed}
 use Rattle.re_problem.specs.Problems.{IsProblem}
-use Rattle.re_table.specs.Constraints.{Constraint, IsConstraint}
+use Rattle.re_table.specs.Constraints.{Constraint}
 use Rattle.re_table.specs.Strength.{constraint_without}
 use Rattle.re_config.proofs.LeastLabels.{length-set}
 use Rattle.re_changes.proofs.Counted.{length-map_counted}
 use Rattle.re_changes.proofs.Numbering.{at_number, number-low, renumbered-built}
 use Rattle.re_changes.proofs.RenumberedProblems.{IsBuilt, IsProblem-renumbered, built-along}
-use Rattle.re_table.proofs.ConstraintImages.{config-below}
-use Rattle.re_changes.specs.Changes.{IsChange, after, goes_to, kept, new_numbers, staying, used, without}
+use Rattle.re_table.proofs.ConstraintImages.{IsConstraint-without, config-below}
+use Rattle.re_changes.specs.Changes.{IsChange, after, goes_to, kept, new_numbers, staying, without}
 use Rattle.re_changes.specs.Renumbering.{number_among, renumbered}
 use Rattle.re_changes.specs.declared.change.Change.{Change}
 use Rattle.re_changes.specs.declared.change.Change.TheVariants.{LeaveOut, Merge}
@@ -74,15 +71,6 @@ stays-itself (LeaveOut x) named label i =
     (below-counted (length named.names) label (In-filter_from (λ label. occurs (constraint_without x named.active) label || occurs (constraint_without x named.passive) label) label (count_from 0 (length named.names)) i).0, refl)
 
 -- ---- problems without a label
-IsConstraint-without : (constraint : Constraint) (n a : ℕ) → IsConstraint n constraint → IsConstraint n (constraint_without a constraint)
-IsConstraint-without constraint n a is = record {
-  least = is.least;
-  most = is.most;
-  configs = AllByRecursion-from_In (IsConfig constraint.degree n) (filter (λ config. not (has config a)) constraint.configs)
-      (λ config i. AllByRecursion-In (IsConfig constraint.degree n) constraint.configs config is.configs (In-filter_from (λ config. not (has config a)) config constraint.configs i).0);
-  ascends = rising-filter IsBefore IsBefore-trans (λ config. not (has config a)) constraint.configs is.ascends;
-}
-
 pub IsProblem-kept : (change : Change) (named : NamedProblem) → IsProblem (unnamed named) → IsProblem (unnamed (kept change named))
 IsProblem-kept (Merge x y) named is = is
 IsProblem-kept (LeaveOut x) named is = record {

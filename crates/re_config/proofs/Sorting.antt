@@ -112,7 +112,7 @@ times x (y ∷ ys) = cond (eqb y x) 1 0 + times x ys
 times-sum : (x : ℕ) (xs : List ℕ) → times x xs ≡ sum_by (λ y. cond (eqb y x) 1 0) xs
 times-sum x xs = is_sum_by (times x) (λ y. cond (eqb y x) 1 0) refl (λ _ _. refl) xs
 
-times-Perm : (x : ℕ) {xs ys : List ℕ} → Rearranged xs ys → times x xs ≡ times x ys
+pub times-Perm : (x : ℕ) {xs ys : List ℕ} → Rearranged xs ys → times x xs ≡ times x ys
 times-Perm x unmoved = refl
 times-Perm x (kept {x = y} p) = ap (λ m. cond (eqb y x) 1 0 + m) (times-Perm x p)
 times-Perm x (swapped {x = y} {y = z} {xs = xs}) = omega arith

@@ -1,6 +1,6 @@
 //! Problems whose equal labels are merged.
 ghost use Rattle.re_diagram.specs.Classes.{least_equal, strong_by};
-ghost use Rattle.re_diagram.specs.Merging.{merge_map, merged_of};
+ghost use Rattle.re_diagram.specs.Merging.{merging_of};
 ghost use Rattle.re_changes.specs.Renumbering.{number_among};
 ghost use Rattle.re_labels.specs.Lists.{count_from};
 ghost use Rattle.re_labels.specs.Sets.{meet};
@@ -49,8 +49,7 @@ fn merge_map(covers: &[LabelSet], stay: &[u8]) -> ArrayVec<u8, 128>
 /// to the new number of the one that stays. It is solvable in as many rounds as before. It finds all up-sets of each constraint
 /// at once, in one walk over the rests of its configurations, and sorts the images of all configurations.
 pub fn merge(alloc: Global, problem: &Problem) -> Result<Merged, NoMemory>
-    ensures problem { IfOk result (λ merged. merged.problem ≡ merged_of problem.now) }
-    ensures map { IfOk result (λ merged. merged.map ≡ merge_map problem.now) }
+    ensures merged { IfOk result (λ merged. merged ≡ merging_of problem.now) }
     ensures rounds { IfOk result (λ merged. (T : ℕ) → Solvable (unnamed merged.problem) T ↔ Solvable (unnamed problem.now) T) }
 {
     let covers = cover_sets(problem);

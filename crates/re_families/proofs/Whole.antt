@@ -1,7 +1,7 @@
 -- The problems of the families are problems.
 use Rattle.std.proofs.Common.{◌≡◌, ℕ, zero, suc, ◌<◌, ◌≤◌, Bool, true, false, cond, eqb, ltb, List, [], ◌∷◌, length, filter, replicate, refl, ap, ◌∙◌, inl, arith, None, Some}
 use Rattle.std.specs.Prelude.{not, ◌&&◌}
-use Rattle.std.specs.List.{AllByRecursion, list_all}
+use Rattle.std.specs.List.{list_all}
 use Rattle.std.proofs.lemmas.List.{length-replicate}
 use Rattle.std.proofs.lemmas.Bool.{le-ltb, leb-true}
 use Rattle.re_config.proofs.LawsOfRows.{multisets_law}
@@ -22,6 +22,8 @@ use Rattle.re_table.specs.Constraints.{Constraint, IsConstraint}
 use Rattle.re_families.specs.Families.{Rules, are_equal, colour_name, colouring, constraint_of, family_of, independent_set, is_degree, matching, number_fits, orientation, out_of_range, passive_fits, rule, rules_of}
 use Rattle.re_families.specs.declared.types.Family.{Family}
 use Rattle.re_families.specs.declared.types.Family.TheVariants.{Colouring, Matching, Mis, Orientation}
+use Rattle.re_config.proofs.NextMultisets.{below-replicate}
+use Rattle.re_labels.proofs.Places.{each_degree}
 
 -- ---- constraints
 made_constraint : (rules : Rules) (side : Side) (degree : ℕ) → 2 ≤ degree → degree ≤ 6 → IsConstraint (length rules.names) (constraint_of rules side degree)
@@ -37,10 +39,6 @@ made_constraint rules side degree two six =
     }
 
 -- ---- each label stands around some active node
-alike_below : (d x n : ℕ) → x < n → AllByRecursion (λ y. y < n) (replicate d x)
-alike_below zero x n l = tt
-alike_below (suc d) x n l = (l, alike_below d x n l)
-
 alike_rise : (d x : ℕ) → IsRising (λ x y. x ≤ y) (replicate d x)
 alike_rise zero x = tt
 alike_rise (suc zero) x = tt
@@ -63,19 +61,9 @@ colour_there : (colours degree colour : ℕ) → 2 ≤ degree → colour < lengt
 colour_there colours (suc degree) colour two l =
     let config = replicate (suc degree) colour in
     let n = length (colouring colours).names in
-    let is : IsConfig (suc degree) n config = record { count = length-replicate (suc degree) colour; below = alike_below (suc degree) colour n l; ascends = alike_rise (suc degree) colour } in
+    let is : IsConfig (suc degree) n config = record { count = length-replicate (suc degree) colour; below = below-replicate (suc degree) colour n l; ascends = alike_rise (suc degree) colour } in
     (config, Contains-filter are_equal (multisets (suc degree) 0 n) config (((multisets_law (suc degree) n).1 config).1 is) (alike_equal (suc degree) colour two), Contains-here colour (replicate degree colour))
 colour_there colours zero colour two l = absurd (omega arith)
-
-by_degree : (P : ℕ → Type 0) → P 2 → P 3 → P 4 → P 5 → P 6 → (degree : ℕ) → 2 ≤ degree → degree ≤ 6 → P degree
-by_degree P two three four five six zero l m = absurd (omega arith)
-by_degree P two three four five six (suc zero) l m = absurd (omega arith)
-by_degree P two three four five six (suc (suc zero)) l m = two
-by_degree P two three four five six (suc (suc (suc zero))) l m = three
-by_degree P two three four five six (suc (suc (suc (suc zero)))) l m = four
-by_degree P two three four five six (suc (suc (suc (suc (suc zero))))) l m = five
-by_degree P two three four five six (suc (suc (suc (suc (suc (suc zero)))))) l m = six
-by_degree P two three four five six (suc (suc (suc (suc (suc (suc (suc degree))))))) l m = absurd (omega arith)
 
 -- whether each label does
 abbrev are_there : Rules → ℕ → Bool
@@ -84,11 +72,11 @@ are_there rules degree = list_all (occurs (constraint_of rules Active degree)) (
 label_there : (kind : Family) (number degree label : ℕ) → 2 ≤ degree → degree ≤ 6 → label < length (rules_of kind number).names → OccursIn (constraint_of (rules_of kind number) Active degree) label
 label_there Colouring number degree label two six l = colour_there number degree label two l
 label_there Matching number degree label two six l =
-    occurs-fact (constraint_of matching Active degree) label (counted_all (occurs (constraint_of matching Active degree)) 2 label (by_degree (λ d. are_there matching d ≡ true) refl refl refl refl refl degree two six) l)
+    occurs-fact (constraint_of matching Active degree) label (counted_all (occurs (constraint_of matching Active degree)) 2 label (each_degree (λ d. are_there matching d ≡ true) refl refl refl refl refl degree two six) l)
 label_there Orientation number degree label two six l =
-    occurs-fact (constraint_of orientation Active degree) label (counted_all (occurs (constraint_of orientation Active degree)) 2 label (by_degree (λ d. are_there orientation d ≡ true) refl refl refl refl refl degree two six) l)
+    occurs-fact (constraint_of orientation Active degree) label (counted_all (occurs (constraint_of orientation Active degree)) 2 label (each_degree (λ d. are_there orientation d ≡ true) refl refl refl refl refl degree two six) l)
 label_there Mis number degree label two six l =
-    occurs-fact (constraint_of independent_set Active degree) label (counted_all (occurs (constraint_of independent_set Active degree)) 3 label (by_degree (λ d. are_there independent_set d ≡ true) refl refl refl refl refl degree two six) l)
+    occurs-fact (constraint_of independent_set Active degree) label (counted_all (occurs (constraint_of independent_set Active degree)) 3 label (each_degree (λ d. are_there independent_set d ≡ true) refl refl refl refl refl degree two six) l)
 
 -- ---- parameters
 pub record AreInRange (active passive number : ℕ) : Type 0 where
@@ -107,7 +95,7 @@ passive_range Colouring passive h = degree_range passive h
 passive_range Matching passive h = degree_range passive h
 passive_range Orientation passive h = degree_range passive h
 
-number_range : (kind : Family) (number : ℕ) → number_fits kind number ≡ true → number ≤ 16
+pub number_range : (kind : Family) (number : ℕ) → number_fits kind number ≡ true → number ≤ 16
 number_range Colouring number h = leb-true number 16 (and-true _ _ h).1
 number_range Matching number h = let e = eqb-true number 0 h in omega arith
 number_range Orientation number h = let e = eqb-true number 0 h in omega arith

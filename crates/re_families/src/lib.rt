@@ -1,8 +1,6 @@
 //! Problems of the field that have names: colourings, matchings, orientations, independent sets that can't be larger.
 #![tactic(auto)]
 
-#[cfg(test)]
-mod family_tests;
 mod making;
 mod naming;
 mod types;

@@ -2,8 +2,6 @@
 #![tactic(auto)]
 
 mod label_set;
-#[cfg(test)]
-mod label_tests;
 mod laws;
 mod memory;
 mod name_list;

@@ -1,7 +1,7 @@
 -- What the steps of the test of fullness do.
 use Rattle.re_labels.proofs.Membership.{all-append}
 use Rattle.re_labels.proofs.Tests.{and_assoc, and-whole}
-use Rattle.std.proofs.Common.{◌≡◌, ◌≢◌, ℕ, ◌+◌, Bool, true, false, not, eqb, ◌&&◌, List, [], ◌∷◌, ◌++◌, length, Some, None, refl, sym, ◌∙◌, ap, arith, length-append}
+use Rattle.std.proofs.Common.{◌≡◌, ◌≢◌, ℕ, ◌+◌, Bool, true, false, not, eqb, ◌&&◌, [], ◌∷◌, length, Some, None, sym, ◌∙◌, ap, arith, length-append}
 use Rattle.std.specs.Prelude.{filter}
 use Rattle.std.specs.List.{list_all}
 use Rattle.std.proofs.lemmas.Bool.{eq-eqb}

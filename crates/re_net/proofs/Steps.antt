@@ -8,7 +8,7 @@ use Rattle.std.specs.declared.cmp.Ordering.{Ordering}
 use Rattle.std.specs.declared.cmp.Ordering.TheVariants.{Less, Equal, Greater}
 use Rattle.std.proofs.lemmas.Bool.{eq-eqb, cases_lt}
 use Rattle.std.proofs.lemmas.Bool.Decides.{eqb_tells, nat_tests}
-use Rattle.std.proofs.lemmas.List.{get_or_append_left, append-nil}
+use Rattle.std.proofs.lemmas.List.{append-nil, get_or_append_left, get_or_default}
 use Rattle.std.proofs.lemmas.List.Elements.{filter_map-append}
 use Rattle.std.proofs.Math.Seq.{get_or-append_seam}
 use Rattle.re_labels.specs.Lists.{count_from}
@@ -227,14 +227,9 @@ moved tree bound delivered start pool next v history id is_tree numbered moving 
     }
 
 -- ---- the contents that are read
-get_or-any : {X : Type 0} (xs : List X) (i : ℕ) (a b : X) → i < length xs → get_or xs i a ≡ get_or xs i b
-get_or-any [] i a b l = absurd (omega arith)
-get_or-any (x ∷ xs) zero a b l = refl
-get_or-any (x ∷ xs) (suc i) a b l = get_or-any xs i a b (omega arith)
-
 -- the history that is read
 pub read_history : (tree : FiniteTree) (pool : List Shape) (histories : List (List ℕ)) (v : ℕ) (history : List ℕ) → AreHistories tree pool histories → v < node_count tree → history ≡ get_or histories v history → history ≡ get_or histories v []
-read_history tree pool histories v history are node is = (let count = are.count in is ∙ get_or-any histories v history [] (omega arith))
+read_history tree pool histories v history are node is = (let count = are.count in is ∙ get_or_default histories v history [] (omega arith))
 
 -- the view that is read
 pub read_view : (tree : FiniteTree) (start here : List Shape) (histories : List (List ℕ)) (v r : ℕ) (history : List ℕ) (id : ℕ) → AreHistories tree start histories → v < node_count tree → history ≡ get_or histories v [] → r < length history → id ≡ get_or history r 0 → Keeps start here → IsViewOf tree here v r id

@@ -6,6 +6,7 @@ ghost use Rattle.re_pool.specs.Pools.{Keeps, tree_at};
 ghost use Rattle.std.specs.List.Sorted.{IsStrictlySortedBy};
 ghost use Rattle.std.specs.Prelude.{◌≡◌, ◌≤◌, ◌<◌, [], IfOk, IsSome, OnErr, OnOk, length, slice_index_or, ℕ};
 
+use crate::deliveries::Deliveries;
 use crate::history::History;
 use crate::messages::Message;
 use crate::moving::advanced;
@@ -13,7 +14,6 @@ use crate::trees::Tree;
 use re_labels::NoMemory;
 use re_pool::{NodeId, Pool, Shape};
 use std::alloc::Global;
-use std::collections::BTreeSet;
 use std::marker::Model;
 
 /// A finite tree whose nodes pass messages over its edges. One delivery of one message is the step, and each node stands at the round
@@ -23,19 +23,20 @@ use std::marker::Model;
 pub struct Net {
     tree: Tree,
     bound: u8,
-    delivered: BTreeSet<Message>,
+    delivered: Deliveries,
     pub(crate) pool: Pool,
     histories: Vec<History>,
 }
 
 impl Model for Net {
-    ghost use Rattle.re_net.specs.Nets.{IsNet, NetState};
+    ghost use Rattle.re_net.specs.Marks.{IsHeldNet};
+    ghost use Rattle.re_net.specs.Nets.{NetState};
 
     ghost Value = { NetState };
 
-    ghost view = { λ n. record { tree = n.tree; bound = n.bound; delivered = n.delivered.keys; pool = n.pool } };
+    ghost view = { λ n. record { tree = n.tree; bound = n.bound; delivered = n.delivered.messages; pool = n.pool } };
 
-    ghost invariant = { λ n. IsNet (record { tree = n.tree; bound = n.bound; delivered = n.delivered.keys; pool = n.pool }) n.histories.items };
+    ghost invariant = { λ n. IsHeldNet (record { tree = n.tree; bound = n.bound; delivered = n.delivered.messages; pool = n.pool }) n.delivered n.histories.items };
 }
 
 // The history of round 0 for each node: the view that shows nothing.
@@ -58,12 +59,12 @@ fn starting_histories(
     alloc: Global,
     tree: &Tree,
     bound: u8,
-    delivered: &BTreeSet<Message>,
+    delivered: &Deliveries,
     pool: &mut Pool,
 ) -> Result<Vec<History>, NoMemory>
     requires numbered { IsNumbered tree.now }
     requires few { bound ≤ 64 }
-    requires none { delivered.now.keys ≡ [] }
+    requires none { delivered.now.messages ≡ [] }
     ensures { IfOk result (λ histories. IsNet (record { tree = tree.now; bound = bound; delivered = []; pool = pool.new }) histories.items) }
 {
     let first = first_histories(alloc, tree, pool)?;
@@ -77,7 +78,11 @@ fn starting_histories(
 
 impl Net {
     /// The net of a numbered tree in which nothing is delivered. Each node stands at round 0, or at the bound where it has no neighbour. The
-    /// bound is at most 64. It looks at the ports of each node.
+    /// bound is at most 64.
+    ///
+    /// It looks at the ports of each node. For the messages it takes as many bytes as there are nodes, times the bound: in a tree of two nodes
+    /// a byte for each message that there can be, in a large one half a byte. NoMemory comes where there was none for these, for a node's
+    /// list of views or for the pool.
     pub fn new(alloc: Global, tree: Tree, bound: u8) -> Result<Net, NoMemory>
         requires numbered { IsNumbered tree }
         requires few { bound ≤ 64 }
@@ -86,7 +91,7 @@ impl Net {
         ensures delivered { IfOk result (λ net. net.delivered ≡ []) }
     {
         let mut pool = Pool::new(alloc);
-        let delivered = BTreeSet::new(alloc);
+        let delivered = Deliveries::new(alloc, tree.len(), bound)?;
         let histories = starting_histories(alloc, &tree, bound, &delivered, &mut pool)?;
         Ok(Net {
             tree,
@@ -141,21 +146,21 @@ impl Net {
         history.at(history.len() - 1)
     }
 
-    /// Whether message number `number` of node `from` over its port is delivered. It costs one look-up among the messages delivered.
+    /// Whether message number `number` of node `from` over its port is delivered. It costs one look at a byte.
     pub fn delivered(&self, from: u32, port: u8, number: u8) -> bool
         ensures delivered { result ≡ is_delivered self.now.delivered from port number }
         ensures ordered { IsStrictlySortedBy message_cmp self.now.delivered }
     {
-        self.delivered.contains(&Message { from, port, number })
+        self.delivered.contains(Message { from, port, number })
     }
 
     /// Delivers a message of a node over one of its ports, with a number below the bound and at most the node's round. The neighbour there
     /// then moves on as far as it has heard. A message that was delivered before changes nothing. After an error rounds, views and the
     /// messages delivered are the same.
     ///
-    /// It costs a look-up among the messages delivered for each port of that neighbour, and as many look-ups and nodes of the pool for each
-    /// round by which it moves on, and a copy of the numbers of its views, at most 65. A message delivered is held as 8 bytes of an ordered
-    /// set.
+    /// It costs a look at one byte for each port of that neighbour, as many looks and nodes of the pool for each round by which it moves on,
+    /// and a copy of the numbers of its views, at most 65. The message itself is one bit that `new` made room for, so NoMemory comes only
+    /// where there was none for this copy or for the pool.
     pub fn deliver(&mut self, from: u32, port: u8, number: u8) -> Result<(), NoMemory>
         requires node { from < node_count self.old.tree }
         requires port { IsSome (neighbour self.old.tree from port) }
@@ -172,7 +177,7 @@ impl Net {
             Some(one) => one.node,
             None => unreachable!(),
         };
-        let is_new = self.delivered.insert(message)?;
+        let is_new = self.delivered.insert(message);
         match advanced(
             &self.tree,
             self.bound,
@@ -187,7 +192,7 @@ impl Net {
             }
             Err(fault) => {
                 if is_new {
-                    self.delivered.remove(&message);
+                    self.delivered.remove(message);
                 }
                 Err(fault)
             }

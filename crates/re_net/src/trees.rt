@@ -103,6 +103,7 @@ impl Tree {
         requires { node < node_count self.now }
         ensures over { result ≡ neighbour self.now node port }
         ensures node { IfSome result (λ one. one.node < node_count self.now) }
+        ensures port { IfSome result (λ _. (1 ≤ port) × (port ≤ 6)) }
     {
         let here = &self.nodes[node as usize];
         if port == 0 || port > 6 {

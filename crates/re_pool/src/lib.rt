@@ -6,8 +6,6 @@ mod placing;
 mod pool;
 mod rule;
 mod shape;
-#[cfg(test)]
-mod tests;
 mod turning;
 
 pub use laws::{keep_law, narrow_law, pool_law};

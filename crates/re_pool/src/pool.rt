@@ -45,8 +45,8 @@ impl Pool {
         self.shapes.len()
     }
 
-    // What it allocates with.
-    pub(crate) fn alloc(&self) -> Global {
+    /// What it allocates with.
+    pub fn alloc(&self) -> Global {
         *self.shapes.allocator()
     }
 

@@ -2,15 +2,14 @@
 use Rattle.re_strength.proofs.LabelsAbove.{ltb_not}
 use Rattle.re_problem.proofs.ZeroPlaces.{get-Contains}
 use Rattle.re_config.proofs.Rows.{number_filled}
-use Rattle.std.proofs.Common.{◌≡◌, ℕ, zero, suc, ◌<◌, ◌≤◌, ◌^◌, Bool, true, false, cond, ltb, List, [], ◌∷◌, length, map, flat_map, get_or, Contains, Option, None, Some, is_some, inl, refl, sym, ap, ◌∙◌, subst, arith}
+use Rattle.std.proofs.Common.{◌≡◌, ℕ, zero, suc, ◌<◌, ◌≤◌, Bool, false, cond, ltb, List, [], ◌∷◌, length, map, flat_map, get_or, Contains, Option, None, Some, is_some, inl, refl, sym, ap, ◌∙◌, subst, arith}
 use Rattle.std.specs.List.{AllByRecursion}
 use Rattle.std.specs.Prelude.{MatchOption}
-use Rattle.std.proofs.lemmas.Bool.{false≢true, lt-ltb, ltb-true}
-use Rattle.std.proofs.lemmas.Nat.{pow_pos}
+use Rattle.std.proofs.lemmas.Bool.{false≢true}
 use Rattle.re_config.proofs.Sorting.{sorted_again}
 use Rattle.re_config.specs.Configs.{IsConfig, sorted}
 use Rattle.re_labels.proofs.ListSets.{In-list_set, list_set-In, one_set, rising-list_set}
-use Rattle.re_labels.proofs.Membership.{AllByRecursion-contains, AllByRecursion-from_contains, AllByRecursion-weaker, Contains-flat_map, Contains-flat_map_cases, Contains-here, Contains-later, Contains-map, map-alike}
+use Rattle.re_labels.proofs.Membership.{AllByRecursion-contains, AllByRecursion-from_contains, AllByRecursion-weaker, Contains-flat_map, Contains-flat_map_cases, Contains-map, map-alike}
 use Rattle.re_labels.proofs.Before.{same_list-refl}
 use Rattle.re_labels.specs.Lists.{IsRising, place_of, same_list}
 use Rattle.re_labels.specs.ListSets.{list_set}
@@ -24,11 +23,12 @@ use Rattle.re_table.proofs.MaxSets.{max_sets-from, max_sets-row, maximal, rising
 use Rattle.re_table.specs.Constraints.{Constraint, IsConstraint}
 use Rattle.re_table.specs.GoodRows.{max_rows, max_sets}
 use Rattle.re_step.proofs.NameLemmas.{IsNames-label_names, length-label_names}
-use Rattle.re_step.proofs.SetLemmas.{few_in_rows, least_first, not_same, rest_rises, same_sets}
+use Rattle.re_step.proofs.SetLemmas.{few_in_rows, least_first, rest_rises, same_sets}
 use Rattle.re_step.specs.Derivations.{named_derived, step_limit}
 use Rattle.re_step.specs.LabelNames.{label_names}
 use Rattle.re_step.specs.declared.derivation.StepLimit.{StepLimit}
 use Rattle.re_step.specs.declared.derivation.StepLimit.TheVariants.{Configurations, Labels, Rows}
+use Rattle.re_labels.proofs.Numbers.{not_same}
 
 -- ---- the sets of the maximal rows
 set_is : (K : Constraint) (n : ℕ) (row : List (List ℕ)) → Contains (max_rows K n) row → (set : List ℕ) → Contains row set → IsLabelSet n set × (0 < length set)

@@ -3,7 +3,7 @@ ghost use Rattle.re_strength.specs.Sets.{AreSets};
 ghost use Rattle.re_table.specs.GoodRows.{IsDominated};
 ghost use Rattle.std.specs.Prelude.{◌≡◌, ◌≤◌, ◌<◌, ◌+◌, ◌↔◌, ℕ, List, Contains, IsTrue, length, true};
 
-use crate::choosing::picked;
+use crate::choosing::least_of;
 use crate::holding::{has_top, large_first, row_holds};
 use arrayvec::ArrayVec;
 use re_config::Row;
@@ -18,6 +18,9 @@ const MARKS: usize = 768;
 // How many blocks there may be.
 const BLOCKS: usize = 9;
 
+// Up to how many rows are compared one by one.
+const FEW: usize = 8;
+
 /// The rows of a list by the labels of their sets, so that a search meets many rows at once. The rows stand in blocks of 128; a
 /// block has, for each place and each label, the numbers within it of the rows that have the label at the place. It holds the
 /// first 1,152 rows, and takes no memory.
@@ -31,7 +34,7 @@ pub struct RowIndex {
 fn having(marks: &[LabelSet], start: usize, labels: LabelSet, found: LabelSet) -> LabelSet
     requires { start + 128 ≤ length marks.now }
 {
-    let Some(label) = picked(labels, LabelSet::empty(), &[]) else {
+    let Some(label) = least_of(labels) else {
         return found;
     };
     let more = found.meet(marks[start + label as usize]);
@@ -73,7 +76,7 @@ fn mark(marks: &mut ArrayVec<LabelSet, 6912>, start: usize, number: u8, labels: 
     requires start { start ≤ 8000 }
     requires number { number < 128 }
 {
-    let Some(label) = picked(labels, LabelSet::empty(), &[]) else {
+    let Some(label) = least_of(labels) else {
         return;
     };
     let place = start + label as usize;
@@ -128,13 +131,29 @@ impl RowIndex {
     }
 }
 
-/// Whether a row of the list is seen to dominate the sets: true only where one does. The index names a row that does, and it
-/// alone is compared with the sets. Of the sets, those with many labels are looked for first. With m rows of d sets that is
+// Whether one of the rows is seen to dominate the sets, each row asked in turn.
+fn some_row_holds(rows: &[Row], sets: &[LabelSet]) -> bool
+    requires { length sets.now ≤ 6 }
+    ensures { result ≡ true → IsDominated rows.now sets.now }
+{
+    for row in 0..rows.len() {
+        if row_holds(rows, row, sets) {
+            return true;
+        }
+    }
+    false
+}
+
+/// Whether a row of the list is seen to dominate the sets: true only where one does. Up to eight rows are compared with the sets
+/// one by one. Of more rows the index names one that dominates them, and it alone is compared. Of the sets, those with many labels are looked for first. With m rows of d sets that is
 /// m / 128 steps for each label and place, and few of them where no row has the first set.
 pub fn is_seen_dominated(rows: &[Row], lookup: &RowIndex, sets: &[LabelSet]) -> bool
     requires { length sets.now ≤ 6 }
     ensures { result ≡ true → IsDominated rows.now sets.now }
 {
+    if rows.len() <= FEW {
+        return some_row_holds(rows, sets);
+    }
     let hard = large_first(sets);
     let places = 63u8 >> (6 - hard.len());
     let all = LabelSet::of_number(u128::MAX);

@@ -1,13 +1,18 @@
 -- The images of the configurations of a constraint, and the way back from them.
-use Rattle.std.proofs.Common.{◌≡◌, ℕ, ◌<◌, List, map, length, sym, ap, ◌∙◌, subst}
+use Rattle.std.proofs.Common.{List, ap, map, not, subst, sym, ℕ, ◌<◌, ◌==◌, ◌∙◌, ◌≡◌}
 use Rattle.std.specs.Prelude.{Contains}
-use Rattle.std.specs.List.{AllByRecursion}
+use Rattle.std.specs.List.{list_any}
 use Rattle.std.proofs.lemmas.Simd.{map-map}
 use Rattle.re_config.proofs.Sorting.{IsConfig-sorted, sorted_again, sorted_map}
 use Rattle.re_config.specs.Configs.{IsConfig, image_at, image_of, sorted}
 use Rattle.re_labels.proofs.ListSets.{In-list_set, list_set-In, rising-list_set}
-use Rattle.re_labels.proofs.Membership.{AllByRecursion-In, AllByRecursion-contains, AllByRecursion-from_In, Contains-In, In, In-Contains, In-map, In-map_from, length-map'}
+use Rattle.re_labels.proofs.Membership.{AllByRecursion-In, AllByRecursion-contains, AllByRecursion-from_In, AllByRecursion-from_contains, Contains-In, Contains-filter_cases, In, In-Contains, In-map, In-map_from, length-map'}
 use Rattle.re_table.specs.Constraints.{Constraint, Has, IsConstraint, images_of}
+use Rattle.re_labels.proofs.Before.{IsBefore-trans}
+use Rattle.re_labels.proofs.Rising.{rising-filter}
+use Rattle.re_labels.specs.Lists.{IsBefore}
+use Rattle.re_labels.specs.Sets.{has}
+use Rattle.re_table.specs.Strength.{constraint_without}
 
 -- the labels of a configuration are below the bound
 pub config-below : (n : ℕ) (constraint : Constraint) → IsConstraint n constraint → (config : List ℕ) (x : ℕ) → In config constraint.configs → In x config → x < n
@@ -51,3 +56,13 @@ module _ (images : List ℕ) (constraint : Constraint) where
           (length-map' (image_at images) c ∙ (AllByRecursion-In (IsConfig constraint.degree n) constraint.configs c is.configs i).count)
           (AllByRecursion-from_In (λ x. x < m) (map (image_at images) c) (λ y j.
           let x = In-map_from (image_at images) y c j in subst (λ z. z < m) (sym x.2) (below c x.0 i x.1))))
+
+-- ---- constraints without a label
+pub IsConstraint-without : (constraint : Constraint) (n a : ℕ) → IsConstraint n constraint → IsConstraint n (constraint_without a constraint)
+IsConstraint-without constraint n a is = record {
+  least = is.least;
+  most = is.most;
+  configs = AllByRecursion-from_contains (IsConfig constraint.degree n) (constraint_without a constraint).configs (λ config held.
+      AllByRecursion-contains (IsConfig constraint.degree n) constraint.configs config is.configs (Contains-filter_cases (λ config. not (list_any (λ x. x == a) config)) constraint.configs config held).0);
+  ascends = rising-filter IsBefore IsBefore-trans (λ config. not (has config a)) constraint.configs is.ascends;
+}

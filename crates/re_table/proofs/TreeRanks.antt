@@ -1,5 +1,5 @@
 -- The number of a leaf, from level to level.
-use Rattle.std.proofs.Common.{◌≡◌, ℕ, suc, ◌<◌, ◌≤◌, ◌+◌, ◌-◌, Bool, true, false, cond, ltb, ◌&&◌, ◌||◌, List, [], ◌∷◌, length, get_or, refl, sym, ap, ◌∙◌, subst, arith, inl, inr}
+use Rattle.std.proofs.Common.{◌≡◌, ℕ, zero, suc, ◌<◌, ◌≤◌, ◌+◌, ◌-◌, Bool, true, false, cond, ltb, ◌&&◌, ◌||◌, List, [], ◌∷◌, length, get_or, refl, sym, ap, ◌∙◌, subst, arith, inl, inr}
 use Rattle.std.proofs.lemmas.Bool.{false≢true, le-ltb, lt-ltb, ltb-true}
 use Rattle.std.proofs.lemmas.List.Sums.{sum_by-cons}
 use Rattle.std.specs.Prelude.{count_by}
@@ -21,7 +21,7 @@ use Rattle.re_table.specs.TreeWalks.{precedes}
 pub begins-is : (above config : List ℕ) → begins above config ≡ true → above ≡ prefix config (length above)
 begins-is above config h = same_list-same above (prefix config (length above)) h
 
-is-begins : (above config : List ℕ) → above ≡ prefix config (length above) → begins above config ≡ true
+pub is-begins : (above config : List ℕ) → above ≡ prefix config (length above) → begins above config ≡ true
 is-begins above config e = subst (λ l. same_list above l ≡ true) e (same_list-refl above)
 
 module _ (label : ℕ) (above config : List ℕ) where
@@ -176,19 +176,31 @@ module _ (degree : ℕ) (nodes : List Node) (key : ℕ → List ℕ) (tree : IsT
         let on = ap (λ k. count_by (precedes k) (held_configs nodes)) (link.child filled).1 in
         (filled, omega arith)
 
-    pub next-rank : (at rest number : ℕ) → at < length nodes → key at ≡ (node_at nodes at).label ∷ key place → number < count_by (begins (key place)) (held_configs nodes)
-        → rest + count_by (precedes (key at)) (held_configs nodes) ≡ number + count_by (precedes (key place)) (held_configs nodes) → leaves_of (node_at nodes at).kind ≤ rest
-        → (0 < (node_at nodes at).next) × ((rest - leaves_of (node_at nodes at).kind) + count_by (precedes (key (node_at nodes at).next)) (held_configs nodes) ≡ number + count_by (precedes (key place)) (held_configs nodes))
-    next-rank at rest number l on less rank most = elim (three_ways (node_at nodes at).next 0) [
-      | inl none ↦ absurd (omega arith)
-      | inr (inl last) ↦ absurd (
+    module _ (at : ℕ) (l : at < length nodes) (on : key at ≡ (node_at nodes at).label ∷ key place) where
+      link : IsLink nodes key (key place) ((node_at nodes at).label + 1) (node_at nodes at).next
+      link = tree.sibling at (key place) l on
+
+      at_most : (c : List ℕ) → In c (held_configs nodes) → begins (key place) c ≡ true → (node_at nodes at).next ≡ 0 → get_or c (length (key place)) 0 ≤ (node_at nodes at).label
+      at_most c i h last = elim (three_ways (node_at nodes at).label (get_or c (length (key place)) 0)) [
+        | inl less ↦ absurd (let q = child_there c i h in let near = (link.nearest q.0 (get_or c (length (key place)) 0) q.1 q.2 (omega arith)).0 in omega arith)
+        | inr (inl same) ↦ omega arith
+        | inr (inr more) ↦ omega arith
+      ]
+
+      -- behind the last child nothing is left below the node
+      pub last-rank : (node_at nodes at).next ≡ 0
+          → count_by (precedes (key place)) (held_configs nodes) + count_by (begins (key place)) (held_configs nodes) ≡ count_by (precedes (key at)) (held_configs nodes) + count_by (begins (key at)) (held_configs nodes)
+      last-rank last =
           let sums = counts-alike (precedes (key place)) (begins (key place)) (precedes ((node_at nodes at).label ∷ key place)) (begins ((node_at nodes at).label ∷ key place)) (held_configs nodes) (λ c i.
           last_same (key place) c (node_at nodes at).label (λ h. at_most c i h last)) in
           let before = ap (λ k. count_by (precedes k) (held_configs nodes)) on in
           let here = ap (λ k. count_by (begins k) (held_configs nodes)) on in
-          let leaves = leaves-counted at l in
-          omega arith)
-      | inr (inr some) ↦
+          omega arith
+
+      -- the next child begins where this one ends
+      pub after-rank : 0 < (node_at nodes at).next
+          → count_by (precedes (key (node_at nodes at).next)) (held_configs nodes) ≡ count_by (precedes (key at)) (held_configs nodes) + count_by (begins (key at)) (held_configs nodes)
+      after-rank some =
           let child = link.child some in
           let sums = counts-alike (precedes ((node_at nodes (node_at nodes at).next).label ∷ key place)) (λ c. false) (precedes ((node_at nodes at).label ∷ key place)) (begins ((node_at nodes at).label ∷ key place)) (held_configs nodes) (λ c i.
           next_same (key place) c (node_at nodes at).label (node_at nodes (node_at nodes at).next).label (let rise = child.0 in omega arith) (λ h more.
@@ -196,20 +208,17 @@ module _ (degree : ℕ) (nodes : List Node) (key : ℕ → List ℕ) (tree : IsT
           let before = ap (λ k. count_by (precedes k) (held_configs nodes)) on in
           let here = ap (λ k. count_by (begins k) (held_configs nodes)) on in
           let behind = ap (λ k. count_by (precedes k) (held_configs nodes)) child.1 in
-          let leaves = leaves-counted at l in
           let zero_more = none in
-          (some, omega arith)
-    ]
-      where
-        link : IsLink nodes key (key place) ((node_at nodes at).label + 1) (node_at nodes at).next
-        link = tree.sibling at (key place) l on
+          omega arith
 
-        at_most : (c : List ℕ) → In c (held_configs nodes) → begins (key place) c ≡ true → (node_at nodes at).next ≡ 0 → get_or c (length (key place)) 0 ≤ (node_at nodes at).label
-        at_most c i h last = elim (three_ways (node_at nodes at).label (get_or c (length (key place)) 0)) [
-          | inl less ↦ absurd (let q = child_there c i h in let near = (link.nearest q.0 (get_or c (length (key place)) 0) q.1 q.2 (omega arith)).0 in omega arith)
-          | inr (inl same) ↦ omega arith
-          | inr (inr more) ↦ omega arith
-        ]
+    pub next-rank : (at rest number : ℕ) → at < length nodes → key at ≡ (node_at nodes at).label ∷ key place → number < count_by (begins (key place)) (held_configs nodes)
+        → rest + count_by (precedes (key at)) (held_configs nodes) ≡ number + count_by (precedes (key place)) (held_configs nodes) → leaves_of (node_at nodes at).kind ≤ rest
+        → (0 < (node_at nodes at).next) × ((rest - leaves_of (node_at nodes at).kind) + count_by (precedes (key (node_at nodes at).next)) (held_configs nodes) ≡ number + count_by (precedes (key place)) (held_configs nodes))
+    next-rank at rest number l on less rank most = elim (three_ways (node_at nodes at).next 0) [
+      | inl none ↦ absurd (omega arith)
+      | inr (inl last) ↦ absurd (let sums = last-rank at l on last in let leaves = leaves-counted at l in omega arith)
+      | inr (inr some) ↦ let sums = after-rank at l on some in let leaves = leaves-counted at l in (some, omega arith)
+    ]
 
   -- the leaf at the end of the way
   pub leaf-rank : (q number rest : ℕ) (config : List ℕ) → q < length nodes → (node_at nodes q).kind ≡ Leaf config → rest < leaves_of (node_at nodes q).kind
@@ -246,3 +255,9 @@ root-rank degree nodes key number tree =
 pub inner-short : (degree : ℕ) (nodes : List Node) (configs : List (List ℕ)) (key : ℕ → List ℕ) (q first leaves : ℕ) → IsTree degree nodes configs key → q < length nodes → (node_at nodes q).kind ≡ Inner first leaves → length (key q) < degree
 inner-short degree nodes configs key q first leaves tree l e =
     let below : IsBelow degree nodes configs key (key q) (Inner first leaves) = subst (IsBelow degree nodes configs key (key q)) e (tree.below q l) in below.0
+
+-- some configuration lies at or below each node of a tree that has one
+pub some-below : (degree : ℕ) (nodes : List Node) (key : ℕ → List ℕ) (q : ℕ) → IsTree degree nodes (held_configs nodes) key → q < length nodes → 0 < length (held_configs nodes) → 0 < count_by (begins (key q)) (held_configs nodes)
+some-below degree nodes key zero tree l some =
+    subst (λ n. 0 < n) (sym (ap (λ k. count_by (begins k) (held_configs nodes)) tree.root ∙ all_counted (held_configs nodes))) some
+some-below degree nodes key (suc q) tree l some = tree.filled (suc q) (omega arith) l

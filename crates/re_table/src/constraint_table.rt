@@ -9,8 +9,10 @@ ghost use Rattle.re_table.specs.PrefixTrees.{IsPrefixTree, held_configs};
 ghost use Rattle.std.specs.List.{AllByRecursion};
 ghost use Rattle.std.specs.Prelude.{◌≡◌, ◌≤◌, ◌<◌, ◌↔◌, [], length, slice_index_or, OnErr, OnOk, MatchResult, IsSome, IsTrue, IfOk, IfSome, insert, map, Contains};
 
+use crate::configurations::{Configurations, walk_of};
 use crate::prefix_tree::{
     Node, copied, draws_from, images_in_order, is_held, leaf_at, leaf_count, make_root, put,
+    renumber_nodes,
 };
 use re_config::{Config, Row};
 use re_labels::{MAX_LABELS, NoMemory};
@@ -125,6 +127,13 @@ impl Constraint {
         Some(leaf_at(self.nodes.as_slice(), self.degree, place))
     }
 
+    /// Its configurations in ascending order. A walk over all of them costs about as much as they are many.
+    pub fn configs(&self) -> Configurations<'_>
+        ensures { result ≡ self.now.configs }
+    {
+        walk_of(self.nodes.as_slice(), self.degree)
+    }
+
     /// Whether this is one of its configurations. It goes down the tree by its labels and stops at the
     /// first one that no configuration goes on with.
     pub fn contains(&self, config: &Config) -> bool
@@ -157,7 +166,7 @@ impl Constraint {
     pub fn copy(&self) -> Result<Constraint, NoMemory>
         ensures { IfOk result (λ constraint. constraint ≡ self.now) }
     {
-        let mut nodes = Vec::new(*self.nodes.allocator());
+        let mut nodes = Vec::with_capacity(*self.nodes.allocator(), self.nodes.len())?;
         for node in &self.nodes {
             nodes.push(copied(node))?;
         }
@@ -179,6 +188,18 @@ impl Constraint {
         let alloc = *self.nodes.allocator();
         let all = images_in_order(alloc, self.nodes.as_slice(), images)?;
         collected(alloc, self.degree, all.as_slice())
+    }
+
+    /// The constraint with the images of the configurations, where `images` has the images of all labels in rising order. It
+    /// passes each node once, moves nothing and takes no memory.
+    pub fn renumber(&mut self, images: &[u8])
+        requires known { AllByRecursion (AllByRecursion (λ label. label < length images.now)) self.old.configs }
+        requires below { AllByRecursion (λ image. image < MAX_LABELS) images.now }
+        requires rises { IsRising (λ x y. x < y) images.now }
+        ensures degree { self.new.degree ≡ self.old.degree }
+        ensures configs { self.new.configs ≡ images_of images.now self.old }
+    {
+        renumber_nodes(self.nodes.as_mut_slice(), images);
     }
 
     /// Whether some choice of one label of each set of the row is a configuration. It takes no memory. It goes down the tree

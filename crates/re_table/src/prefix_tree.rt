@@ -1,13 +1,14 @@
 //! The nodes of a prefix tree of configurations, in one vector.
-ghost use Rattle.re_table.specs.PrefixTrees.{IsInnerPlace, IsLink, IsPrefixTree, IsTable, IsTree, first_of, held_configs, leaf_configs, leaves_of, node_at};
+ghost use Rattle.re_table.specs.PrefixTrees.{IsInnerPlace, IsLink, IsPrefixTree, IsTable, IsTree, configs_of, first_of, held_configs, leaf_configs, leaves_of, node_at};
 ghost use Rattle.re_table.specs.TreeGrowth.{IsFound, linked, way_nodes, with_first, with_leaves};
-ghost use Rattle.re_config.specs.Configs.{image_of};
+ghost use Rattle.re_config.specs.Configs.{image_at, image_of};
 ghost use Rattle.re_labels.specs.ListSets.{with_list};
 ghost use Rattle.re_labels.specs.Sets.{IsLabelSet};
 ghost use Rattle.re_table.specs.Fitting.{Completes, CompletesFrom, IsOpen};
 ghost use Rattle.std.specs.List.{AllByRecursion, remove};
 ghost use Rattle.std.specs.List.Sorted.{IsPermutation};
 ghost use Rattle.std.specs.Vec.{vec_capacity, vec_len};
+ghost use Rattle.re_table.specs.Renumbered.{node_image};
 ghost use Rattle.re_table.specs.TreeWalks.{IsMissing, precedes};
 ghost use Rattle.std.specs.Prelude.{◌≡◌, ◌<◌, ◌≤◌, ◌+◌, ◌^◌, ◌==◌, ◌∷◌, ◌++◌, [], ℕ, Contains, List, IfOk, IsTrue, MatchOption, MatchResult, OnErr, OnOk, ◌↔◌, count_by, map, length, slice_index_or};
 
@@ -361,6 +362,39 @@ pub fn is_held(nodes: &[Node], config: &Config) -> bool
     match gap_of(nodes, config, &mut way) {
         None => true,
         Some(_) => false,
+    }
+}
+
+// The image of a label, or 0 where it has none.
+fn image_of_label(images: &[u8], label: u8) -> u8
+    ensures { result ≡ image_at images.now label }
+{
+    match images.get(label as usize) {
+        Some(image) => *image,
+        None => 0,
+    }
+}
+
+// The node with the images of its labels.
+fn renumber_node(node: &mut Node, images: &[u8])
+    requires known { AllByRecursion (AllByRecursion (λ label. label < length images.now)) (configs_of node.old.kind) }
+    requires below { AllByRecursion (λ image. image < MAX_LABELS) images.now }
+    ensures { node.new ≡ node_image images.now node.old }
+{
+    node.label = image_of_label(images, node.label);
+    if let Kind::Leaf(config) = &mut node.kind {
+        *config = config.image(images);
+    }
+}
+
+/// Each node with the images of its labels, in place.
+pub fn renumber_nodes(nodes: &mut [Node], images: &[u8])
+    requires known { AllByRecursion (AllByRecursion (λ label. label < length images.now)) (leaf_configs nodes.old) }
+    requires below { AllByRecursion (λ image. image < MAX_LABELS) images.now }
+    ensures { nodes.new ≡ map (node_image images.now) nodes.old }
+{
+    for place in 0..nodes.len() {
+        renumber_node(&mut nodes[place], images);
     }
 }
 

@@ -2,25 +2,25 @@
 use Rattle.std.proofs.Common.{◌≡◌, ℕ, zero, suc, ◌+◌, ◌-◌, ◌<◌, ◌≤◌, Bool, true, false, List, [], ◌∷◌, length, sym, ◌∙◌, subst, ◌⊎◌, inl, inr, arith}
 use Rattle.std.specs.Prelude.{Contains, IsTrue, slice_set, ◌↔◌}
 use Rattle.std.proofs.lemmas.Bool.{false≢true}
-use Rattle.re_boxes.proofs.Grown.{added_good, nothing_above, with_label_itself, with_label_within, added_above, both_added}
+use Rattle.re_boxes.proofs.Grown.{added_good, nothing_above, with_label_itself, added_above, both_added}
 use Rattle.re_boxes.proofs.Spread.{AreFilled, IsGood-under, IsIn-filled, one_label}
 use Rattle.re_boxes.specs.Grown.{IsGrown, added}
 use Rattle.re_config.proofs.ChoicesOfRows.{IsUnder-refl, IsUnder-trans}
 use Rattle.re_config.proofs.Placing.{Dominates-trans}
 use Rattle.re_config.proofs.Rearranging.{Rearranged-sym}
-use Rattle.re_config.proofs.Rows.{AreSets-Rearranged, not_larger, total, total-Rearranged, under_total}
+use Rattle.re_config.proofs.Rows.{AreSets-Rearranged, all_at, not_larger, total, total-Rearranged, under_total}
 use Rattle.re_config.specs.Rearranging.{Rearranged}
 use Rattle.re_config.specs.Rows.{Dominates, IsChoice, IsUnder, in_order, set_at}
-use Rattle.re_labels.proofs.Membership.{Contains-here, In-Contains}
+use Rattle.re_labels.proofs.Membership.{In-Contains}
 use Rattle.re_labels.proofs.Numbers.{IsLabelSet-with_label}
-use Rattle.re_labels.proofs.Sets.{IsIn-union, IsIn-union_cases, has-IsIn}
-use Rattle.re_labels.specs.Sets.{IsIn, IsWithin, has, with_label}
+use Rattle.re_labels.proofs.Sets.{has-IsIn}
+use Rattle.re_labels.specs.Sets.{IsIn, has, with_label}
 use Rattle.re_table.proofs.Goodness.{IsGood-Rearranged}
 use Rattle.re_table.proofs.MaxRows.{IsMaximal-max_rows}
 use Rattle.re_table.specs.Constraints.{Constraint}
 use Rattle.re_table.specs.GoodRows.{IsGood, IsMaximal, max_rows}
 use Rattle.re_strength.proofs.RowsOfSets.{AreSets-more, filled, in_order_moved, in_order_row}
-use Rattle.re_strength.proofs.SetsAtPlaces.{all_at, all_set, set_there, under_at, under_set}
+use Rattle.re_strength.proofs.SetsAtPlaces.{all_set, set_there, under_at}
 use Rattle.re_strength.specs.Choosing.{AreGoodChoices}
 use Rattle.re_strength.specs.Sets.{AreSets}
 use Rattle.re_universal.specs.Growing.{IsGrownFrom, IsTried}

@@ -1,7 +1,4 @@
-use Rattle.std.proofs.Common.{◌≡◌, ◌<◌, ℕ, List, ap, arith, get_or, length, lit<, map, ◌∙◌}
-use Rattle.std.proofs.lemmas.List.{get_or-map}
-use Rattle.re_labels.proofs.Membership.{get_or-count_from, length-count_from}
-use Rattle.re_labels.specs.Lists.{count_from}
+use Rattle.std.proofs.Common.{◌≡◌, ◌<◌, ap, arith, length, lit<, ◌∙◌}
 use Rattle.re_labels.specs.Sets.{meet}
 use Rattle.re_table.specs.Strength.{up_set}
 use Rattle.re_changes.proofs.Counted.{length-map_counted, pushed}

@@ -7,7 +7,7 @@ use Rattle.re_problem.specs.NamedProblems.{NamedProblem, unnamed}
 use Rattle.re_changes.proofs.RenumberedProblems.{built-along}
 use Rattle.re_diagram.proofs.KeptRounds.{merge_rounds_law}
 use Rattle.re_diagram.proofs.MergedLabels.{IsLabelSet-unmerged, configs-below, images-are, length-merge_map, merged-below, merged-built, stay-is}
-use Rattle.re_diagram.specs.Merging.{merge_map, unmerged}
+use Rattle.re_diagram.specs.Merging.{Merging, merge_map, unmerged}
 use Rattle.re_changes.specs.Renumbering.{renumbered}
 use Rattle.re_diagram.proofs.merging.merge.Goals as goal
 
@@ -52,20 +52,19 @@ renumbered-requires-clause-built c =
     let same : named ≡ c.args.problem.now = λ i. record { names = c.names.ensures.names i; active = c.active.ensures.active i; passive = c.passive.ensures.passive i } in
     built-along (unmerged c.args.problem.now) c.as_slice-4.result.now (merge_map c.args.problem.now) c.as_slice-5.result.now c.args.problem.now named stay images same (merged-built c.args.problem.now c.names.ensures.problem)
 
-pub returns-clause-problem : goal.returns-clause-problem
-returns-clause-problem c =
+pub returns-clause-merged : goal.returns-clause-merged
+returns-clause-merged c =
     let stay : c.as_slice-4.result.now ≡ unmerged c.args.problem.now = stay-is c.args.problem.now c.as_slice.result.now c.as_slice-2.result.now c.least_labels-stay.result.items c.as_slice-3.result.now c.as_slice-4.result.now c.merge_map-images.result.items c.as_slice-5.result.now
     (c.as_slice.ensures.value ∙ c.cover_sets-covers.ensures) (c.as_slice-2.ensures.value ∙ sym c.as_slice.ensures.value) c.least_labels-stay.ensures c.as_slice-3.ensures.value c.as_slice-4.ensures.value c.merge_map-images.ensures c.as_slice-5.ensures.value in
     let images : c.as_slice-5.result.now ≡ merge_map c.args.problem.now = images-are c.args.problem.now c.as_slice.result.now c.as_slice-2.result.now c.least_labels-stay.result.items c.as_slice-3.result.now c.as_slice-4.result.now c.merge_map-images.result.items c.as_slice-5.result.now
     (c.as_slice.ensures.value ∙ c.cover_sets-covers.ensures) (c.as_slice-2.ensures.value ∙ sym c.as_slice.ensures.value) c.least_labels-stay.ensures c.as_slice-3.ensures.value c.as_slice-4.ensures.value c.merge_map-images.ensures c.as_slice-5.ensures.value in
     let named : NamedProblem = record { names = c.names.result.now; active = c.active.result.now; passive = c.passive.result.now } in
     let same : named ≡ c.args.problem.now = λ i. record { names = c.names.ensures.names i; active = c.active.ensures.active i; passive = c.passive.ensures.passive i } in
-    c.in_ok-merged.ensures ∙ (λ i. renumbered (stay i) (images i) (same i))
-
-pub returns-clause-map : goal.returns-clause-map
-returns-clause-map c = c.in-Some.ensures.0 ∙ images-are c.args.problem.now c.as_slice.result.now c.as_slice-2.result.now c.least_labels-stay.result.items c.as_slice-3.result.now c.as_slice-4.result.now c.merge_map-images.result.items c.as_slice-6.result.now
-    (c.as_slice.ensures.value ∙ c.cover_sets-covers.ensures) (c.as_slice-2.ensures.value ∙ sym c.as_slice.ensures.value) c.least_labels-stay.ensures c.as_slice-3.ensures.value c.as_slice-4.ensures.value c.merge_map-images.ensures c.as_slice-6.ensures.value
+    let merged = c.in_ok-merged.ensures ∙ (λ i. renumbered (stay i) (images i) (same i)) in
+    let map_is = c.in-Some.ensures.0 ∙ images-are c.args.problem.now c.as_slice.result.now c.as_slice-2.result.now c.least_labels-stay.result.items c.as_slice-3.result.now c.as_slice-4.result.now c.merge_map-images.result.items c.as_slice-6.result.now
+    (c.as_slice.ensures.value ∙ c.cover_sets-covers.ensures) (c.as_slice-2.ensures.value ∙ sym c.as_slice.ensures.value) c.least_labels-stay.ensures c.as_slice-3.ensures.value c.as_slice-4.ensures.value c.merge_map-images.ensures c.as_slice-6.ensures.value in
+    λ i. record { problem = merged i; map = map_is i }
 
 pub returns-clause-rounds : goal.returns-clause-rounds
 returns-clause-rounds c = λ T.
-    subst (λ p. Solvable (unnamed p) T ↔ Solvable (unnamed c.args.problem.now) T) (sym (returns-clause-problem c)) (merge_rounds_law c.args.problem.now T c.names.ensures.problem)
+    subst (λ p. Solvable (unnamed p) T ↔ Solvable (unnamed c.args.problem.now) T) (sym (ap (λ (m : Merging). m.problem) (returns-clause-merged c))) (merge_rounds_law c.args.problem.now T c.names.ensures.problem)

@@ -1,25 +1,22 @@
 -- What lines of rows, entries and pairs give is of labels of the problems.
 use Rattle.re_sections.proofs.KnownLabels.{held_in, known_set, label_known}
 use Rattle.re_cert.proofs.ReadEntries.{all_append}
-use Rattle.std.proofs.Common.{◌≡◌, ℕ, zero, suc, ◌<◌, ◌^◌, ◌&&◌, Bool, true, false, cond, eqb, leb, ltb, List, [], ◌∷◌, ◌++◌, length, map, flat_map, replicate, refl, sym, ap, ◌∙◌, subst, arith, Option, Some, None, inl, inr, eq-eqb}
+use Rattle.std.proofs.Common.{◌≡◌, ℕ, zero, suc, ◌<◌, ◌^◌, ◌&&◌, Bool, true, false, cond, eqb, leb, ltb, List, [], ◌∷◌, ◌++◌, length, map, flat_map, replicate, refl, sym, ap, ◌∙◌, subst, Option, Some, None, inl, inr, eq-eqb}
 use Rattle.std.specs.List.{AllByRecursion, list_all, list_any}
 use Rattle.std.specs.Option.{option_and_then}
 use Rattle.std.proofs.lemmas.Bool.{cases_lt, false≢true}
 use Rattle.std.proofs.lemmas.Nat.Bits.{bit_at_above}
-use Rattle.std.proofs.lemmas.Bool.Decides.{nat_tests}
-use Rattle.re_config.proofs.LeastLabels.{first-below}
 use Rattle.re_config.proofs.Sorting.{AllByRecursion-Rearranged, Rearranged-sorted, length-sorted}
 use Rattle.re_config.specs.Configs.{sorted}
 use Rattle.re_config.specs.Rows.{in_order, is_full, row_of}
 use Rattle.re_items.specs.Items.{ItemText}
 use Rattle.re_items.specs.Labels.{are_held, labels_held}
-use Rattle.re_labels.proofs.Before.{same_list-same}
-use Rattle.re_labels.proofs.Membership.{AllByRecursion-contains, In, In-Contains, all-In, all-In_from, any-In_from, length-map'}
+use Rattle.re_labels.proofs.Membership.{AllByRecursion-contains, In, In-Contains, all-In_from, length-map'}
 use Rattle.re_labels.proofs.Numbers.{IsLabelSet-set_of, has-set_of, set_of-number}
 use Rattle.re_labels.proofs.Sets.{IsIn-has}
 use Rattle.re_labels.proofs.Tests.{and-true, eqb-true, true-below}
 use Rattle.re_labels.specs.Lists.{same_list}
-use Rattle.re_labels.specs.Sets.{IsLabelSet, first_of, has, number, set_of}
+use Rattle.re_labels.specs.Sets.{IsLabelSet, has, number, set_of}
 use Rattle.re_problem.proofs.FedNames.{named_set}
 use Rattle.re_problem.specs.NamedProblems.{NamedProblem}
 use Rattle.re_problem.specs.ProblemTexts.{expanded, labels_named, line_expanded, line_items, names_in, power_or_one}
@@ -28,7 +25,7 @@ use Rattle.re_cert.proofs.ReadLabels.{held_parts}
 use Rattle.re_cert.specs.Bounds.{entry_fits, image_fits, pair_fits, row_fits}
 use Rattle.re_cert.specs.Entries.{both, entry_on, entry_with, image_on, labels_in, labels_on, of_length, row_on}
 use Rattle.re_sections.specs.Pairs.{ItemPair, label_held}
-use Rattle.re_cert.specs.Images.{row_image}
+use Rattle.re_labels.specs.PortLabels.{port_labels}
 
 all_labels : (n : ℕ) (set : List ℕ) → AllByRecursion (λ x. x < n) set → list_all (λ x. ltb x n) set ≡ true
 all_labels n [] below = refl
@@ -73,11 +70,11 @@ image_known before next items image e = go (labels_in next.names items) refl e
         let same : labels ≡ image = cc in
         subst (λ (l : List ℕ). image_fits before next l ≡ true) same (λ i. size i && labels_known next.names items labels is i)
 
-    of_size : (t : Bool) (labels : List ℕ) → eqb (length labels) before.passive.degree ≡ t → labels_in next.names items ≡ Some labels → option_and_then row_image (cond t (Some labels) None) ≡ Some image → image_fits before next image ≡ true
+    of_size : (t : Bool) (labels : List ℕ) → eqb (length labels) before.passive.degree ≡ t → labels_in next.names items ≡ Some labels → option_and_then port_labels (cond t (Some labels) None) ≡ Some image → image_fits before next image ≡ true
     of_size false labels size is e = cc
     of_size true labels size is e = of_row (leb 2 (length labels) && leb (length labels) 6) labels size is e
 
-    go : (o : Option (List ℕ)) → labels_in next.names items ≡ o → option_and_then row_image (option_and_then (of_length before.passive.degree) o) ≡ Some image → image_fits before next image ≡ true
+    go : (o : Option (List ℕ)) → labels_in next.names items ≡ o → option_and_then port_labels (option_and_then (of_length before.passive.degree) o) ≡ Some image → image_fits before next image ≡ true
     go None is e = cc
     go (Some labels) is e = of_size (eqb (length labels) before.passive.degree) labels refl is e
 

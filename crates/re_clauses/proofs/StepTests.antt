@@ -1,9 +1,8 @@
 -- The tests of the clauses, and what the calls that they stand on tell.
-use Rattle.std.proofs.Common.{◌≡◌, ℕ, ◌<◌, ◌≤◌, Bool, true, false, not, eqb, ltb, List, [], ◌∷◌, length, map, refl, sym, ap, ◌∙◌, subst, arith, get_or, zero, suc}
+use Rattle.std.proofs.Common.{◌≡◌, ℕ, ◌<◌, ◌≤◌, Bool, true, false, not, eqb, ltb, List, [], ◌∷◌, length, map, refl, sym, ap, ◌∙◌, subst, arith, get_or}
 use Rattle.std.proofs.lemmas.Bool.Decides.{nat_tests}
 use Rattle.std.proofs.lemmas.Slice.Eq.{bytes_eq-Decides}
-use Rattle.std.specs.Cmp.Lexicographic.{pointwise}
-use Rattle.std.specs.Prelude.{◌&&◌, ◌↔◌, Contains, IsTrue, MatchBool, nat_lt}
+use Rattle.std.specs.Prelude.{◌&&◌, ◌↔◌, Contains, IsTrue, MatchBool}
 use Rattle.std.specs.List.{AllByRecursion, list_all}
 use Rattle.std.specs.Str.{bytes_eq}
 use Rattle.re_labels.proofs.Membership.{AllByRecursion-contains, AllByRecursion-from_contains, Contains-map, In-Contains, not_all}
@@ -16,7 +15,7 @@ use Rattle.re_config.specs.Configs.{IsConfig, sorted}
 use Rattle.re_table.proofs.Goodness.{Has-has_config, IsAllowed-is_allowed, IsGood-is_good, has_config-Has, is_allowed-IsAllowed, is_good-IsGood}
 use Rattle.re_table.proofs.MaxSets.{max_sets-row}
 use Rattle.re_table.specs.Constraints.{Constraint, Has, IsConstraint, has_config}
-use Rattle.re_table.specs.GoodRows.{allowed, is_allowed, is_good, max_rows, max_sets}
+use Rattle.re_table.specs.GoodRows.{allowed, max_rows, max_sets}
 use Rattle.re_problem.specs.NamedProblems.{NamedProblem}
 use Rattle.re_problem.specs.Steps.{SetEntry, entry_sets, label_at, label_of, set_for}
 use Rattle.re_cert.specs.Bounds.{is_label}

@@ -1,5 +1,5 @@
 -- The certificate of one lower step is one, and its step meets its clauses.
-use Rattle.std.proofs.Common.{◌≡◌, ℕ, true, List, [], ◌∷◌, map, None, refl, ap, ◌∙◌}
+use Rattle.std.proofs.Common.{◌≡◌, ℕ, true, List, [], ◌∷◌, None, refl, ap, ◌∙◌}
 use Rattle.std.specs.Prelude.{◌&&◌}
 use Rattle.re_labels.proofs.Tests.{true-and}
 use Rattle.re_problem.specs.NamedProblems.{NamedProblem, unnamed}
@@ -7,9 +7,8 @@ use Rattle.re_problem.specs.Problems.{IsProblem}
 use Rattle.re_changes.proofs.Merges.{IsMerged-unchanged}
 use Rattle.re_changes.specs.Changes.{unchanged}
 use Rattle.re_step.specs.Derivations.{named_derived, step_limit}
-use Rattle.re_cert.specs.Bounds.{is_bound, step_fits, step_of}
+use Rattle.re_cert.specs.Bounds.{BoundStep, is_bound, step_fits}
 use Rattle.re_cert.specs.declared.certificate.Kind.TheVariants.{Lower}
-use Rattle.re_cert.specs.declared.certificate.Step.{Step}
 use Rattle.re_check.specs.Verdicts.{fault_at, fault_or, steps_fault}
 use Rattle.std.specs.Prelude.{option_map}
 use Rattle.re_tree.proofs.LowerSteps.{IsProblem-named_derived, lower-fits, lower-meets}
@@ -26,7 +25,7 @@ one-meets problem is =
     let start = IsMerged-unchanged (named_derived (unnamed problem)) (IsProblem-named_derived problem is) in
     ap (λ o. fault_or (option_map (fault_at 1) o) None) (lower-meets problem is (unchanged (named_derived (unnamed problem))) start)
 
--- the parts that the program holds are those of the bound
-pub held-bound : (problem : NamedProblem) (steps : List Step) (s : Step) (renaming : List (ℕ × ℕ)) → steps ≡ s ∷ [] → step_of s ≡ step_of_problem problem → renaming ≡ []
-    → record { kind = Lower; back = 0; first = problem; steps = map step_of steps; renaming = renaming } ≡ one_step_bound problem
-held-bound problem steps s renaming f g h = (λ i. record { kind = Lower; back = 0; first = problem; steps = (ap (map step_of) f ∙ ap (λ t. t ∷ []) g) i; renaming = h i })
+-- the parts of a certificate of one step are those of the bound
+pub held-bound : (problem : NamedProblem) (steps : List BoundStep) (s : BoundStep) (renaming : List (ℕ × ℕ)) → steps ≡ s ∷ [] → s ≡ step_of_problem problem → renaming ≡ []
+    → record { kind = Lower; back = 0; first = problem; steps = steps; renaming = renaming } ≡ one_step_bound problem
+held-bound problem steps s renaming f g h = (λ i. record { kind = Lower; back = 0; first = problem; steps = (f ∙ ap (λ t. t ∷ []) g) i; renaming = h i })

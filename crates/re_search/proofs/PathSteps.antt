@@ -1,10 +1,9 @@
--- The steps of a path as the program holds them.
-use Rattle.std.proofs.Common.{◌≡◌, ℕ, zero, suc, ◌+◌, ◌<◌, List, [], ◌∷◌, ◌++◌, length, map, take, get_or, Option, None, Some, refl, sym, ap, ◌∙◌, arith}
-use Rattle.std.proofs.lemmas.List.{map-append}
+-- The steps of a path, and their entries.
+use Rattle.std.proofs.Common.{◌≡◌, ℕ, zero, suc, ◌+◌, ◌<◌, List, [], ◌∷◌, ◌++◌, length, take, get_or, Option, None, Some, refl, sym, ap, ◌∙◌, arith}
 use Rattle.re_problem.specs.Steps.{SetEntry}
-use Rattle.re_cert.specs.Bounds.{BoundStep, step_of}
-use Rattle.re_cert.specs.declared.certificate.Step.{Step}
+use Rattle.re_cert.specs.Bounds.{BoundStep}
 use Rattle.re_tree.specs.Nodes.{entries_of}
+use Rattle.re_config.proofs.Sorting.{take_front}
 
 -- ---- entries
 entries-passed : (sets : List (List ℕ)) (images : List (Option ℕ)) (k : ℕ) → k < length images → length images ≡ length sets → get_or images k None ≡ None
@@ -45,24 +44,7 @@ entries_added sets images k label set entries after l e at there so_far push =
     push ∙ ap (λ es. es ++ record { set = set; label = label } ∷ []) so_far ∙ sym (entries-added sets images k label set l e at there)
 
 -- ---- paths
-pub pushed_path : (items after : List Step) (s : Step) → after ≡ items ++ s ∷ [] → map step_of after ≡ map step_of items ++ step_of s ∷ []
-pushed_path items after s e = ap (map step_of) e ∙ map-append step_of items (s ∷ [])
-
-map-take : (n : ℕ) (items : List Step) → map step_of (take n items) ≡ take n (map step_of items)
-map-take zero items = refl
-map-take (suc n) [] = refl
-map-take (suc n) (s ∷ items) = ap (λ l. step_of s ∷ l) (map-take n items)
-
-take-front : (xs ys : List BoundStep) → take (length xs) (xs ++ ys) ≡ xs
-take-front [] ys = refl
-take-front (x ∷ xs) ys = ap (λ l. x ∷ l) (take-front xs ys)
-
-pub length-steps : (items : List Step) → length (map step_of items) ≡ length items
-length-steps [] = refl
-length-steps (s ∷ items) = ap suc (length-steps items)
-
 -- behind a walk over a child the path is cut to what it was
-pub truncated : (items pushed after cut : List Step) (s : Step) (depth : ℕ) → depth ≡ length items → pushed ≡ items ++ s ∷ [] → map step_of after ≡ map step_of pushed → cut ≡ take depth after → map step_of cut ≡ map step_of items
+pub truncated : (items pushed after cut : List BoundStep) (s : BoundStep) (depth : ℕ) → depth ≡ length items → pushed ≡ items ++ s ∷ [] → after ≡ pushed → cut ≡ take depth after → cut ≡ items
 truncated items pushed after cut s depth d push same made =
-    ap (map step_of) made ∙ map-take depth after ∙ ap (take depth) (same ∙ pushed_path items pushed s push) ∙ ap (λ n. take n (map step_of items ++ step_of s ∷ [])) (d ∙ sym (length-steps items))
-    ∙ take-front (map step_of items) (step_of s ∷ [])
+    made ∙ ap (take depth) (same ∙ push) ∙ ap (λ n. take n (items ++ s ∷ [])) d ∙ take_front items (s ∷ [])

@@ -2,14 +2,12 @@
 use Rattle.re_problem.proofs.NewNumbers.{flat_map_map}
 use Rattle.re_problem.proofs.TextLines.{last_push}
 use Rattle.re_tree.proofs.Paths.{going-left}
-use Rattle.std.proofs.Common.{◌≡◌, ℕ, zero, suc, ◌+◌, ◌-◌, ◌<◌, ◌≤◌, Bool, true, false, cond, not, ltb, eqb, List, [], ◌∷◌, ◌++◌, length, map, flat_map, take, drop, get_or, Option, None, Some, Result, Ok, Err, refl, sym, ap, ◌∙◌, subst, arith, length-append, append_assoc, append-nil, zero-add, add-zero, add_assoc, inl, inr}
-use Rattle.std.specs.Prelude.{◌&&◌, ◌||◌, count_by, filter, if◌then◌else◌, is_none, is_some, pred, MatchOption}
-use Rattle.std.proofs.lemmas.Bool.Decides.{nat_tests}
+use Rattle.std.proofs.Common.{◌≡◌, ℕ, zero, suc, ◌+◌, ◌-◌, ◌<◌, ◌≤◌, Bool, true, false, cond, List, [], ◌∷◌, ◌++◌, length, map, flat_map, take, drop, get_or, Option, None, Some, Result, Ok, Err, refl, sym, ap, ◌∙◌, subst, arith, length-append, append-nil, inl, inr}
+use Rattle.std.specs.Prelude.{◌&&◌, count_by, filter, if◌then◌else◌, is_none, is_some, pred, MatchOption}
 use Rattle.std.proofs.lemmas.List.Elements.{filter-append}
 use Rattle.std.proofs.lemmas.List.Sums.{count_by-le-length, length-filter}
 use Rattle.std.proofs.lemmas.Grind.{flat_map-append}
 use Rattle.std.proofs.lemmas.List.{map-append, take-append-drop, take_all, take_more}
-use Rattle.re_labels.proofs.Tests.{and-true}
 use Rattle.re_problem.specs.NamedProblems.{NamedProblem, unnamed}
 use Rattle.re_problem.specs.ProblemTexts.{last_or}
 use Rattle.re_changes.proofs.LeftLabels.{listed-left_out}
@@ -18,16 +16,14 @@ use Rattle.re_changes.specs.Changes.{Changed, IsChange, all_changed, all_changes
 use Rattle.re_changes.specs.declared.change.Change.{Change}
 use Rattle.re_labels.proofs.Membership.{In, get_or-count_from, length-count_from, length-map'}
 use Rattle.re_labels.specs.Lists.{count_from}
-use Rattle.re_step.specs.Derivations.{IsStep, named_derived, step_limit}
-use Rattle.re_step.specs.declared.Derived.{Derived}
+use Rattle.re_step.specs.Derivations.{Derivation, derivation, named_derived, step_limit}
 use Rattle.re_problem.specs.Steps.LowerMap.{by_set}
 use Rattle.re_tree.proofs.LowerSteps.{names-sets}
-use Rattle.re_cert.specs.Bounds.{BoundStep, is_lower, next_problems, step_of}
-use Rattle.re_cert.specs.declared.certificate.Step.{Step}
+use Rattle.re_cert.specs.Bounds.{BoundStep, is_lower, next_problems}
 use Rattle.re_cert.specs.declared.certificate.Kind.{Kind}
 use Rattle.re_tree.specs.Nodes.{Node, child, children, entries_of, goes_on, is_cut, preorder, step_to, steps_from, succeeds}
 use Rattle.re_search.proofs.Judgements.{flat_map-flat_map, found-on, full-on, passed-none, passed-on}
-use Rattle.re_search.specs.Judging.{Judged, judged}
+use Rattle.re_search.specs.Judging.{judged}
 use Rattle.re_search.specs.Judging.Judged.{found, full, passed}
 use Rattle.re_search.specs.Walking.{IsLevel, Visits, Walks, below_made, judged_on, node_at}
 use Rattle.re_search.specs.declared.returning.Way.{Way}
@@ -269,8 +265,8 @@ module _ (kind : Kind) (first : NamedProblem) where
     all_of_counts left steps new count r w = subst (λ ns. Walks kind first count ns steps new r) (sym (by_changes left (node_at first steps (suc left)))) w
 
   -- what is found at the node behind the steps that are held
-  pub visited : (left : ℕ) (items held : List Step) (r s : Result Visited FindFault) → held ≡ items → r ≡ s → Visits kind first (node_at first (map step_of held) left) r → Visits kind first (node_at first (map step_of items) left) s
-  visited left items held r s e f v = subst (Visits kind first (node_at first (map step_of items) left)) f (subst (λ h. Visits kind first (node_at first (map step_of h) left) r) e v)
+  pub visited : (left : ℕ) (items held : List BoundStep) (r s : Result Visited FindFault) → held ≡ items → r ≡ s → Visits kind first (node_at first held left) r → Visits kind first (node_at first items left) s
+  visited left items held r s e f v = subst (Visits kind first (node_at first items left)) f (subst (λ h. Visits kind first (node_at first h left) r) e v)
 
 -- ---- the changes of the list
 get-in : {X : Type 0} (xs : List X) (k : ℕ) (d : X) → k < length xs → In (get_or xs k d) xs
@@ -313,8 +309,8 @@ way-found None o e = sym (ap is_some e)
 way-found (Some way) o e = sym (ap is_some e)
 
 -- the images of the derived problem's labels are as many as its sets
-pub start-images : (problem : NamedProblem) (derived : Derived) (start : Changed) → IsStep (unnamed problem) derived → start ≡ unchanged derived.problem → length start.images ≡ length derived.sets.items
+pub start-images : (problem : NamedProblem) (derived : Derivation) (start : Changed) → derived ≡ derivation (unnamed problem) → start ≡ unchanged derived.problem → length start.images ≡ length derived.sets
 start-images problem derived start is e =
-    ap (λ (c : Changed). length c.images) e ∙ ap (λ (p : NamedProblem). length (unchanged p).images) is.problem
+    ap (λ (c : Changed). length c.images) e ∙ ap (λ (d : Derivation). length (unchanged d.problem).images) is
     ∙ length-map' (λ (label : ℕ). Some label) (count_from 0 (length (named_derived (unnamed problem)).names)) ∙ length-count_from 0 (length (named_derived (unnamed problem)).names)
-    ∙ names-sets problem ∙ ap length (sym is.sets)
+    ∙ names-sets problem ∙ ap (λ (d : Derivation). length d.sets) (sym is)

@@ -2,7 +2,7 @@
 use Rattle.std.specs.Prelude.{◌≡◌, ℕ, ◌+◌, ◌-◌, true, false, List, count_by, if◌then◌else◌, length, None, is_some, Result, Ok, Err}
 use Rattle.re_problem.specs.NamedProblems.{NamedProblem, unnamed}
 use Rattle.re_problem.specs.ProblemTexts.{last_or}
-use Rattle.re_step.specs.Derivations.{IsStep, step_limit}
+use Rattle.re_step.specs.Derivations.{derivation, step_limit}
 use Rattle.re_changes.specs.Changes.{Changed}
 use Rattle.re_table.specs.GoodRows.{max_rows, max_sets}
 use Rattle.re_cert.specs.Bounds.{BoundStep, is_lower, next_problems}
@@ -41,7 +41,7 @@ abbrev pub Visits : Kind → NamedProblem → Node → Result Visited FindFault 
 Visits kind first node (Ok Success) = succeeds kind first node ≡ true
 Visits kind first node (Ok Leaf) = (succeeds kind first node ≡ false) × (goes_on kind node ≡ false)
 Visits kind first node (Ok Cut) = (succeeds kind first node ≡ false) × (goes_on kind node ≡ true) × (is_some (step_limit (unnamed node.problem)) ≡ true)
-Visits kind first node (Ok (Inner derived)) = (succeeds kind first node ≡ false) × (goes_on kind node ≡ true) × (step_limit (unnamed node.problem) ≡ None) × IsStep (unnamed node.problem) derived
+Visits kind first node (Ok (Inner derived)) = (succeeds kind first node ≡ false) × (goes_on kind node ≡ true) × (step_limit (unnamed node.problem) ≡ None) × (derived ≡ derivation (unnamed node.problem))
 Visits kind first node (Err fault) = fault ≡ NoMemory
 
 -- the nodes from the child of a node that these changes of its derived problem make

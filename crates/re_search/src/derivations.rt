@@ -1,8 +1,7 @@
 //! The derived problems of the problems that were derived last.
 ghost use Rattle.re_problem.specs.NamedProblems.{unnamed};
-ghost use Rattle.re_problem.specs.Problems.{Problem as Unnamed};
 ghost use Rattle.re_search.specs.Derivations.{IsFound};
-ghost use Rattle.re_step.specs.Derivations.{IsStep, step_limit};
+ghost use Rattle.re_step.specs.Derivations.{derivation, step_limit};
 ghost use Rattle.re_step.specs.declared.derivation.StepLimit.{StepLimit};
 ghost use Rattle.std.specs.Prelude.{◌≡◌, Err, IfOk, IfSome, IsTrue, None, Some};
 
@@ -82,7 +81,7 @@ fn copied_sets(alloc: Global, sets: &[LabelSet]) -> Result<Vec<LabelSet>, NoMemo
 
 // The same derived problem in memory of its own.
 fn copy_of(alloc: Global, derived: &Derived) -> Result<Derived, NoMemory>
-    ensures { (first : Unnamed) → IsStep first derived.now → IfOk result (IsStep first) }
+    ensures { IfOk result (λ copied. copied ≡ derived.now) }
 {
     let problem = derived.problem.copy()?;
     let sets = copied_sets(alloc, derived.sets.as_slice())?;
@@ -117,7 +116,7 @@ impl Derivation {
 
     // What `step` answers.
     fn answer(&self, alloc: Global) -> Result<Derived, StepFault>
-        ensures derived { IfOk result (IsStep self.now) }
+        ensures derived { IfOk result (λ derived. derived ≡ derivation self.now) }
         ensures none { IfOk result (λ _. step_limit self.now ≡ None) }
         ensures limit { (limit : StepLimit) → result ≡ Err (StepFault.Limit limit) → step_limit self.now ≡ Some limit }
     {
@@ -179,7 +178,7 @@ impl Derivations {
 
     /// The derived problem, as `re_step::step` answers it. That of a problem that was derived lately is copied and not computed again.
     pub(crate) fn derive(&mut self, problem: &Problem) -> Result<Derived, StepFault>
-        ensures derived { IfOk result (IsStep (unnamed problem.now)) }
+        ensures derived { IfOk result (λ derived. derived ≡ derivation (unnamed problem.now)) }
         ensures none { IfOk result (λ _. step_limit (unnamed problem.now) ≡ None) }
         ensures limit { (limit : StepLimit) → result ≡ Err (StepFault.Limit limit) → step_limit (unnamed problem.now) ≡ Some limit }
     {

@@ -1,5 +1,5 @@
 //! Searches for bounds.
-ghost use Rattle.re_cert.specs.Bounds.{is_bound, is_fixed, step_of};
+ghost use Rattle.re_cert.specs.Bounds.{is_bound, is_fixed};
 ghost use Rattle.re_search.specs.Searches.{Answers, FindsTrue, FindsValid};
 ghost use Rattle.re_search.specs.Walking.{least_depth, node_at};
 ghost use Rattle.re_tree.specs.Nodes.{way_back};
@@ -31,8 +31,8 @@ fn pairs_of(alloc: Global, images: &[u8]) -> Result<Vec<(u8, u8)>, NoMemory>
 // The way back from the end of the path, in a fixed point.
 fn back_of(tree: &Tree, path: &[Step]) -> Option<Way>
     requires { length path.now ≤ 64 }
-    ensures { MatchOption result ((if is_fixed tree.now.kind then way_back tree.now.first.now (node_at tree.now.first.now (map step_of path.now) 0) else None) ≡ None)
-        (λ way. (if is_fixed tree.now.kind then way_back tree.now.first.now (node_at tree.now.first.now (map step_of path.now) 0) else None) ≡ Some (way.number, way.images.items)) }
+    ensures { MatchOption result ((if is_fixed tree.now.kind then way_back tree.now.first.now (node_at tree.now.first.now path.now 0) else None) ≡ None)
+        (λ way. (if is_fixed tree.now.kind then way_back tree.now.first.now (node_at tree.now.first.now path.now 0) else None) ≡ Some (way.number, way.images.items)) }
 {
     match tree.kind {
         Kind::Fixed => way_back(tree.first, path),
@@ -47,8 +47,8 @@ pub(crate) fn built(
     path: Vec<Step>,
     renaming: Vec<(u8, u8)>,
 ) -> Result<Certificate, NoMemory>
-    requires { is_bound (record { kind = tree.now.kind; back = back; first = tree.now.first.now; steps = map step_of path.items; renaming = renaming.items }) ≡ true }
-    ensures { IfOk result (λ certificate. certificate ≡ record { kind = tree.now.kind; back = back; first = tree.now.first.now; steps = map step_of path.items; renaming = renaming.items }) }
+    requires { is_bound (record { kind = tree.now.kind; back = back; first = tree.now.first.now; steps = path.items; renaming = renaming.items }) ≡ true }
+    ensures { IfOk result (λ certificate. certificate ≡ record { kind = tree.now.kind; back = back; first = tree.now.first.now; steps = path.items; renaming = renaming.items }) }
 {
     let first = tree.first.copy()?;
     match Certificate::build(tree.kind, back, first, path, renaming) {
@@ -59,8 +59,8 @@ pub(crate) fn built(
 
 // The certificate of the path.
 fn certificate(tree: &Tree, path: Vec<Step>) -> Result<Certificate, NoMemory>
-    requires { is_bound (bound_of tree.now.kind tree.now.first.now (node_at tree.now.first.now (map step_of path.items) 0)) ≡ true }
-    ensures { IfOk result (λ certificate. certificate ≡ bound_of tree.now.kind tree.now.first.now (node_at tree.now.first.now (map step_of path.items) 0)) }
+    requires { is_bound (bound_of tree.now.kind tree.now.first.now (node_at tree.now.first.now path.items 0)) ≡ true }
+    ensures { IfOk result (λ certificate. certificate ≡ bound_of tree.now.kind tree.now.first.now (node_at tree.now.first.now path.items 0)) }
 {
     match back_of(tree, path.as_slice()) {
         Some(way) => {

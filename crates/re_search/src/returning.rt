@@ -1,5 +1,4 @@
 //! Problems on a path that the problem at its end is an image of.
-ghost use Rattle.re_cert.specs.Bounds.{step_of};
 ghost use Rattle.re_check.specs.Verdicts.{is_yes};
 ghost use Rattle.re_config.specs.Orders.{orders};
 ghost use Rattle.re_labels.specs.Lists.{count_from};
@@ -139,8 +138,8 @@ fn renaming_to(problem: &Problem, target: &Problem) -> Option<ArrayVec<u8, 8>>
 /// as it loses a configuration.
 pub(crate) fn way_back(first: &Problem, path: &[Step]) -> Option<Way>
     requires { length path.now ≤ 64 }
-    ensures { (left : ℕ) → MatchOption result (way_back first.now (node_at first.now (map step_of path.now) left) ≡ None)
-        (λ way. way_back first.now (node_at first.now (map step_of path.now) left) ≡ Some (way.number, way.images.items)) }
+    ensures { (left : ℕ) → MatchOption result (way_back first.now (node_at first.now path.now left) ≡ None)
+        (λ way. way_back first.now (node_at first.now path.now left) ≡ Some (way.number, way.images.items)) }
 {
     let problem = end_of(first, path);
     for number in 0..path.len() {

@@ -1,5 +1,5 @@
 //! Steps of a path, and the problem to which it leads.
-ghost use Rattle.re_cert.specs.Bounds.{is_lower, next_problems, step_of};
+ghost use Rattle.re_cert.specs.Bounds.{is_lower, next_problems};
 ghost use Rattle.re_problem.specs.NamedProblems.{IsNamedProblem};
 ghost use Rattle.re_problem.specs.ProblemTexts.{last_or};
 ghost use Rattle.re_problem.specs.Steps.LowerMap.{by_set};
@@ -7,7 +7,7 @@ ghost use Rattle.re_tree.specs.Nodes.{behind, entries_of};
 ghost use Rattle.std.specs.List.{AllByRecursion};
 ghost use Rattle.std.specs.Prelude.{◌≡◌, ◌≤◌, [], IfOk, if◌then◌else◌, length, map};
 
-use re_cert::{Kind, LowerMap, SetEntry, Step};
+use re_cert::{Kind, LowerMap, SetEntry, Step, StepParts};
 use re_changes::Changed;
 use re_config::Row;
 use re_labels::{LabelSet, NoMemory};
@@ -30,7 +30,7 @@ pub(crate) fn has_lower_steps(kind: Kind) -> bool
 
 /// The problem to which the steps lead.
 pub(crate) fn end_of<'a>(first: &'a Problem, path: &'a [Step]) -> &'a Problem
-    ensures { result.now ≡ last_or first.now (next_problems (map step_of path.now)) }
+    ensures { result.now ≡ last_or first.now (next_problems path.now) }
 {
     if path.is_empty() {
         first
@@ -42,7 +42,7 @@ pub(crate) fn end_of<'a>(first: &'a Problem, path: &'a [Step]) -> &'a Problem
 /// The problem behind so many of the steps.
 pub(crate) fn problem_behind<'a>(first: &'a Problem, path: &'a [Step], number: usize) -> &'a Problem
     requires { number ≤ length path.now }
-    ensures { result.now ≡ behind first.now (map step_of path.now) number }
+    ensures { result.now ≡ behind first.now path.now number }
 {
     if number == 0 {
         first
@@ -53,7 +53,7 @@ pub(crate) fn problem_behind<'a>(first: &'a Problem, path: &'a [Step], number: u
 
 /// That the problems of the steps are problems.
 pub(crate) fn problems(path: &[Step])
-    ensures { AllByRecursion IsNamedProblem (next_problems (map step_of path.now)) }
+    ensures { AllByRecursion IsNamedProblem (next_problems path.now) }
 {
     let [step, others @ ..] = path else {
         return;
@@ -103,7 +103,7 @@ pub(crate) fn step_to(
     made: &Changed,
 ) -> Result<Step, NoMemory>
     requires { length made.now.images ≡ length level.now.sets.items }
-    ensures { IfOk result (λ s. step_of s ≡ record {
+    ensures { IfOk result (λ s. s ≡ record {
       lower = is_lower kind;
       next = made.now.problem;
       rows = if is_lower kind then level.now.rows.items else [];
@@ -115,8 +115,10 @@ pub(crate) fn step_to(
     if has_lower_steps(kind) {
         let rows = copied(alloc, level.rows.as_slice())?;
         let map = LowerMap::BySet(map);
-        Ok(Step::Lower { next, rows, map })
+        let parts = StepParts::Lower { rows, map };
+        Ok(Step { next, parts })
     } else {
-        Ok(Step::Upper { next, map })
+        let parts = StepParts::Upper { map };
+        Ok(Step { next, parts })
     }
 }

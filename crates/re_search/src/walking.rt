@@ -1,9 +1,9 @@
 //! The walk over a search tree, with one path in memory.
-ghost use Rattle.re_cert.specs.Bounds.{is_lower, step_of};
+ghost use Rattle.re_cert.specs.Bounds.{is_lower};
 ghost use Rattle.re_changes.specs.Changes.{changed_times};
 ghost use Rattle.re_problem.specs.NamedProblems.{unnamed};
 ghost use Rattle.re_search.specs.Walking.{IsLevel, Visits, Walks, below_made, node_at};
-ghost use Rattle.re_step.specs.Derivations.{IsStep};
+ghost use Rattle.re_step.specs.Derivations.{derivation};
 ghost use Rattle.re_tree.specs.Nodes.{child, goes_on, is_zero, preorder, steps_from, succeeds};
 ghost use Rattle.std.specs.Prelude.{◌≡◌, ◌≤◌, ◌+◌, ◌++◌, ◌∷◌, ◌&&◌, ◌||◌, [], OnOk, flat_map, length, map, nat_lt, not, suc};
 
@@ -61,9 +61,9 @@ pub(crate) enum Visited {
 
 // Whether the node at the end of the path is a success.
 fn succeeds(tree: &Tree, path: &[Step], left: u8, zero: bool) -> bool
-    requires short { length (map step_of path.now) ≤ 64 }
-    requires zero { zero ≡ is_zero (node_at tree.now.first.now (map step_of path.now) left).problem }
-    ensures { result ≡ succeeds tree.now.kind tree.now.first.now (node_at tree.now.first.now (map step_of path.now) left) }
+    requires short { length path.now ≤ 64 }
+    requires zero { zero ≡ is_zero (node_at tree.now.first.now path.now left).problem }
+    ensures { result ≡ succeeds tree.now.kind tree.now.first.now (node_at tree.now.first.now path.now left) }
 {
     match tree.kind {
         Kind::Lower => left == 0 && !zero,
@@ -86,8 +86,8 @@ fn visit(
     path: &[Step],
     left: u8,
 ) -> Result<Visited, FindFault>
-    requires { length (map step_of path.now) + left ≤ 64 }
-    ensures { Visits tree.now.kind tree.now.first.now (node_at tree.now.first.now (map step_of path.now) left) result }
+    requires { length path.now + left ≤ 64 }
+    ensures { Visits tree.now.kind tree.now.first.now (node_at tree.now.first.now path.now left) result }
 {
     let problem = end_of(tree.first, path);
     let zero = is_zero(problem);
@@ -116,10 +116,10 @@ pub(crate) fn walk(
     count: Count,
 ) -> Result<Walked, FindFault>
     requires most { tree.now.most ≤ 8 }
-    requires short { length (map step_of path.old.items) + left ≤ 64 }
+    requires short { length path.old.items + left ≤ 64 }
     requires nodes { count.nodes ≤ MAX_NODES }
     requires cut { count.cut ≤ count.nodes }
-    ensures { Walks tree.now.kind tree.now.first.now count (preorder tree.now.kind tree.now.most left (node_at tree.now.first.now (map step_of path.old.items) left)) (map step_of path.old.items) (map step_of path.new.items) result }
+    ensures { Walks tree.now.kind tree.now.first.now count (preorder tree.now.kind tree.now.most left (node_at tree.now.first.now path.old.items left)) path.old.items path.new.items result }
 {
     if count.nodes >= MAX_NODES {
         return Err(FindFault::TooManyNodes);
@@ -161,12 +161,12 @@ fn walk_children(
     count: Count,
 ) -> Result<Walked, FindFault>
     requires most { tree.now.most ≤ 8 }
-    requires short { length (map step_of path.old.items) + suc left ≤ 64 }
+    requires short { length path.old.items + suc left ≤ 64 }
     requires nodes { count.nodes ≤ MAX_NODES }
     requires cut { count.cut ≤ count.nodes }
-    requires derived { IsStep (unnamed (node_at tree.now.first.now (map step_of path.old.items) (suc left)).problem) derived }
-    ensures { let node = node_at tree.now.first.now (map step_of path.old.items) (suc left) in
-        Walks tree.now.kind tree.now.first.now count (flat_map (preorder tree.now.kind tree.now.most left) (map (child node) (steps_from tree.now.kind tree.now.most node.problem))) (map step_of path.old.items) (map step_of path.new.items) result }
+    requires derived { derived ≡ derivation (unnamed (node_at tree.now.first.now path.old.items (suc left)).problem) }
+    ensures { let node = node_at tree.now.first.now path.old.items (suc left) in
+        Walks tree.now.kind tree.now.first.now count (flat_map (preorder tree.now.kind tree.now.most left) (map (child node) (steps_from tree.now.kind tree.now.most node.problem))) path.old.items path.new.items result }
 {
     let Derived {
         problem,
@@ -209,13 +209,13 @@ fn walk_changed(
 ) -> Result<Walked, FindFault>
     requires most { tree.now.most ≤ 8 }
     requires changes { changes ≤ 8 }
-    requires short { length (map step_of path.old.items) + suc left ≤ 64 }
+    requires short { length path.old.items + suc left ≤ 64 }
     requires nodes { count.nodes ≤ MAX_NODES }
     requires cut { count.cut ≤ count.nodes }
-    requires level { IsLevel (node_at tree.now.first.now (map step_of path.old.items) (suc left)).problem level.now }
+    requires level { IsLevel (node_at tree.now.first.now path.old.items (suc left)).problem level.now }
     requires images { length made.now.images ≡ length level.now.sets.items }
-    ensures { Walks tree.now.kind tree.now.first.now count (flat_map (below_made tree.now.kind tree.now.most left (node_at tree.now.first.now (map step_of path.old.items) (suc left))) (changed_times (is_lower tree.now.kind) changes made.now))
-        (map step_of path.old.items) (map step_of path.new.items) result }
+    ensures { Walks tree.now.kind tree.now.first.now count (flat_map (below_made tree.now.kind tree.now.most left (node_at tree.now.first.now path.old.items (suc left))) (changed_times (is_lower tree.now.kind) changes made.now))
+        path.old.items path.new.items result }
 {
     if changes == 0 {
         return walk_child(tree, derivations, path, left, level, made, count);
@@ -266,12 +266,12 @@ fn walk_child(
     count: Count,
 ) -> Result<Walked, FindFault>
     requires most { tree.now.most ≤ 8 }
-    requires short { length (map step_of path.old.items) + suc left ≤ 64 }
+    requires short { length path.old.items + suc left ≤ 64 }
     requires nodes { count.nodes ≤ MAX_NODES }
     requires cut { count.cut ≤ count.nodes }
-    requires level { IsLevel (node_at tree.now.first.now (map step_of path.old.items) (suc left)).problem level.now }
+    requires level { IsLevel (node_at tree.now.first.now path.old.items (suc left)).problem level.now }
     requires images { length made.now.images ≡ length level.now.sets.items }
-    ensures { Walks tree.now.kind tree.now.first.now count (below_made tree.now.kind tree.now.most left (node_at tree.now.first.now (map step_of path.old.items) (suc left)) made.now) (map step_of path.old.items) (map step_of path.new.items) result }
+    ensures { Walks tree.now.kind tree.now.first.now count (below_made tree.now.kind tree.now.most left (node_at tree.now.first.now path.old.items (suc left)) made.now) path.old.items path.new.items result }
 {
     let depth = path.as_slice().len();
     let Ok(step) = step_to(tree.alloc, tree.kind, level, made) else {

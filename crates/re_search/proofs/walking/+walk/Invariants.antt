@@ -1,6 +1,6 @@
-use Rattle.std.proofs.Common.{◌+◌, ◌-◌, ◌*◌, Ok, suc, map, flat_map, take}
+use Rattle.std.proofs.Common.{◌+◌, ◌-◌, ◌*◌, Ok, suc, flat_map, take}
 use Rattle.re_labels.specs.Lists.{count_from}
-use Rattle.re_cert.specs.Bounds.{is_lower, step_of}
+use Rattle.re_cert.specs.Bounds.{is_lower}
 use Rattle.re_changes.specs.Changes.{changed_by, changed_times, unchanged}
 use Rattle.re_problem.specs.NamedProblems.{unnamed}
 use Rattle.re_step.specs.Derivations.{named_derived}
@@ -23,13 +23,13 @@ decreases-walk_child l = l.left * 32 + 1
 abbrev pub invariant-walk_children-loop-changes : goal.invariant-walk_children-loop-changes
 invariant-walk_children-loop-changes l =
     Walks l.tree.kind l.tree.first.now l.fn.count
-    (flat_map (λ m. flat_map (below_made l.tree.kind l.tree.most l.left (node_at l.tree.first.now (map step_of l.fn.path.items) (suc l.left))) (changed_times (is_lower l.tree.kind) m (unchanged (named_derived (unnamed (node_at l.tree.first.now (map step_of l.fn.path.items) (suc l.left)).problem)))))
+    (flat_map (λ m. flat_map (below_made l.tree.kind l.tree.most l.left (node_at l.tree.first.now l.fn.path.items (suc l.left))) (changed_times (is_lower l.tree.kind) m (unchanged (named_derived (unnamed (node_at l.tree.first.now l.fn.path.items (suc l.left)).problem)))))
     (take l.changes (count_from 0 (suc l.tree.most))))
-    (map step_of l.fn.path.items) (map step_of l.path.items) (Ok (Passed l.count))
+    l.fn.path.items l.path.items (Ok (Passed l.count))
 
 abbrev pub invariant-walk_changed-loop-change : goal.invariant-walk_changed-loop-change
 invariant-walk_changed-loop-change l =
     Walks l.tree.kind l.tree.first.now l.fn.count
-    (flat_map (λ change. flat_map (below_made l.tree.kind l.tree.most l.left (node_at l.tree.first.now (map step_of l.fn.path.items) (suc l.left))) (changed_times (is_lower l.tree.kind) (l.changes - 1) (changed_by change l.made)))
+    (flat_map (λ change. flat_map (below_made l.tree.kind l.tree.most l.left (node_at l.tree.first.now l.fn.path.items (suc l.left))) (changed_times (is_lower l.tree.kind) (l.changes - 1) (changed_by change l.made)))
     (take l.change-index l.change-items))
-    (map step_of l.fn.path.items) (map step_of l.path.items) (Ok (Passed l.count))
+    l.fn.path.items l.path.items (Ok (Passed l.count))

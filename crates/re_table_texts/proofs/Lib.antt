@@ -1,0 +1,4 @@
+pub mod JudgedLines
+pub mod PrintedLines
+pub mod ReadBack
+pub mod ReadTexts

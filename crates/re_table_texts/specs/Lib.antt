@@ -1,0 +1,4 @@
+pub mod PrintedTables
+pub mod Reading
+pub mod SectionLines
+pub mod TableTexts

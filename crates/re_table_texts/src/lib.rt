@@ -1,0 +1,13 @@
+//! The texts of tables: a problem, perhaps the next one, and the answers of an algorithm, one view a line.
+#![tactic(auto)]
+
+mod answer_lines;
+mod laws;
+mod printing;
+mod reading;
+mod sections;
+mod table_texts;
+
+pub use laws::table_text_law;
+pub use printing::print_table;
+pub use table_texts::{TableForm, TableInput, read_table};

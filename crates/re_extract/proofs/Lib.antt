@@ -1,0 +1,4 @@
+pub mod Found
+pub mod Levels
+pub mod Opening
+pub mod Placed

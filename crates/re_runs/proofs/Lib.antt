@@ -1,0 +1,5 @@
+mod ForeignSections
+mod FrontLines
+mod RestLines
+pub mod RunSteps
+mod Tested

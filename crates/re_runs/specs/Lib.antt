@@ -1,0 +1,5 @@
+pub mod RunLines
+pub mod RunReading
+pub mod RunTexts
+pub mod Runs
+pub mod TreeTests

@@ -1,0 +1,100 @@
+//! The certificate at the front of an input of `run`.
+ghost use Rattle.re_cert.specs.CertificateReading.{Stands};
+ghost use Rattle.re_cert.specs.CertificateTexts.{State as CertificateState, behind as behind_lines, is_whole};
+ghost use Rattle.re_io.specs.LineReading.{IsFirstLine, LineText, line_bytes};
+ghost use Rattle.re_io.specs.declared.read.TheConstants.{MAX_BYTES};
+ghost use Rattle.re_runs.specs.RunReading.{Ends, Feeds, Refuses};
+ghost use Rattle.re_runs.specs.RunTexts.{behind, run_text};
+ghost use Rattle.re_runs.specs.RunTexts.State.{InCertificate};
+ghost use Rattle.std.specs.Prelude.{◌≡◌, ◌==◌, ◌≤◌, ◌<◌, ◌+◌, ◌++◌, ◌∷◌, [], false, true, List, None, Ok, Err, Some, ℕ, IfErr, IfOk, IfSome, length, position};
+
+use crate::lines::is_deliveries_line;
+use re_cert::CertReader;
+use re_io::Line;
+use re_problem::{InputFault, TextFault};
+use std::alloc::Global;
+
+// A section line that no certificate has.
+const MARK: &[u8] = b"==";
+
+// The place of the first line feed.
+fn feed_place(bytes: &[u8]) -> Option<usize>
+    ensures place { result ≡ position (λ b. b == 10) bytes.now }
+    ensures within { IfSome result (λ place. place < length bytes.now) }
+{
+    bytes.iter().position(|byte| *byte == b'\n')
+}
+
+/// The first line of a text, what stands behind it, and whether its line feed was there.
+pub(crate) fn cut_line(text: &[u8]) -> (&[u8], &[u8], bool)
+    requires { 0 < length text.now }
+    ensures first { IsFirstLine text.now (record { text = result.0.now; ended = result.2 }) result.1.now None }
+    ensures filled { 0 < length (line_bytes (record { text = result.0.now; ended = result.2 })) }
+    ensures size { length (line_bytes (record { text = result.0.now; ended = result.2 })) + length result.1.now ≡ length text.now }
+    ensures whole { length result.0.now ≤ length (line_bytes (record { text = result.0.now; ended = result.2 })) }
+{
+    match feed_place(text) {
+        Some(at) => (&text[..at], &text[at + 1..], true),
+        None => (text, &text[text.len()..], false),
+    }
+}
+
+// Feeds a finished line with this text.
+fn feed(alloc: Global, reader: &mut CertReader, text: &[u8]) -> Result<(), TextFault>
+    requires fed { (before : List LineText) × Stands reader.old before }
+    requires within { reader.old.byte + length text.now + 1 ≤ MAX_BYTES }
+    ensures { (before : List LineText) (s : CertificateState) → behind_lines before ≡ Ok s → Stands reader.old before → Feeds s text.now reader.new before result }
+{
+    let text = match Vec::from_slice(alloc, text) {
+        Ok(text) => text,
+        Err(_) => return Err(TextFault::NoMemory),
+    };
+    match reader.feed(&Line { text, ended: true }) {
+        Ok(_) => Ok(()),
+        Err(fault) => Err(fault),
+    }
+}
+
+// The fault of a text whose last line is this one, without a line feed, before its certificate has ended.
+fn unfinished_fault(alloc: Global, reader: &mut CertReader, line: &[u8]) -> TextFault
+    requires fed { (before : List LineText) × Stands reader.old before }
+    requires goes_on { (before : List LineText) → Stands reader.old before → is_whole (behind_lines before) ≡ false }
+    requires within { reader.old.byte + length line.now ≤ MAX_BYTES }
+    ensures { (before : List LineText) (s : CertificateState) (byte number : ℕ) → behind_lines before ≡ Ok s → Stands reader.old before
+        → Refuses (behind byte number (InCertificate s) (record { text = line.now; ended = false } ∷ [])) result }
+{
+    if !is_deliveries_line(line) {
+        return TextFault::Bad(InputFault::EarlyEnd);
+    }
+    match feed(alloc, reader, MARK) {
+        Ok(()) => unreachable!(),
+        Err(fault) => fault,
+    }
+}
+
+/// What stands behind the certificate's `== end`, and the number of its first line.
+pub(crate) fn certificate_end(alloc: Global, text: &[u8]) -> Result<(&[u8], u32), TextFault>
+    requires { length text.now ≤ MAX_BYTES }
+    ensures ends { IfOk result (λ left. Ends text.now left.0.now left.1) }
+    ensures refused { IfErr result (λ fault. Refuses (run_text text.now) fault) }
+{
+    let mut reader = CertReader::new(alloc);
+    let mut rest = text;
+    let mut number: u32 = 1;
+    'lines: while !rest.is_empty() {
+        let (line, behind, ended) = cut_line(rest);
+        if !ended {
+            return Err(unfinished_fault(alloc, &mut reader, line));
+        }
+        match feed(alloc, &mut reader, line) {
+            Ok(()) => {}
+            Err(fault) => return Err(fault),
+        }
+        rest = behind;
+        number += 1;
+        if reader.ended() {
+            return Ok((rest, number));
+        }
+    }
+    Err(TextFault::Bad(InputFault::EarlyEnd))
+}

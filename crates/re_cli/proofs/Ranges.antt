@@ -12,11 +12,12 @@ use Rattle.re_items.specs.Numerals.{number_of}
 use Rattle.re_labels.proofs.Tests.{and-true}
 use Rattle.re_cli.specs.Command.{IsMaking, IsReading, command_among, command_of, command_of_five, command_of_three, command_of_two, diagrams, family_named, family_with, is_family, is_made, is_search, kind_named, least_steps, one_word, rounds_up_to, search_with, step_from, steps_of, word_of}
 use Rattle.re_cli.specs.declared.command.Command.{Command}
-use Rattle.re_cli.specs.declared.command.Command.TheVariants.{Makes, Maps, Reads, Streams}
+use Rattle.re_cli.specs.declared.command.Command.TheVariants.{Extracts, Makes, Maps, Reads, Streams, Tables, Runs}
 use Rattle.re_cli.specs.declared.command.Making.{Making}
 use Rattle.re_cli.specs.declared.command.Making.TheVariants.{OfFamily, OneStep}
 use Rattle.re_cli.specs.declared.command.Reading.{Reading}
 use Rattle.re_cli.specs.declared.command.Reading.TheVariants.{Rounds, Search, Step}
+use Rattle.re_families.proofs.Whole.{number_range}
 
 -- ---- what the tests say
 le_of : (a b : ℕ) → nat_le a b ≡ true → a ≤ b
@@ -40,12 +41,6 @@ passive_most Matching passive h = degree_most passive h
 passive_most Orientation passive h = degree_most passive h
 passive_most Mis passive h = equal_most passive 2 6 h (omega arith)
 
-number_most : (kind : Family) (number : ℕ) → number_fits kind number ≡ true → number ≤ 16
-number_most Colouring number h = le_of number 16 (and-true (nat_le 1 number) (nat_le number 16) h).1
-number_most Matching number h = equal_most number 0 16 h (omega arith)
-number_most Orientation number h = equal_most number 0 16 h (omega arith)
-number_most Mis number h = equal_most number 0 16 h (omega arith)
-
 -- the numbers of a family are small, and none is out of its range
 pub record IsSmall (kind : Family) (active passive number : ℕ) : Type 0 where
   pub active_small : active ≤ 6
@@ -59,7 +54,7 @@ family_range kind active passive number h =
     let both = and-true (is_degree active) (passive_fits kind passive) all.0 in record {
       active_small = degree_most active both.0;
       passive_small = passive_most kind passive both.1;
-      number_small = number_most kind number all.1;
+      number_small = number_range kind number all.1;
       in_range = go (is_degree active) (passive_fits kind passive) (number_fits kind number) both.0 both.1 all.1;
     }
   where
@@ -75,7 +70,10 @@ IsWithin None = Unit {0}
 IsWithin (Some (Streams streaming)) = Unit {0}
 IsWithin (Some (Reads reading)) = IsReading reading
 IsWithin (Some (Maps mapping)) = Unit {0}
+IsWithin (Some (Tables form)) = Unit {0}
+IsWithin (Some Extracts) = Unit {0}
 IsWithin (Some (Makes making)) = IsMaking making
+IsWithin (Some Runs) = Unit {0}
 
 among : (commands : List Command) (word : List ℕ) → AllByRecursion (λ command. IsWithin (Some command)) commands → IsWithin (command_among commands word)
 among [] word h = tt
@@ -154,7 +152,7 @@ five_within first name active passive number =
 words_within : (words : List (List ℕ)) → IsWithin (command_of words)
 unfolding command_of
 words_within [] = tt
-words_within (word ∷ []) = among one_word word (tt, (tt, (tt, (tt, (tt, (tt, (tt, (tt, (tt, tt)))))))))
+words_within (word ∷ []) = among one_word word (tt, (tt, (tt, (tt, (tt, (tt, (tt, (tt, (tt, (tt, (tt, (tt, (tt, (tt, tt))))))))))))))
 words_within (first ∷ second ∷ []) = two_within first second
 words_within (first ∷ second ∷ third ∷ []) = three_within first second third
 words_within (first ∷ second ∷ third ∷ fourth ∷ []) = tt

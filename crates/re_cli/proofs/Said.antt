@@ -1,9 +1,10 @@
 -- What each command may answer, whatever bytes it reads.
-use Rattle.std.proofs.Common.{◌≡◌, ℕ, zero, suc, ◌+◌, ◌-◌, Bool, true, false, List, Option, Some, None, Result, Ok, Err, refl, sym, ap, ◌∙◌, subst}
-use Rattle.std.specs.Prelude.{if◌then◌else◌, codes, nat_lt, length, IfOk, IsTrue}
+use Rattle.std.proofs.Common.{◌≡◌, ℕ, zero, suc, ◌+◌, ◌-◌, Bool, true, false, List, Option, Some, None, Result, Ok, Err, refl, sym, ap, ◌∙◌, subst, []}
+use Rattle.std.specs.Prelude.{if◌then◌else◌, codes, nat_lt, length, unwrap_or, IfOk, IsTrue}
 use Rattle.re_cert.specs.Bounds.{Bound}
 use Rattle.re_cert.specs.CertificateTexts.{certificate_fault, certificate_of, text_lines}
 use Rattle.re_check.specs.Verdicts.{verdict_of}
+use Rattle.re_cert.specs.declared.certificate.Kind.TheVariants.{Lower, Upper, Fixed}
 use Rattle.re_check.specs.declared.verdict.Verdict.{Verdict}
 use Rattle.re_check.specs.declared.verdict.Verdict.TheVariants.{Accepted, Refused}
 use Rattle.re_config.specs.declared.TheConstants.{MAX_ROWS}
@@ -20,6 +21,8 @@ use Rattle.re_problem.specs.ProblemTexts.{first_fault, lines_of, problem_of}
 use Rattle.re_problem.specs.Zero.{zero_place}
 use Rattle.re_problem.specs.declared.fault.InputFault.{InputFault}
 use Rattle.re_problem.specs.declared.fault.InputFault.TheVariants as input
+use Rattle.re_runs.specs.RunTexts.{RunText, run_text}
+use Rattle.re_runs.specs.Runs.{first_illegal}
 use Rattle.re_search.specs.Counting.{rounds_of}
 use Rattle.re_search.specs.OneStep.{one_step_bound}
 use Rattle.re_search.specs.Searches.{search_of}
@@ -39,10 +42,21 @@ use Rattle.re_cli.specs.Outcome.{Outcome, status_of}
 use Rattle.re_cli.specs.Output.{bad_words, outcome_of}
 use Rattle.re_cli.specs.Reading.{fault_status, fit_outcome, problem_outcome, read_outcome, reading_outcome}
 use Rattle.re_cli.specs.Run.{MaySay, Says}
+use Rattle.re_cli.specs.Running.{delivered, running_outcome, verified, written}
 use Rattle.re_cli.specs.Searching.{search_outcome, searched}
-use Rattle.re_cli.specs.Working.{derived_text, diagram_outcome, done, limit, merge_outcome, or_limit, step_outcome, stepped, trim_outcome, universal_outcome}
+use Rattle.re_algo.specs.Constructions.{faster_table, slower_table}
+use Rattle.re_algo.specs.Verdicts.{table_verdict}
+use Rattle.re_algo.specs.declared.solving.TableVerdict.{TableVerdict}
+use Rattle.re_algo.specs.declared.solving.TableVerdict.TheVariants as table
+use Rattle.re_places.specs.Counting.{view_count}
+use Rattle.re_table_texts.specs.PrintedTables.{table_text}
+use Rattle.re_table_texts.specs.TableTexts.{TableText, table_input}
+use Rattle.re_table_texts.specs.declared.table_texts.TableForm.{TableForm}
+use Rattle.re_table_texts.specs.declared.table_texts.TableForm.TheVariants as form
+use Rattle.re_cli.specs.Tabling.{behind_next, if_counted, or_fault, or_refusal, same_problems, slower_outcome, tabled, tabling_outcome}
+use Rattle.re_cli.specs.Working.{derived_text, diagram_outcome, done, limit, merge_outcome, or_limit, refused, step_outcome, stepped, trim_outcome, universal_outcome}
 use Rattle.re_cli.specs.declared.command.Command.{Command}
-use Rattle.re_cli.specs.declared.command.Command.TheVariants.{Makes, Maps, Reads}
+use Rattle.re_cli.specs.declared.command.Command.TheVariants.{Makes, Maps, Reads, Runs}
 use Rattle.re_cli.specs.declared.command.Making.{Making}
 use Rattle.re_cli.specs.declared.command.Making.TheVariants as making
 use Rattle.re_cli.specs.declared.command.Mapping.{Mapping}
@@ -69,6 +83,8 @@ fault_says (input.BadEntry line) judging = tt
 fault_says (input.BadBack line) judging = tt
 fault_says (input.TooManySteps line) judging = tt
 fault_says (input.TooManyRows line) judging = tt
+fault_says (input.TooManyViews line) judging = tt
+fault_says (input.TooManyNodes line) judging = tt
 fault_says input.EarlyEnd judging = tt
 
 -- ---- the commands that read a problem
@@ -144,6 +160,38 @@ pub mapping_says : (mapping : Mapping) (bytes : List ℕ) → MaySay (mapping_ou
 unfolding mapping_outcome
 mapping_says mapping bytes = mapped_says mapping (map_text (kind_of mapping) bytes)
 
+or_refusal_says : (verdict : TableVerdict) (outcome : Outcome) → MaySay outcome.status true → MaySay (or_refusal verdict outcome).status true
+or_refusal_says table.Yes outcome says = says
+or_refusal_says (table.Active number) outcome says = refl
+or_refusal_says table.Passive outcome says = refl
+
+if_counted_says : (count : Option ℕ) (outcome : Outcome) → MaySay outcome.status true → MaySay (if_counted count outcome).status true
+if_counted_says None outcome says = tt
+if_counted_says (Some count) outcome says = says
+
+tabled_says : (form : TableForm) (text : TableText) → MaySay (tabled form text).status true
+tabled_says form.Plain text = or_refusal_says (table_verdict (unnamed text.problem) text.table) (done (codes "yes\n")) tt
+tabled_says form.Faster text =
+    let problem = text.problem in
+    let behind : Outcome = done (table_text (named_derived (unnamed problem)) (faster_table (unnamed problem) text.table)) in
+    or_refusal_says (table_verdict (unnamed problem) text.table) (or_limit 1 (step_limit (unnamed problem)) behind) (passed 1 (step_limit (unnamed problem)) behind true tt)
+tabled_says form.Slower text =
+    let problem = text.problem in
+    let next = unwrap_or text.next problem in
+    let more : Outcome = slower_outcome problem text.table in
+    passed 1 (step_limit (unnamed problem)) (behind_next problem next text.table) true
+    (chosen (same_problems next (named_derived (unnamed problem))) (or_refusal (table_verdict (unnamed next) text.table) more) (refused (codes "no: next\n")) true
+    (or_refusal_says (table_verdict (unnamed next) text.table) more
+    (if_counted_says (view_count problem.active.degree problem.passive.degree (suc text.table.radius)) (done (table_text problem (slower_table (unnamed problem) text.table))) tt)) refl)
+
+or_fault_says : (form : TableForm) (text : Result TableText InputFault) → MaySay (or_fault form text).status true
+or_fault_says form (Ok text) = tabled_says form text
+or_fault_says form (Err fault) = fault_says fault true
+
+pub tabling_says : (form : TableForm) (bytes : List ℕ) → MaySay (tabling_outcome form bytes).status true
+unfolding tabling_outcome
+tabling_says form bytes = or_fault_says form (table_input form bytes)
+
 passed_or_said : (number : ℕ) (first : Option StepLimit) (text : List ℕ) (given : Verdict) → MaySay (or_limit number first (behind text (verdict_outcome given))).status true
 passed_or_said number (Some first) text given = tt
 passed_or_said number None text (Accepted kind steps) = tt
@@ -159,6 +207,25 @@ making_says (making.OneStep colours) =
 pub check_says : (given : Verdict) → MaySay (verdict_outcome given).status true
 check_says (Accepted kind steps) = tt
 check_says (Refused step clause) = refl
+
+-- ---- the command that runs an algorithm
+moved_says : (text : RunText) (line : Option ℕ) → MaySay (delivered text line).status true
+moved_says text (Some line) = refl
+moved_says text None = tt
+
+verified_says : (text : RunText) (given : Verdict) → MaySay (verified text given).status true
+verified_says text (Accepted Lower steps) = refl
+verified_says text (Accepted Upper steps) = moved_says text (first_illegal text.tree (length text.bound.steps) [] text.deliveries)
+verified_says text (Accepted Fixed steps) = refl
+verified_says text (Refused step clause) = refl
+
+written_says : (text : Result RunText InputFault) → MaySay (written text).status true
+written_says (Ok text) = verified_says text (verdict_of text.bound)
+written_says (Err fault) = fault_says fault true
+
+pub running_says : (bytes : List ℕ) → MaySay (running_outcome bytes).status true
+unfolding running_outcome
+running_says bytes = written_says (run_text bytes)
 
 -- ---- the answer of a run
 pub says_none : (words : List (List ℕ)) (output : Output) → None ≡ command_of words → outcome_of output ≡ bad_words → Says (status_of output.answer) (command_of words)

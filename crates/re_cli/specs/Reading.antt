@@ -6,7 +6,7 @@ use Rattle.re_problem.specs.NamedProblems.{NamedProblem, unnamed}
 use Rattle.re_problem.specs.ProblemTexts.{first_fault, lines_of, problem_of}
 use Rattle.re_problem.specs.Zero.{zero_place}
 use Rattle.re_problem.specs.declared.fault.InputFault.{InputFault}
-use Rattle.re_problem.specs.declared.fault.InputFault.TheVariants.{BadByte, BadItem, WrongDegree, MissingBlock, ExtraBlock, DegreeOutOfRange, TooManyLabels, TooManyConfigurations, BadSection, BadEntry, BadBack, TooManySteps, TooManyRows, EarlyEnd}
+use Rattle.re_problem.specs.declared.fault.InputFault.TheVariants.{BadByte, BadItem, WrongDegree, MissingBlock, ExtraBlock, DegreeOutOfRange, TooManyLabels, TooManyConfigurations, BadSection, BadEntry, BadBack, TooManySteps, TooManyRows, TooManyViews, TooManyNodes, EarlyEnd}
 use Rattle.re_cli.specs.Counting.{rounds_outcome}
 use Rattle.re_cli.specs.Outcome.{Outcome}
 use Rattle.re_cli.specs.Searching.{search_outcome}
@@ -31,6 +31,8 @@ fault_line (BadEntry line) = codes "input: line " ++ decimal line ++ codes ": ba
 fault_line (BadBack line) = codes "input: line " ++ decimal line ++ codes ": back is not before the last problem\n"
 fault_line (TooManySteps line) = codes "limit: line " ++ decimal line ++ codes ": more than 64 steps\n"
 fault_line (TooManyRows line) = codes "limit: line " ++ decimal line ++ codes ": more than 1024 rows\n"
+fault_line (TooManyViews line) = codes "limit: line " ++ decimal line ++ codes ": more than 65536 views\n"
+fault_line (TooManyNodes line) = codes "limit: line " ++ decimal line ++ codes ": more than 4096 nodes\n"
 fault_line EarlyEnd = codes "input: ends too early\n"
 
 -- a text that passes a limit isn't wrong
@@ -39,6 +41,8 @@ fault_status (TooManyLabels line) = Limit
 fault_status (TooManyConfigurations line) = Limit
 fault_status (TooManySteps line) = Limit
 fault_status (TooManyRows line) = Limit
+fault_status (TooManyViews line) = Limit
+fault_status (TooManyNodes line) = Limit
 fault_status fault = BadInput
 
 abbrev pub fault_outcome : InputFault → Outcome

@@ -3,6 +3,7 @@ ghost use Rattle.std.specs.Prelude.{◌≡◌, ◌≤◌, ◌<◌, ◌++◌, ℕ
 ghost use Rattle.re_io.specs.Faults.{Rose};
 ghost use Rattle.re_problem.specs.CanonicalTexts.{canonical};
 ghost use Rattle.re_problem.specs.NamedProblems.{unnamed};
+ghost use Rattle.re_problem.specs.TextReading.{ReadGives};
 ghost use Rattle.re_problem.specs.Zero.{zero_place};
 ghost use Rattle.re_cli.specs.Command.{IsReading, judges};
 ghost use Rattle.re_cli.specs.Output.{outcome_of, within_limit};
@@ -65,6 +66,12 @@ fn line_of(alloc: Global, fault: InputFault) -> Result<String, AllocError>
         InputFault::TooManyRows(line) => {
             format!(in alloc; "limit: line {line}: more than 1024 rows\n")
         }
+        InputFault::TooManyViews(line) => {
+            format!(in alloc; "limit: line {line}: more than 65536 views\n")
+        }
+        InputFault::TooManyNodes(line) => {
+            format!(in alloc; "limit: line {line}: more than 4096 nodes\n")
+        }
         InputFault::EarlyEnd => String::from_str(alloc, "input: ends too early\n"),
     }
 }
@@ -76,7 +83,9 @@ fn answer_to(fault: InputFault) -> Answer
         InputFault::TooManyLabels(_)
         | InputFault::TooManyConfigurations(_)
         | InputFault::TooManySteps(_)
-        | InputFault::TooManyRows(_) => Answer::Limit,
+        | InputFault::TooManyRows(_)
+        | InputFault::TooManyViews(_)
+        | InputFault::TooManyNodes(_) => Answer::Limit,
         _ => Answer::BadInput,
     }
 }
@@ -139,13 +148,21 @@ fn problem_output(alloc: Global, reading: Reading, problem: &Problem) -> Result<
     }
 }
 
-#[tactic(auto, unfolding(crate::specs::Reading::reading_outcome))]
-fn text_output(alloc: Global, reading: Reading, text: &[u8]) -> Result<Output, NoMemory>
-    requires within { length text.now ≤ MAX_BYTES }
-    requires reading { IsReading reading }
-    ensures { IfOk result (λ output. outcome_of output ≡ reading_outcome reading text.now) }
+// The problem of a text, which is let go then.
+fn problem_of(alloc: Global, text: Vec<u8>) -> Result<Problem, TextFault>
+    requires { length text.items ≤ MAX_BYTES }
+    ensures { ReadGives text.items result }
 {
-    match read_problem(alloc, text) {
+    read_problem(alloc, text.as_slice())
+}
+
+#[tactic(auto, unfolding(crate::specs::Reading::reading_outcome))]
+fn text_output(alloc: Global, reading: Reading, text: Vec<u8>) -> Result<Output, NoMemory>
+    requires within { length text.items ≤ MAX_BYTES }
+    requires reading { IsReading reading }
+    ensures { IfOk result (λ output. outcome_of output ≡ reading_outcome reading text.items) }
+{
+    match problem_of(alloc, text) {
         Ok(problem) => problem_output(alloc, reading, &problem),
         Err(TextFault::Bad(fault)) => Ok(fault_output(alloc, fault)?),
         Err(TextFault::NoMemory) => Err(NoMemory),
@@ -174,5 +191,5 @@ pub(crate) fn read<S: Source>(
         Err(LineFault::InputTooLong) => return Ok(too_long(alloc)?),
         Err(LineFault::NoMemory) => return Err(Stop::NoMemory),
     };
-    Ok(text_output(alloc, reading, bytes.as_slice())?)
+    Ok(text_output(alloc, reading, bytes)?)
 }

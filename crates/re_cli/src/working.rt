@@ -2,7 +2,7 @@
 ghost use Rattle.re_cli.specs.Output.{outcome_of};
 ghost use Rattle.re_cli.specs.Working.{constraint_at, derived_text, diagram_outcome, done, limit as limit_with, limit_line, merge_outcome, or_limit, refused as refused_with, step_outcome, stepped, trim_outcome, universal_outcome};
 ghost use Rattle.re_problem.specs.NamedProblems.{unnamed};
-ghost use Rattle.re_step.specs.Derivations.{IsStep, step_limit};
+ghost use Rattle.re_step.specs.Derivations.{derivation, step_limit};
 ghost use Rattle.std.specs.Fmt.{decimal};
 ghost use Rattle.std.specs.Prelude.{◌≡◌, ◌≤◌, ◌+◌, ◌++◌, List, ℕ, None, Some, IfOk, OnOk, codes, string_bytes};
 
@@ -155,7 +155,7 @@ pub(crate) fn limit_output(alloc: Global, number: u8, limit: StepLimit) -> Resul
 // The meanings of the labels of the derived problem, an empty line, and its canonical text.
 #[tactic(auto, unfolding(crate::specs::Working::derived_text))]
 fn derived_output(alloc: Global, problem: &Problem, derived: &Derived) -> Result<Output, NoMemory>
-    requires { IsStep (unnamed problem.now) derived.now }
+    requires { derived.now ≡ derivation (unnamed problem.now) }
     ensures { IfOk result (λ output. outcome_of output ≡ done (derived_text problem.now)) }
 {
     let mut text = print_meanings(

@@ -1,0 +1,119 @@
+//! What no clause says: each call once with ample memory, and numbers that were counted by hand.
+ghost use Rattle.re_pool.specs.Pools.{AreHeld, IsPool, tree_at};
+ghost use Rattle.re_views.specs.Shown.{tree_of_view};
+ghost use Rattle.re_views.specs.Trees.{IsView};
+ghost use Rattle.std.specs.Prelude.{◌<◌, ◌≡◌, IfOk, length};
+
+use arrayvec::ArrayVec;
+use re_labels::{Degrees, Side};
+use re_pool::{Link, NodeId, Pool, Shape, narrow_law};
+use re_views::{View, all_views, cut, is_view, shift};
+use std::process::Abort;
+use std::test::Fail;
+
+const DEGREES: Degrees = Degrees {
+    active: 3,
+    passive: 2,
+};
+
+// The number of an active view of this radius.
+fn placed(rt: &impl Abort, pool: &mut Pool, view: &View<()>, radius: u8) -> Result<NodeId, Fail>
+    ensures held { IfOk result (λ id. id < length pool.new) }
+    ensures tree { IfOk result (λ id. tree_at pool.new id ≡ tree_of_view view.now) }
+    ensures view { IfOk result (λ id. IsView 3 2 radius (tree_at pool.new id)) }
+{
+    assert!(rt; is_view(view, DEGREES, Side::Active, radius));
+    narrow_law();
+    Ok(pool.place(view)?)
+}
+
+// The number of a passive view of this radius.
+fn placed_over(
+    rt: &impl Abort,
+    pool: &mut Pool,
+    view: &View<()>,
+    radius: u8,
+) -> Result<NodeId, Fail> {
+    assert!(rt; is_view(view, DEGREES, Side::Passive, radius));
+    narrow_law();
+    Ok(pool.place(view)?)
+}
+
+// The same links once more.
+fn copied(links: &ArrayVec<Link, 6>) -> ArrayVec<Link, 6>
+    ensures items { result.items ≡ links.now.items }
+{
+    let mut copy = ArrayVec::new();
+    for link in links.as_slice() {
+        copy.push(*link);
+    }
+    copy
+}
+
+// The shape of a node once more.
+fn shape_again(pool: &Pool, id: NodeId) -> Shape
+    requires { id < length pool.now }
+    ensures { AreHeld (length pool.now) result }
+{
+    match pool.shape(id) {
+        Shape::Leaf => Shape::Leaf,
+        Shape::Node(links) => Shape::Node(copied(links)),
+    }
+}
+
+#[test]
+fn each_node_once(rt: HostRuntime) -> Result<(), Fail> {
+    for (radius, nodes) in [(1, 9), (2, 220)] {
+        let mut pool = Pool::new(rt.alloc());
+        for _ in 0..2 {
+            for view in &all_views(rt.alloc(), DEGREES, Side::Active, radius)? {
+                placed(&rt, &mut pool, view, radius)?;
+            }
+            assert_eq!(rt; pool.len(), nodes);
+        }
+        for view in &all_views(rt.alloc(), DEGREES, Side::Active, radius)? {
+            let id = placed(&rt, &mut pool, view, radius)?;
+            let shape = shape_again(&pool, id);
+            assert_eq!(rt; pool.intern(shape)?, id);
+        }
+        assert_eq!(rt; pool.len(), nodes);
+    }
+    Ok(())
+}
+
+#[test]
+fn shift_as_written_out(rt: HostRuntime) -> Result<(), Fail> {
+    let mut pool = Pool::new(rt.alloc());
+    for view in &all_views(rt.alloc(), DEGREES, Side::Active, 2)? {
+        for port in 1..4u8 {
+            let id = placed(&rt, &mut pool, view, 2)?;
+            let over = pool.shift(id, port)?;
+            let expected = placed_over(&rt, &mut pool, &shift(rt.alloc(), view, port)?, 1)?;
+            assert_eq!(rt; over, expected);
+        }
+    }
+    Ok(())
+}
+
+#[test]
+fn cut_as_written_out(rt: HostRuntime) -> Result<(), Fail> {
+    let mut pool = Pool::new(rt.alloc());
+    for view in &all_views(rt.alloc(), DEGREES, Side::Active, 2)? {
+        let id = placed(&rt, &mut pool, view, 2)?;
+        let near = pool.cut(id, 1)?;
+        let expected = placed(&rt, &mut pool, &cut(rt.alloc(), view, 1)?, 1)?;
+        assert_eq!(rt; near, expected);
+    }
+    Ok(())
+}
+
+#[test]
+fn read_back(rt: HostRuntime) -> Result<(), Fail> {
+    let mut pool = Pool::new(rt.alloc());
+    for view in &all_views(rt.alloc(), DEGREES, Side::Active, 2)? {
+        let id = placed(&rt, &mut pool, view, 2)?;
+        let again = pool.tree(id)?;
+        assert_eq!(rt; placed(&rt, &mut pool, &again, 2)?, id);
+    }
+    Ok(())
+}

@@ -10,6 +10,7 @@ here=$(cd "$(dirname "$0")" && pwd)
 "$here/rows.sh" "$folder"
 "$here/lines.sh" "$folder"
 "$here/certificates.sh" "$1" "$folder"
+"$here/runs.sh" "$folder"
 
 # The best of three runs with this input.
 seconds() {
@@ -66,4 +67,5 @@ upper 64 1 sinkless.txt
 lower 3 2 independent.txt
 make 6 -
 make 7 -
+run run-4096.txt
 END

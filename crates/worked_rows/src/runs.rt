@@ -164,7 +164,7 @@ fn grown(alloc: Global, nodes: u32) -> Result<String, Fail> {
             to = node.min(to.saturating_add(1));
             port = 2;
             if to == level_end {
-                most = 5 - most;
+                most = if most == 3 { 2 } else { 3 };
                 level_end = node + 1;
             }
         }

@@ -3,7 +3,8 @@ use Rattle.std.proofs.Common.{◌≡◌, ℕ, ◌<◌, ◌≤◌, Bool, true, fa
 use Rattle.std.specs.List.{AllByRecursion, list_any}
 use Rattle.std.specs.Prelude.{IsSome, find, if◌then◌else◌}
 use Rattle.re_choice.specs.FirstChoice.{IsDrawn, begins, first_behind}
-use Rattle.re_config.proofs.ChoicesOfRows.{In-choices_from}
+use Rattle.re_config.proofs.ChoicesOfRows.{In-choices_from, IsChoice-filled}
+use Rattle.re_config.proofs.Dominating.{any-map}
 use Rattle.re_config.proofs.Rearranging.{length-AllZip}
 use Rattle.re_config.proofs.Sorting.{length-sorted}
 use Rattle.re_config.specs.Configs.{sorted}
@@ -21,10 +22,6 @@ use Rattle.re_choice.proofs.Drawing.{chosen_some, last_drawn}
 use Rattle.re_table.proofs.SetsInOrder.{AreSets, in_order-allowed, in_order-length}
 
 -- ---- tests of some choice
-any-map : {X Y : Type 0} (p : Y → Bool) (f : X → Y) (xs : List X) → list_any p (map f xs) ≡ list_any (λ x. p (f x)) xs
-any-map p f [] = refl
-any-map p f (x ∷ xs) = ap (λ b. p (f x) || b) (any-map p f xs)
-
 -- the choices of the drawn labels and of the other sets are the drawn labels with the choices of those
 any-fixed : (p : List ℕ → Bool) (drawn : List ℕ) (sets : List (List ℕ)) → list_any p (choices (singles drawn ++ sets)) ≡ list_any (λ labels. p (drawn ++ labels)) (choices sets)
 any-fixed p [] sets = refl
@@ -48,13 +45,7 @@ some_found {X} p (x ∷ xs) h e = go (p x) (some_found p xs) h e
     go true later h e = cc
     go false later h e = later h e
 
--- ---- choices fill each set, and are as long as the row
-chosen-full : (labels : List ℕ) (sets : List (List ℕ)) → IsChoice labels sets → AllByRecursion (λ s. 0 < length s) sets
-chosen-full labels [] h = tt
-chosen-full [] (s ∷ sets) h = absurd h
-chosen-full (x ∷ labels) ([] ∷ sets) h = absurd (Contains-none x h.0)
-chosen-full (x ∷ labels) ((y ∷ s) ∷ sets) h = (omega arith, chosen-full labels sets h.1)
-
+-- ---- choices are as long as the row
 pub other_length : (n : ℕ) (constraint : Constraint) (sets : List (List ℕ)) → IsConstraint n constraint → (length sets ≡ constraint.degree → ⊥) → find (has_config constraint) (choices sets) ≡ None
 other_length n constraint sets is other = none_found (has_config constraint) (choices sets) (go (list_any (has_config constraint) (choices sets)) refl)
   where
@@ -78,7 +69,7 @@ module _ (constraint : Constraint) (drawn : List ℕ) (others sets : List (List 
       go false e = sym e
       go true e = absurd (
           let (labels, held, has) = any-In_from (has_config constraint) (choices sets) (sym e) in
-          let full = filled-is_full sets (chosen-full labels sets (In-choices_from labels sets held)) in
+          let full = filled-is_full sets (IsChoice-filled labels sets (In-choices_from labels sets held)) in
           let some = row_found sets (sorted (map number sets)) two six full refl in
           cc)
 
@@ -115,14 +106,6 @@ begun_found constraint drawn others r found new is e h = go (first_behind constr
     go : (o : Option (List ℕ)) → o ≡ first_behind constraint drawn others → IsDrawn o drawn found new → found ≡ true
     go None same h = absurd (some_found (λ labels. has_config constraint (drawn ++ labels)) (choices others) (sym e ∙ is) (sym same))
     go (Some labels) same h = h.0
-
-pub begun_whole : (constraint : Constraint) (drawn : List ℕ) (others : List (List ℕ)) (r : Bool) → r ≡ true → r ≡ begins constraint drawn others → length others < 1 → IsDrawn (first_behind constraint drawn others) drawn true drawn
-begun_whole constraint drawn [] r is e none = last_drawn constraint drawn [] true none (sym (sym (or-whole (has_config constraint (drawn ++ []))) ∙ sym e ∙ is) ∙ ap (has_config constraint) (append-nil drawn))
-  where
-    or-whole : (b : Bool) → (b || false) ≡ b
-    or-whole true = refl
-    or-whole false = refl
-begun_whole constraint drawn (s ∷ others) r is e none = absurd (omega arith)
 
 -- ---- the labels that are found
 found-passes : {X : Type 0} (p : X → Bool) (xs : List X) (x : X) → Some x ≡ find p xs → p x ≡ true

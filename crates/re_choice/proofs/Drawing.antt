@@ -45,10 +45,6 @@ whole : (constraint : Constraint) (drawn first : List ℕ) (others : List (List 
 whole constraint drawn first others label set found =
     ap (λ s. first_behind constraint drawn (s ∷ others)) (first-is first label set.0 found) ∙ step constraint drawn label (without_label first label) others
 
-pub none_left : (constraint : Constraint) (drawn first : List ℕ) (others : List (List ℕ)) → first_of first ≡ None → IsDrawn (first_behind constraint drawn (first ∷ others)) drawn false drawn
-none_left constraint drawn [] others e = (refl, refl)
-none_left constraint drawn (x ∷ s) others e = absurd (cc)
-
 -- with no set left, the labels are a configuration or not
 pub last_drawn : (constraint : Constraint) (next : List ℕ) (others : List (List ℕ)) (found : Bool) → length others < 1 → found ≡ has_config constraint next → IsDrawn (first_behind constraint next others) next found next
 last_drawn constraint next [] found none is = go found (is ∙ ap (has_config constraint) (sym (append-nil next)))
@@ -93,7 +89,3 @@ unchanged (Some labels) drawn new r is h = absurd (true≢false (sym h.0 ∙ is)
 pub chosen_some : (o : Option (List ℕ)) (new : List ℕ) (r : Bool) → r ≡ true → IsDrawn o [] r new → Some new ≡ o
 chosen_some None new r is h = absurd (true≢false (sym is ∙ h.0))
 chosen_some (Some labels) new r is h = ap Some h.1
-
-pub chosen_none : (o : Option (List ℕ)) (new : List ℕ) (r : Bool) → r ≡ false → IsDrawn o [] r new → None ≡ o
-chosen_none None new r is h = refl
-chosen_none (Some labels) new r is h = absurd (true≢false (sym h.0 ∙ is))

@@ -28,12 +28,6 @@ length-backs d e t (suc n) end h = absurd h
 length-backs d e t zero (more back payload branch rest) h = absurd h
 length-backs d e t (suc n) (more back payload branch rest) h = ap suc (length-backs d e t n rest h.3)
 
--- the neighbour's view
-pub seen_over : (d e T port : ℕ) (v : Plain) → IsView d e (suc T) v → 1 ≤ port → port ≤ d → IsView e d T (shift T v port)
-seen_over d e T port v is low high =
-    let c = child_of d e T d v is (pred port) (omega arith) in
-    IsView-shift d e T v port c.0 is low high c.1 c.2
-
 -- some choice passes
 find_none : (p : List ℕ → Bool) (xs : List (List ℕ)) (x : List ℕ) → Contains xs x → p x ≡ true → find p xs ≡ None → ⊥
 find_none p [] x (k, l, e) h none = omega arith

@@ -11,7 +11,7 @@ use Rattle.std.proofs.lemmas.List.Sums.{fails_before_first}
 use Rattle.re_io.specs.LineReading.{GivesPart}
 
 -- no line feed stands before the first one
-no_feed_before : (xs : List ℕ) (i : ℕ) → Some i ≡ position (λ b. eqb b 10) xs → Contains (take i xs) 10 → ⊥
+pub no_feed_before : (xs : List ℕ) (i : ℕ) → Some i ≡ position (λ b. eqb b 10) xs → Contains (take i xs) 10 → ⊥
 no_feed_before xs i found (k, within, there) =
     let first = position-Some (λ b. eqb b 10) xs i 10 (sym found) in
     let below : k < i = omega (arith, within, length-take i xs) in
@@ -20,7 +20,7 @@ no_feed_before xs i found (k, within, there) =
     let yes : eqb (get_or xs k 10) 10 ≡ true = eq-eqb _ _ same in
     cc
 
-no_feed_at_all : (xs : List ℕ) → None ≡ position (λ b. eqb b 10) xs → Contains xs 10 → ⊥
+pub no_feed_at_all : (xs : List ℕ) → None ≡ position (λ b. eqb b 10) xs → Contains xs 10 → ⊥
 no_feed_at_all xs none (k, within, there) =
     let all : length xs ≤ position_or_len (λ b. eqb b 10) xs = grind (arith, common_steps, nat_tests) in
     let no : eqb (get_or xs k 10) 10 ≡ false = fails_before_first (λ b. eqb b 10) xs k 10 (omega arith) in
@@ -28,7 +28,7 @@ no_feed_at_all xs none (k, within, there) =
     cc
 
 -- the bytes before the first line feed, and those behind it
-feed_cut : (xs : List ℕ) (i : ℕ) → Some i ≡ position (λ b. eqb b 10) xs → xs ≡ take i xs ++ (10 ∷ drop (i + 1) xs)
+pub feed_cut : (xs : List ℕ) (i : ℕ) → Some i ≡ position (λ b. eqb b 10) xs → xs ≡ take i xs ++ (10 ∷ drop (i + 1) xs)
 feed_cut xs i found =
     let first = position-Some (λ b. eqb b 10) xs i 10 (sym found) in
     let feed : get_or xs i 10 ≡ 10 = eqb-true _ _ first.1 in

@@ -8,6 +8,7 @@ use Rattle.std.proofs.lemmas.List.{drop_more, get_or-take, take_rest}
 use Rattle.std.proofs.lemmas.List.Quantifiers.{position-Some}
 use Rattle.std.proofs.lemmas.List.Sums.{fails_before_first}
 use Rattle.std.proofs.Math.Seq.{take-append_seam}
+use Rattle.re_io.proofs.LinePieces.{feed_cut, no_feed_at_all, no_feed_before}
 use Rattle.re_io.specs.LineReading.{IsFirstLine, LineText, line_bytes}
 use Rattle.re_problem.specs.declared.fault.InputFault.{InputFault}
 use Rattle.re_problem.specs.declared.fault.InputFault.TheVariants.{EarlyEnd}
@@ -27,33 +28,11 @@ use Rattle.re_runs.specs.RunTexts.{RunText, State, and_behind, behind, goes_on, 
 use Rattle.re_runs.specs.RunTexts.State.{InCertificate, BehindEnd}
 
 -- ---- the first line of a text
-feed_after : (text : List ℕ) (at : ℕ) → Some at ≡ position (λ b. eqb b 10) text → text ≡ take at text ++ (10 ∷ drop (at + 1) text)
-feed_after text at found =
-    let first = position-Some (λ b. eqb b 10) text at 10 (sym found) in
-    let feed : get_or text at 10 ≡ 10 = eqb-true (get_or text at 10) 10 first.1 in
-    sym (take-append-drop at text) ∙ ap (λ l. take at text ++ l) (drop_more text at 10 first.0 ∙ ap (λ x. x ∷ drop (at + 1) text) feed)
-
-none_before : (text : List ℕ) (at : ℕ) → Some at ≡ position (λ b. eqb b 10) text → Contains (take at text) 10 → ⊥
-none_before text at found (k, within, there) =
-    let first = position-Some (λ b. eqb b 10) text at 10 (sym found) in
-    let below : k < at = omega (arith, within, length-take at text) in
-    let same : get_or text k 10 ≡ 10 = sym (get_or-take at text k 10 below) ∙ there in
-    let other : eqb (get_or text k 10) 10 ≡ false = first.2 k below in
-    let equal : eqb (get_or text k 10) 10 ≡ true = eq-eqb _ _ same in
-    cc
-
-none_there : (text : List ℕ) → None ≡ position (λ b. eqb b 10) text → Contains text 10 → ⊥
-none_there text none (k, within, there) =
-    let all : length text ≤ position_or_len (λ b. eqb b 10) text = grind (arith, common_steps, nat_tests) in
-    let other : eqb (get_or text k 10) 10 ≡ false = fails_before_first (λ b. eqb b 10) text k 10 (omega arith) in
-    let equal : eqb (get_or text k 10) 10 ≡ true = eq-eqb _ _ there in
-    cc
-
 pub first_cut : (text : List ℕ) (at : ℕ) → Some at ≡ position (λ b. eqb b 10) text
     → IsFirstLine text (record { text = take at text; ended = true }) (take (length text - (at + 1)) (drop (at + 1) text)) None
 first_cut text at found = record {
-  bytes = feed_after text at found ∙ sym (append_assoc (take at text) (10 ∷ []) (drop (at + 1) text)) ∙ ap (λ rest. (take at text ++ 10 ∷ []) ++ rest) (sym (take_rest text (at + 1)));
-  whole = none_before text at found;
+  bytes = feed_cut text at found ∙ sym (append_assoc (take at text) (10 ∷ []) (drop (at + 1) text)) ∙ ap (λ rest. (take at text ++ 10 ∷ []) ++ rest) (sym (take_rest text (at + 1)));
+  whole = no_feed_before text at found;
   filled = λ unended. absurd (cc);
   last = λ unended. absurd (cc);
 }
@@ -64,7 +43,7 @@ last_cut text some none =
     let nothing : take (length text - length text) (drop (length text) text) ≡ [] = (let n : length text - length text ≡ 0 = omega arith in ap (λ n. take n (drop (length text) text)) n) in
     record {
       bytes = sym (append-nil text) ∙ ap (λ rest. text ++ rest) (sym nothing);
-      whole = none_there text none;
+      whole = no_feed_at_all text none;
       filled = λ unended same. (let empty : length text ≡ 0 = ap length same in omega arith);
       last = λ unended. (nothing, tt);
     }

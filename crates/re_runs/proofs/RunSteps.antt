@@ -2,7 +2,7 @@
 use Rattle.std.proofs.Common.{◌≡◌, ℕ, suc, ◌+◌, ◌≤◌, ◌<◌, Bool, true, false, cond, eqb, leb, ◌&&◌, List, [], ◌∷◌, ◌++◌, length, take, drop, get_or, map, Option, Some, None, refl, sym, ap, ◌∙◌, subst, arith}
 use Rattle.std.specs.List.{cons_option}
 use Rattle.std.specs.Prelude.{IfSome, IsSome, fold, ◌↔◌}
-use Rattle.std.proofs.lemmas.Bool.{le-leb, leb-true}
+use Rattle.std.proofs.lemmas.Bool.{le-leb, leb-true, lt-leb}
 use Rattle.std.proofs.lemmas.List.{drop_more, map-append, take_more}
 use Rattle.std.proofs.lemmas.List.Sums.{fold-append}
 use Rattle.re_labels.proofs.Membership.{count_from-last}
@@ -32,13 +32,6 @@ use Rattle.re_runs.specs.declared.runs.Standing.{Standing}
 -- ---- deliveries
 not_less : (a b : ℕ) → leb a b ≡ false → a ≤ b → ⊥
 not_less a b is low = let yes = le-leb a b low in cc
-
-not_low : (a b : ℕ) → b < a → leb a b ≡ false
-not_low a b above = go (leb a b) refl
-  where
-    go : (t : Bool) → leb a b ≡ t → t ≡ false
-    go true is = (let low = leb-true a b is in absurd (omega arith))
-    go false is = refl
 
 pub legal_told : (tree : FiniteTree) (bound : ℕ) (before : List Message) (deliveries : List Delivery) → AreMessages tree bound deliveries
     → (first_illegal tree bound before deliveries ≡ None) ↔ IsLegal tree bound before (messages_of deliveries)
@@ -86,7 +79,7 @@ module _ (tree : FiniteTree) (is_tree : IsFiniteTree tree) (bound : ℕ) (delive
   pub illegal_here : round net.tree net.bound net.delivered delivery.message.from < delivery.message.number → first_illegal tree bound [] deliveries ≡ Some delivery.line
   illegal_here above =
       let same = round_is in
-      let test : leb delivery.message.number (round tree bound before delivery.message.from) ≡ false = not_low _ _ (omega arith) in
+      let test : leb delivery.message.number (round tree bound before delivery.message.from) ≡ false = lt-leb _ _ (omega arith) in
       here ∙ ap (λ t. cond t (first_illegal tree bound (before ++ delivery.message ∷ []) (drop (count + 1) deliveries)) (Some delivery.line)) test
 
   pub one_made : (new : NetState) → delivery.message.number ≤ round net.tree net.bound net.delivered delivery.message.from → new.tree ≡ net.tree → new.bound ≡ net.bound

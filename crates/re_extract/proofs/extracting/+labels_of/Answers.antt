@@ -6,8 +6,9 @@ use Rattle.re_cert.specs.Bounds.{entries_in}
 use Rattle.re_cert.specs.Stages.{stages_of}
 use Rattle.re_config.proofs.Patterns.{others-are, parted}
 use Rattle.re_extract.proofs.Levels.{Level, chosen_as, labels_as, level_labels, level_more, level_none, level_some, looking_more, looking_none}
-use Rattle.re_extract.proofs.Opening.{Opened, length-backs, opened, seen_over, some_choices, view_at}
+use Rattle.re_extract.proofs.Opening.{Opened, length-backs, opened, some_choices, view_at}
 use Rattle.re_extract.specs.Seen.{labels_over}
+use Rattle.re_laws.proofs.Ports.{over_view}
 use Rattle.re_laws.specs.Algorithms.{back_at}
 use Rattle.re_laws.specs.Extracted.{extracted}
 use Rattle.re_pool.specs.Pools.{tree_at}
@@ -66,7 +67,7 @@ loop-back-preserved t c =
     let over : tree_at c.shift.new.self c.in_ok-over.over ≡ shift T v (c.loop-back.port + 1) =
     c.in_ok-over.ensures.tree d e T problem.active.least problem.passive.least (subst (IsView d e (suc T)) (sym same) here.1) ∙ ap (λ x. shift T x (c.loop-back.port + 1)) same in
     let seen : IsView e d T (tree_at c.shift.new.self c.in_ok-over.over) =
-    subst (IsView e d T) (sym over) (seen_over d e T (c.loop-back.port + 1) v here.1 (omega arith) (omega arith)) in
+    subst (IsView e d T) (sym over) (over_view d e T (c.loop-back.port + 1) v here.1 (omega arith) (omega arith)) in
     let back : get_or c.as_slice-back-items.result.now c.loop-back.back-index 0 ≡ back_at v (suc c.loop-back.back-index) = ap (λ l. get_or l c.loop-back.back-index 0) are in
     looking_more start c.loop-back.pool c.shift.new.self d e T c.loop-back.next.keys c.put.new.seen.keys (take c.loop-view.view-index c.args.views.now) c.loop-view.all.items view c.loop-back.sights.items c.push.new.self.items
     c.loop-back.back-index c.loop-back.port c.in_ok-over.over c.in_ok-place.place (get_or c.as_slice-back-items.result.now c.loop-back.back-index 0)

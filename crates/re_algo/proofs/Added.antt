@@ -52,10 +52,6 @@ pub put_over-next : (d e t n : ℕ) (u : Plain) (labels : List ℕ) (passes : Pl
 put_over-next d e t n u labels passes =
     tested_rows-same d e t (put_over t u (suc n) (at_port labels (suc n)) (put_also t u labels n passes)) (put_also t u labels (suc n) passes) (λ w i x. sym (put_also-more t n u labels passes w i x))
 
--- nothing is put over no port
-pub put_also-none : (d e t : ℕ) (u : Plain) (labels : List ℕ) (passes : Plain → ℕ → ℕ → Bool) → tested_rows d e t (put_also t u labels 0 passes) ≡ tested_rows d e t passes
-put_also-none d e t u labels passes = tested_rows-same d e t (put_also t u labels 0 passes) passes (λ w i x. or-false (passes w i x))
-
 -- with one active node more
 pub some_puts-more : (d e t m : ℕ) (algorithm : Plain → List ℕ) (views : List Plain) (labels : List ℕ) → m < length views → algorithm (get_or views m leaf) ≡ labels
     → tested_rows d e t (put_also t (get_or views m leaf) labels d (some_puts d t algorithm (take m views))) ≡ tested_rows d e t (some_puts d t algorithm (take (m + 1) views))

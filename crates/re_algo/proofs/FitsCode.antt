@@ -14,6 +14,7 @@ use Rattle.re_labels.specs.declared.TheConstants.{MAX_LABELS}
 use Rattle.re_laws.proofs.Ports.{AllByRecursion-count}
 use Rattle.re_laws.specs.Algorithms.{Plain, Solves, around, at_port, back_at, same_view}
 use Rattle.re_laws.specs.Fast.{seen, seen_row}
+use Rattle.re_problem.proofs.FedLines.{unnot}
 use Rattle.re_problem.specs.Problems.{IsProblem, Problem}
 use Rattle.re_table.proofs.Goodness.{IsGood-is_good, has_config-Has, is_good-IsGood}
 use Rattle.re_table.specs.Constraints.{Constraint, Has, IsConstraint, has_config}
@@ -27,7 +28,7 @@ use Rattle.re_algo.proofs.JudgeCode.{labels_within}
 use Rattle.re_algo.proofs.PassCode.{length-tested_row}
 use Rattle.re_algo.proofs.SeenGood.{label_below, seen_law}
 use Rattle.re_problem.proofs.ZeroPlaces.{none-fails}
-use Rattle.re_algo.proofs.TableLaws.{all_active, all_passive, given-at, not-false, passive_all, verdict_law}
+use Rattle.re_algo.proofs.TableLaws.{all_active, all_passive, given-at, passive_all, verdict_law}
 use Rattle.re_algo.specs.SeenRows.{puts, repeated, seen_rows, some_puts, tested_row, tested_rows}
 use Rattle.re_algo.specs.Tables.{AnswerTable, IsTable, entries, given, views_of}
 use Rattle.re_algo.specs.Verdicts.{first_not_active, fits_passive, judged, table_verdict}
@@ -66,7 +67,7 @@ tested_seen problem is few d e (suc t) f d_is e_is some active =
 pub answers_below : (n : ℕ) (constraint : Constraint) (answers : List (List ℕ)) → IsConstraint n constraint → n ≤ MAX_LABELS → position (λ labels. not (has_config constraint labels)) answers ≡ None → AllByRecursion (AllByRecursion (λ label. label < MAX_LABELS)) answers
 answers_below n constraint answers is few none = AllByRecursion-from_contains (AllByRecursion (λ label. label < MAX_LABELS)) answers (λ labels (k, l, e).
     let passes : not (has_config constraint (get_or answers k labels)) ≡ false = none-fails (λ labels. not (has_config constraint labels)) answers none k labels l in
-    let below = labels_within n constraint labels is (has_config-Has constraint labels (not-false (has_config constraint labels) (rw e at passes))) in
+    let below = labels_within n constraint labels is (has_config-Has constraint labels (unnot (has_config constraint labels) (rw e at passes))) in
     AllByRecursion-weaker (λ label. label < n) (λ label. label < MAX_LABELS) (λ x l. omega arith) labels below)
 
 -- the answer at the one view of radius 0

@@ -18,6 +18,7 @@ use Rattle.re_labels.specs.Sets.{IsIn}
 use Rattle.re_laws.proofs.FastRounds.{collected}
 use Rattle.re_laws.proofs.Ports.{AllByRecursion-count, AllZip-count, back_range, find_ports, length-ports, map-at_port}
 use Rattle.re_laws.proofs.Tables.{same_view-refl, same_view-same}
+use Rattle.re_laws.proofs.ZeroRounds.{IsTree-star, backs-star, star}
 use Rattle.re_laws.specs.Algorithms.{Plain, around, at_port, back_at, same_view}
 use Rattle.re_laws.specs.Fast.{seen, seen_row}
 use Rattle.re_problem.specs.Problems.{IsProblem, Problem}
@@ -28,7 +29,7 @@ use Rattle.re_views.proofs.Branchwise.{IsView-branchwise, back-shift, backs-chil
 use Rattle.re_views.proofs.ViewLaws.{IsChild, IsTree-cut, IsView-pad, IsView-shift, child_of, cut-pad, shift-shift}
 use Rattle.re_views.specs.AllViews.{all_views}
 use Rattle.re_views.specs.Ends.{AreEnds, End, IsEnd, branchwise, no_end}
-use Rattle.re_views.specs.Trees.{Child, IsTree, IsView, backs, child_at, cut, end, leaf, more, pad, shift}
+use Rattle.re_views.specs.Trees.{Child, IsView, backs, child_at, cut, leaf, pad, shift}
 use Rattle.re_algo.specs.Laws.{SeenLaw}
 use Rattle.re_algo.specs.SeenRows.{seen_rows}
 
@@ -163,23 +164,6 @@ module _ (problem : Problem) (is : IsProblem problem) (T : ℕ) (f : Plain → L
         (Contains-map (seen_row problem T f) (all_views problem.passive.degree problem.active.degree T) (cut T s) (Contains-all_views problem.passive.degree problem.active.degree T (cut T s) w_view)) in
         row_good.choice (around problem.passive.degree (suc T) f s) (around_chosen s view),
   )
-
--- a passive view of radius 1 with given back ports
-star : List ℕ → Plain
-star [] = end
-star (b ∷ bs) = more b tt leaf (star bs)
-
-backs-star : (bs : List ℕ) → backs (star bs) ≡ bs
-unfolding star
-backs-star [] = refl
-backs-star (b ∷ bs) = ap (◌∷◌ b) (backs-star bs)
-
-IsTree-star : (d e : ℕ) (bs : List ℕ) → AllByRecursion (λ b. (1 ≤ b) × (b ≤ e)) bs → IsTree d e 1 (length bs) (star bs)
-unfolding star
-IsTree-star d e [] h = tt
-IsTree-star d e (b ∷ bs) h =
-    let here : (1 ≤ b) × (b ≤ e) = h.0 in
-    (here.0, here.1, tt, IsTree-star d e bs h.1)
 
 in_support : (xs : List ℕ) (x : ℕ) → Contains xs x → Contains (support_of xs) x
 in_support xs x held = has-IsIn (support_of xs) x (has-support_of xs x ∙ IsIn-has xs x held)

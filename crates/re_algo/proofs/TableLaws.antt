@@ -11,6 +11,7 @@ use Rattle.re_labels.specs.declared.sides.Degrees.{Degrees}
 use Rattle.re_laws.proofs.Tables.{SolvesBy-same}
 use Rattle.re_places.specs.declared.counting.TheConstants.{MAX_VIEWS}
 use Rattle.re_laws.specs.Algorithms.{Entry, Plain, Solves, SolvesBy, around}
+use Rattle.re_problem.proofs.FedLines.{unnot}
 use Rattle.re_problem.proofs.ZeroPlaces.{none-fails}
 use Rattle.re_zero.proofs.FirstPlaces.{position-absent}
 use Rattle.re_problem.specs.Problems.{Problem}
@@ -48,17 +49,13 @@ given-Contains table is v view =
 pub listed-given : (table : AnswerTable) → IsTable table → (v : Plain) → IsView table.degrees.active table.degrees.passive table.radius v → Contains (map (λ (entry : Entry). entry.view) (entries table)) v
 listed-given table is v view = rw (views-paired (views_of table) table.answers is.count) (Contains-all_views table.degrees.active table.degrees.passive table.radius v view)
 
-pub not-false : (b : Bool) → not b ≡ false → b ≡ true
-not-false true e = refl
-not-false false e = absurd (cc)
-
 -- where no answer is at fault, the labels of each active node are a configuration
 pub all_active : (problem : Problem) (table : AnswerTable) → IsTable table → first_not_active problem table ≡ None → (v : Plain) → IsView table.degrees.active table.degrees.passive table.radius v → Has problem.active (given table v)
 all_active problem table is none v view =
     let placed = tree_at table.degrees.active table.degrees.passive table.radius table.degrees.active v view in
     let within : view_place table.degrees.active table.degrees.passive v < length table.answers = (let c = is.count in omega (arith, placed.0)) in
     let passes = none-fails (λ labels. not (has_config problem.active labels)) table.answers none (view_place table.degrees.active table.degrees.passive v) [] within in
-    rw (given_law table v is view) (has_config-Has problem.active (get_or table.answers (view_place table.degrees.active table.degrees.passive v) []) (not-false (has_config problem.active (get_or table.answers (view_place table.degrees.active table.degrees.passive v) [])) passes))
+    rw (given_law table v is view) (has_config-Has problem.active (get_or table.answers (view_place table.degrees.active table.degrees.passive v) []) (unnot (has_config problem.active (get_or table.answers (view_place table.degrees.active table.degrees.passive v) [])) passes))
 
 -- and the other way round
 pub none_active : (problem : Problem) (table : AnswerTable) → IsTable table → ((v : Plain) → IsView table.degrees.active table.degrees.passive table.radius v → Has problem.active (given table v)) → first_not_active problem table ≡ None

@@ -10,7 +10,7 @@ use Rattle.re_canonical.specs.CanonicalLines.{CanonicalLaw, CanonicalLinesLaw, I
 use Rattle.re_items.specs.Steps.{is_nil}
 use Rattle.re_labels.proofs.ListSets.{In-list_set, list_set-In, one_set, rising-list_set}
 use Rattle.re_labels.proofs.Membership.{In, In-append_cases, In-append_left, In-append_right}
-use Rattle.re_problem.proofs.EndedLines.{NoFeed, parts-ended}
+use Rattle.re_problem.proofs.EndedLines.{NoFeed, lines_in-ended, parts-ended}
 use Rattle.re_problem.specs.CanonicalTexts.{canonical, config_text, lines_text}
 use Rattle.re_problem.specs.NamedProblems.{IsNamedProblem, NamedProblem}
 use Rattle.re_problem.specs.ProblemTexts.{all_but_last, block, block_constraint, closed, end_fault, ended, fault_if, first_fault, first_from, groups, last_or, line_items, lines_in, lines_of, names_in, names_of, open_block, problem_of}
@@ -31,11 +31,6 @@ text_ended problem =
     (λ i. (lines_text-ended problem.names problem.active.degree problem.active.configs i ++ 10 ∷ []) ++ lines_text-ended problem.names problem.passive.degree problem.passive.configs i)
     ∙ append_assoc (ended (block_lines problem.names problem.active)) (10 ∷ []) (ended (block_lines problem.names problem.passive))
     ∙ sym (flat_map-append (λ l. l ++ 10 ∷ []) (block_lines problem.names problem.active) ([] ∷ block_lines problem.names problem.passive))
-
-lines_in-ended : (lines : List (List ℕ)) → lines_in (lines ++ [] ∷ []) ≡ lines
-lines_in-ended [] = refl
-lines_in-ended (line ∷ []) = refl
-lines_in-ended (line ∷ next ∷ lines) = ap (λ l. line ∷ l) (lines_in-ended (next ∷ lines))
 
 pub all_append : {X : Type 0} (P : X → Type 0) (xs ys : List X) → AllByRecursion P xs → AllByRecursion P ys → AllByRecursion P (xs ++ ys)
 all_append P [] ys h k = k

@@ -7,20 +7,16 @@ use Rattle.std.proofs.lemmas.Slice.Eq.{bytes_eq-Decides}
 use Rattle.std.specs.Str.{bytes_eq}
 use Rattle.re_algo.proofs.FasterCode.{no_fault}
 use Rattle.re_algo.proofs.JudgeCode.{labels_within}
-use Rattle.re_algo.proofs.TableLaws.{not-false}
 use Rattle.re_algo.specs.Tables.{AnswerTable, IsTable, entries}
 use Rattle.re_labels.proofs.Before.{same_list-refl, same_list-same}
 use Rattle.re_labels.proofs.Membership.{AllByRecursion-from_contains}
 use Rattle.re_labels.proofs.Tests.{and-true, eqb-same, eqb-true, true-and}
 use Rattle.re_labels.specs.Lists.{same_list}
 use Rattle.re_laws.specs.Algorithms.{Solves}
+use Rattle.re_problem.proofs.FedLines.{unnot}
 use Rattle.re_problem.proofs.ZeroPlaces.{none-fails}
-use Rattle.re_problem.specs.Derived.{derived}
 use Rattle.re_problem.specs.NamedProblems.{NamedProblem, unnamed}
-use Rattle.re_problem.specs.Problems.{IsProblem, Problem}
-use Rattle.re_step.specs.Derivations.{Derivation, derivation, named_derived}
-use Rattle.re_step.proofs.NameLemmas.{length-label_names}
-use Rattle.re_step.specs.LabelNames.{label_names}
+use Rattle.re_problem.specs.Problems.{IsProblem}
 use Rattle.re_table.proofs.Goodness.{has_config-Has}
 use Rattle.re_table.specs.Constraints.{Constraint, has_config}
 use Rattle.re_table_texts.specs.PrintedTables.{IsTableFor}
@@ -77,16 +73,6 @@ problems_same a b h =
       passive = record { degree = eqb-true a.passive.degree b.passive.degree passive.0 i; configs = same_lists-same a.passive.configs b.passive.configs passive.1 i };
     }
 
--- ---- the derived problem without its names
-pub unnamed-next : (problem : Problem) → unnamed (named_derived problem) ≡ derived problem
-unnamed-next problem =
-    let n = (derived problem).labels in
-    let count : length (label_names n) ≡ n = length-label_names n in
-    λ i. record { labels = count i; active = (derived problem).active; passive = (derived problem).passive }
-
-pub unnamed-found : (problem : Problem) (found : Derivation) → found ≡ derivation problem → unnamed found.problem ≡ derived problem
-unnamed-found problem found is = ap (λ (d : Derivation). unnamed d.problem) is ∙ unnamed-next problem
-
 -- ---- a table that solves a problem has labels of it alone
 pub solved_for : (named : NamedProblem) (table : AnswerTable) → IsProblem (unnamed named) → IsTable table → table.degrees.active ≡ named.active.degree → table.degrees.passive ≡ named.passive.degree
     → Solves (unnamed named) table.radius (entries table) → IsTableFor named table
@@ -96,5 +82,5 @@ solved_for named table is table_is active passive solves = record {
   labels = AllByRecursion-from_contains (AllByRecursion (λ label. label < length named.names)) table.answers (λ labels (k, l, e).
       let none = no_fault (unnamed named) table table_is active passive solves in
       let fails : not (has_config named.active (get_or table.answers k labels)) ≡ false = none-fails (λ labels. not (has_config named.active labels)) table.answers none k labels l in
-      labels_within (length named.names) named.active labels is.active (has_config-Has named.active labels (not-false (has_config named.active labels) (subst (λ l. not (has_config named.active l) ≡ false) e fails))));
+      labels_within (length named.names) named.active labels is.active (has_config-Has named.active labels (unnot (has_config named.active labels) (subst (λ l. not (has_config named.active l) ≡ false) e fails))));
 }

@@ -2,6 +2,7 @@
 use Rattle.std.proofs.Common.{◌≡◌, ℕ, zero, suc, pred, ◌≤◌, ◌<◌, List, [], ◌∷◌, get_or, map, length, refl, sym, ap, ◌∙◌, subst, arith, Some, None, Option, true, false, Bool, cond, true≢false}
 use Rattle.std.specs.Prelude.{Contains, find}
 use Rattle.std.specs.List.{AllByRecursion}
+use Rattle.re_cert.proofs.Stages.{count-stages}
 use Rattle.re_cert.specs.Stages.{stages_of}
 use Rattle.re_cert.specs.Bounds.{BoundStep}
 use Rattle.re_config.proofs.ChoicesOfRows.{choices-IsChoice}
@@ -47,10 +48,6 @@ some_choice problem stage stages v bound is none =
     find_none (has_config problem.active) (choices near) labels (choices-IsChoice near labels slow.0) (Has-has_config problem.active labels slow.1) none
 
 -- ---- a step of a certificate
-pub count-stages : (steps : List BoundStep) → length (stages_of steps) ≡ length steps
-count-stages [] = refl
-count-stages (step ∷ steps) = ap suc (count-stages steps)
-
 -- the first step, with what is known of the views
 pub record Opened (start : List Shape) (before : NamedProblem) (step : BoundStep) (others : List BoundStep) (ids : List ℕ) : Type 0 where
   pub bound : IsUpperBound (unnamed before) (stages_of (step ∷ others))

@@ -5,7 +5,7 @@ use Rattle.std.proofs.lemmas.List.{get_or-map, length-map, map-append, take_more
 use Rattle.re_extract.specs.Seen.{AreViews}
 use Rattle.re_labels.proofs.Membership.{AllByRecursion-contains, AllByRecursion-from_contains, AllByRecursion-weaker, all-push}
 use Rattle.re_laws.specs.Algorithms.{Plain}
-use Rattle.re_pool.proofs.Growing.{Keeps-refl, Keeps-trans}
+use Rattle.re_pool.proofs.Growing.{Keeps-trans}
 use Rattle.re_pool.proofs.NarrowViews.{narrow_tree}
 use Rattle.re_pool.specs.Narrow.{IsNarrow}
 use Rattle.re_pool.specs.Pools.{IsPool, Keeps, tree_at}
@@ -22,9 +22,6 @@ pub record Placed (start here : List Shape) (trees : List Plain) (ids : List ℕ
   pub pool : IsPool here
   pub held : AllByRecursion (λ id. id < length here) ids
   pub trees_are : map (tree_at here) ids ≡ trees
-
-pub placed_none : (start : List Shape) → IsPool start → Placed start start [] []
-placed_none start pool = record { keeps = Keeps-refl start; pool = pool; held = tt; trees_are = refl }
 
 trees_kept : (here later : List Shape) (ids : List ℕ) → Keeps here later → AllByRecursion (λ id. id < length here) ids → map (tree_at later) ids ≡ map (tree_at here) ids
 trees_kept here later [] keeps held = refl

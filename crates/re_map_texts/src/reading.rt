@@ -2,7 +2,8 @@
 ghost use Rattle.re_io.specs.declared.read.TheConstants.{MAX_BYTES};
 ghost use Rattle.re_map_texts.specs.Entries.{source, target};
 ghost use Rattle.re_map_texts.specs.MapTexts.{State, ended, judged, judged_from, judged_map, judged_start, judged_to, takes_entry};
-ghost use Rattle.re_map_texts.specs.Reading.{EndGives, Holds, IsAt, Reads};
+ghost use Rattle.re_map_texts.specs.Reading.{EndGives, Holds, IsAt};
+ghost use Rattle.re_problem.specs.TextReading.{Reads};
 ghost use Rattle.re_sections.specs.Readings.{ReadsItem};
 ghost use Rattle.re_items.specs.Items.{ItemText};
 ghost use Rattle.re_items.specs.Steps.{StandsOn};

@@ -6,10 +6,10 @@ use Rattle.std.proofs.lemmas.Slice.Eq.{bytes_eq-Decides}
 use Rattle.re_items.specs.Bytes.{is_blank, is_empty_line}
 use Rattle.re_items.specs.Steps.{is_nil}
 use Rattle.re_labels.proofs.Tests.{and-true}
-use Rattle.re_problem.specs.ProblemTexts.{end_fault}
+use Rattle.re_problem.specs.ProblemTexts.{end_fault, fault_or}
 use Rattle.re_problem.specs.declared.fault.InputFault.{InputFault}
 use Rattle.re_problem.specs.declared.fault.InputFault.TheVariants.{BadSection}
-use Rattle.re_cert.specs.CertificateTexts.{Brought, State as CertificateState, fault_or, has_ended, judged as judged_certificate, judged_in}
+use Rattle.re_cert.specs.CertificateTexts.{Brought, State as CertificateState, has_ended, judged as judged_certificate, judged_in}
 use Rattle.re_cert.specs.SectionLines.{heading_in, heading_of, section_by, section_of}
 use Rattle.re_cert.specs.declared.cert_reader.Phase.{Phase}
 use Rattle.re_cert.specs.declared.cert_reader.Phase.TheVariants as phase

@@ -7,9 +7,9 @@ use Rattle.std.proofs.lemmas.Grind.{common_steps}
 use Rattle.std.proofs.lemmas.List.{drop_more, get_or-take, take_rest}
 use Rattle.std.proofs.lemmas.List.Quantifiers.{position-Some}
 use Rattle.std.proofs.lemmas.List.Sums.{fails_before_first}
-use Rattle.std.proofs.Math.Seq.{take-append_seam}
 use Rattle.re_io.proofs.LinePieces.{feed_cut, no_feed_at_all, no_feed_before}
 use Rattle.re_io.specs.LineReading.{IsFirstLine, LineText, line_bytes}
+use Rattle.re_problem.specs.TextReading.{IsRefused}
 use Rattle.re_problem.specs.declared.fault.InputFault.{InputFault}
 use Rattle.re_problem.specs.declared.fault.InputFault.TheVariants.{EarlyEnd}
 use Rattle.re_problem.specs.declared.fault.TextFault.{TextFault}
@@ -23,7 +23,7 @@ use Rattle.re_cert.specs.CertificateTexts.{Brought, State as CertificateState, a
 use Rattle.re_cert.specs.declared.cert_reader.CertReader.{CertReader}
 use Rattle.re_runs.proofs.ForeignSections.{mark_refused, same_fault}
 use Rattle.re_runs.specs.RunLines.{is_deliveries}
-use Rattle.re_runs.specs.RunReading.{Ends, Feeds, Refuses}
+use Rattle.re_runs.specs.RunReading.{Ends, Feeds}
 use Rattle.re_runs.specs.RunTexts.{RunText, State, and_behind, behind, goes_on, reached, run_text}
 use Rattle.re_runs.specs.RunTexts.State.{InCertificate, BehindEnd}
 
@@ -124,11 +124,11 @@ all_fed text (b ∷ rest) reader number f none = absurd (omega arith)
 
 -- a last line that isn't finished
 pub unfinished_there : (text rest : List ℕ) (reader : CertReader) (number : ℕ) (f : Fed text reader rest number) (t left : List ℕ) → IsFirstLine rest (record { text = t; ended = false }) left None
-    → (fault : TextFault) → Refuses (behind (length (lines_bytes f.fed)) number (InCertificate f.state) (record { text = t; ended = false } ∷ [])) fault → Refuses (run_text text) fault
+    → (fault : TextFault) → IsRefused (behind (length (lines_bytes f.fed)) number (InCertificate f.state) (record { text = t; ended = false } ∷ [])) fault → IsRefused (run_text text) fault
 unfinished_there text rest reader number f t left first fault refused =
     let cut = first_line_is rest (record { text = t; ended = false }) left None first in
     let nothing : left ≡ [] = (first.last refl).0 in
-    subst (λ r. Refuses r fault) (sym (f.run ∙ ap (behind (length (lines_bytes f.fed)) number (InCertificate f.state)) (cut ∙ ap (λ more. record { text = t; ended = false } ∷ text_lines more) nothing))) refused
+    subst (λ r. IsRefused r fault) (sym (f.run ∙ ap (behind (length (lines_bytes f.fed)) number (InCertificate f.state)) (cut ∙ ap (λ more. record { text = t; ended = false } ∷ text_lines more) nothing))) refused
 
 -- a finished line
 module _ (text rest : List ℕ) (reader : CertReader) (number : ℕ) (f : Fed text reader rest number) (t left : List ℕ) (first : IsFirstLine rest (record { text = t; ended = true }) left None) where
@@ -144,7 +144,7 @@ module _ (text rest : List ℕ) (reader : CertReader) (number : ℕ) (f : Fed te
   here : run_text text ≡ and_behind (goes_on (judged_certificate f.state line)) later
   here = f.run ∙ ap (behind front number (InCertificate f.state)) (first_line_is rest line left None first)
 
-  pub line_refused : (new : CertReader) (fault : TextFault) → Feeds f.state t new f.fed (Err fault) → Refuses (run_text text) fault
+  pub line_refused : (new : CertReader) (fault : TextFault) → Feeds f.state t new f.fed (Err fault) → IsRefused (run_text text) fault
   line_refused new (Bad fault) is = here ∙ ap (λ r. and_behind (goes_on r) later) is
   line_refused new NoMemory is = tt
 
@@ -198,13 +198,6 @@ module _ (text rest : List ℕ) (reader : CertReader) (number : ℕ) (f : Fed te
           counted = (let old = f.counted in let same = size in let one : length (t ++ 10 ∷ []) ≡ length t + 1 = length-append t (10 ∷ []) in omega arith);
         }
 
--- the text of the certificate, cut out
-pub front_cut : (text rest : List ℕ) (number : ℕ) (e : Ends text rest number) → take (length text - length rest) text ≡ e.before
-front_cut text rest number e =
-    let size : length e.before + length rest ≡ length text = sym (length-append e.before rest) ∙ ap length (sym e.text_is) in
-    let n : length text - length rest ≡ length e.before = omega arith in
-    (λ i. take (n i) (e.text_is i)) ∙ take-append_seam e.before rest
-
 -- ---- what a feed gives
 err_of : (r : Result Brought InputFault) (fault : InputFault) → and_behind_lines r (λ u. Ok u) ≡ Err fault → r ≡ Err fault
 err_of (Ok brought) fault is = absurd (cc)
@@ -227,7 +220,7 @@ no_mark before old new stands early there =
 
 -- its fault is that of the mark
 pub unfinished_is : (byte number : ℕ) (s : CertificateState) (text : List ℕ) → has_ended s.phase ≡ false → is_deliveries text ≡ true → (new : CertReader) (before : List LineText) (fault : TextFault)
-    → Feeds s (codes "==") new before (Err fault) → Refuses (behind byte number (InCertificate s) (record { text = text; ended = false } ∷ [])) fault
+    → Feeds s (codes "==") new before (Err fault) → IsRefused (behind byte number (InCertificate s) (record { text = text; ended = false } ∷ [])) fault
 unfinished_is byte number s text early is new before (Bad fault) refused =
     ap (λ t. and_behind (cond (t || false) (goes_on (judged_certificate s (record { text = text; ended = true }))) (Ok (InCertificate s))) (λ u. behind (byte + length text) (number + 1) u [])) is
     ∙ ap (λ r. and_behind (goes_on r) (λ u. behind (byte + length text) (number + 1) u [])) (same_fault s early text is ∙ refused)

@@ -1,17 +1,18 @@
 -- The lines behind the certificate, one after another.
 use Rattle.std.proofs.Common.{◌≡◌, ℕ, ◌+◌, ◌-◌, ◌<◌, ◌≤◌, true, false, cond, List, [], ◌∷◌, length, length-append, Ok, None, refl, sym, ap, ◌∙◌, arith}
 use Rattle.re_io.specs.LineReading.{IsFirstLine, LineText, line_bytes}
+use Rattle.re_problem.specs.TextReading.{IsRefused}
 use Rattle.re_problem.specs.declared.fault.TextFault.{TextFault}
 use Rattle.re_problem.specs.declared.fault.TextFault.TheVariants.{Bad, NoMemory}
 use Rattle.re_cert.proofs.LineTexts.{first_line_is}
 use Rattle.re_cert.specs.Bounds.{Bound}
 use Rattle.re_cert.specs.CertificateTexts.{text_lines}
-use Rattle.re_runs.specs.RunReading.{Fits, Holds, Refuses, RestGives, state_of}
+use Rattle.re_runs.specs.RunReading.{Fits, Holds, RestGives, state_of}
 use Rattle.re_items.specs.Bytes.{is_empty_line}
 use Rattle.re_net.specs.FiniteTrees.{FiniteTree}
-use Rattle.re_problem.specs.ProblemTexts.{byte_fault}
+use Rattle.re_problem.specs.ProblemTexts.{byte_fault, fault_or}
 use Rattle.re_runs.specs.RunLines.{section_of, strange_byte, three_on}
-use Rattle.re_runs.specs.RunTexts.{and_behind, behind, fault_or, in_section, judged, judged_in, takes_join, tree_ends}
+use Rattle.re_runs.specs.RunTexts.{and_behind, behind, in_section, judged, judged_in, takes_join, tree_ends}
 use Rattle.re_runs.specs.RunTexts.State.{BehindEnd, InTree}
 use Rattle.re_sections.specs.SectionLines.{is_section}
 use Rattle.re_runs.specs.declared.reading.Place.{Place}
@@ -49,7 +50,7 @@ module _ (bound : Bound) (size first : ℕ) (text : List ℕ) (p : Place) (numbe
         counted = (let old = s.counted in omega arith);
       }
 
-  pub line_wrong : (fault : TextFault) → Refuses (judged (size - length rest) number (state_of bound p) line) fault → Refuses (behind (size - length text) first (BehindEnd bound) (text_lines text)) fault
+  pub line_wrong : (fault : TextFault) → IsRefused (judged (size - length rest) number (state_of bound p) line) fault → IsRefused (behind (size - length text) first (BehindEnd bound) (text_lines text)) fault
   line_wrong (Bad fault) wrong = here ∙ ap (λ r. and_behind r (λ t. behind (size - length rest + length (line_bytes line)) (number + 1) t (text_lines left))) wrong
   line_wrong NoMemory wrong = tt
 

@@ -53,9 +53,6 @@ pub record Made (tree : FiniteTree) (bound : ℕ) (deliveries : List Delivery) (
   pub delivered_is : net.delivered ≡ fold with_message [] (messages_of (take count deliveries))
   pub so_far : first_illegal tree bound [] deliveries ≡ first_illegal tree bound (messages_of (take count deliveries)) (drop count deliveries)
 
-pub none_made : (net : NetState) (deliveries : List Delivery) → net.delivered ≡ [] → Made net.tree net.bound deliveries net 0
-none_made net deliveries none = record { tree_is = refl; bound_is = refl; delivered_is = none; so_far = refl }
-
 module _ (tree : FiniteTree) (is_tree : IsFiniteTree tree) (bound : ℕ) (deliveries : List Delivery) (net : NetState) (count : ℕ) (other : Delivery) (made : Made tree bound deliveries net count)
     (within : count < length deliveries) where
   abbrev delivery : Delivery

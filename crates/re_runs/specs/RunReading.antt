@@ -2,6 +2,7 @@
 use Rattle.std.specs.Prelude.{◌≡◌, ℕ, ◌+◌, ◌≤◌, true, List, [], ◌∷◌, ◌++◌, length, None, Result, Ok, Err}
 use Rattle.std.specs.List.{AllByRecursion}
 use Rattle.re_io.specs.LineReading.{LineText}
+use Rattle.re_problem.specs.TextReading.{IsRefused}
 use Rattle.re_problem.specs.declared.fault.InputFault.{InputFault}
 use Rattle.re_problem.specs.declared.fault.TextFault.{TextFault}
 use Rattle.re_problem.specs.declared.fault.TextFault.TheVariants.{Bad, NoMemory}
@@ -38,14 +39,10 @@ Fits bound (place.Deliveries tree deliveries) =
     (tree.degrees ≡ degrees_of bound.first) × IsNumbered tree × AreMessages tree (length bound.steps) deliveries.items
 
 -- ---- what the calls give
-abbrev pub Refuses : {X : Type 0} → Result X InputFault → TextFault → Type 0
-Refuses result (Bad fault) = result ≡ Err fault
-Refuses result NoMemory = Unit {0}
-
 -- what a line brought is held
 abbrev pub Holds : Bound → Result State InputFault → Result Place TextFault → Type 0
 Holds bound result (Ok p) = (result ≡ Ok (state_of bound p)) × Fits bound p
-Holds bound result (Err fault) = Refuses result fault
+Holds bound result (Err fault) = IsRefused result fault
 
 -- the text of the certificate, behind which this is left; its first line has this number
 pub record Ends (text rest : List ℕ) (number : ℕ) : Type 0 where
@@ -58,7 +55,7 @@ pub record Ends (text rest : List ℕ) (number : ℕ) : Type 0 where
 -- what the end of the lines gives behind the certificate
 abbrev pub RestGives : Bound → Result RunText InputFault → Result Place TextFault → Type 0
 RestGives bound result (Ok p) = (result ≡ ended (state_of bound p)) × Fits bound p
-RestGives bound result (Err fault) = Refuses result fault
+RestGives bound result (Err fault) = IsRefused result fault
 
 -- ---- the certificate's part
 -- what a finished line more brings to a reader of certificates that is at this state behind these lines
@@ -74,4 +71,4 @@ text_of input = record { bound = input.certificate; tree = input.tree; deliverie
 -- the certificate, the tree and the deliveries that the text writes, exactly where it has no fault, and else its first fault
 abbrev pub RunGives : List ℕ → Result RunInput TextFault → Type 0
 RunGives text (Ok input) = run_text text ≡ Ok (text_of input)
-RunGives text (Err fault) = Refuses (run_text text) fault
+RunGives text (Err fault) = IsRefused (run_text text) fault

@@ -5,7 +5,7 @@ use Rattle.re_items.specs.Bytes.{is_empty_line}
 use Rattle.re_labels.specs.declared.sides.Degrees.{Degrees}
 use Rattle.re_labels.specs.declared.sides.Side.{Side}
 use Rattle.re_problem.specs.NamedProblems.{NamedProblem}
-use Rattle.re_problem.specs.ProblemTexts.{byte_fault}
+use Rattle.re_problem.specs.ProblemTexts.{byte_fault, fault_or}
 use Rattle.re_problem.specs.declared.fault.InputFault.{InputFault}
 use Rattle.re_problem.specs.declared.fault.InputFault.TheVariants.{BadEntry, BadItem, BadSection, EarlyEnd, TooManyNodes}
 use Rattle.re_cert.specs.Bounds.{Bound}
@@ -29,10 +29,6 @@ pub data State : Type 0 where
   AtRoot : Bound → State
   InTree : Bound → FiniteTree → State
   InDeliveries : Bound → FiniteTree → List Delivery → State
-
-abbrev pub fault_or : Option InputFault → Result State InputFault → Result State InputFault
-fault_or None result = result
-fault_or (Some fault) result = Err fault
 
 -- ---- the certificate
 abbrev pub reached : CertificateState → State

@@ -3,7 +3,8 @@ ghost use Rattle.re_cert.specs.CertificateReading.{Stands};
 ghost use Rattle.re_cert.specs.CertificateTexts.{State as CertificateState, behind as behind_lines, is_whole};
 ghost use Rattle.re_io.specs.LineReading.{IsFirstLine, LineText, line_bytes};
 ghost use Rattle.re_io.specs.declared.read.TheConstants.{MAX_BYTES};
-ghost use Rattle.re_runs.specs.RunReading.{Ends, Feeds, Refuses};
+ghost use Rattle.re_problem.specs.TextReading.{IsRefused};
+ghost use Rattle.re_runs.specs.RunReading.{Ends, Feeds};
 ghost use Rattle.re_runs.specs.RunTexts.{behind, run_text};
 ghost use Rattle.re_runs.specs.RunTexts.State.{InCertificate};
 ghost use Rattle.std.specs.Prelude.{◌≡◌, ◌==◌, ◌≤◌, ◌<◌, ◌+◌, ◌++◌, ◌∷◌, [], false, true, List, None, Ok, Err, Some, ℕ, IfErr, IfOk, IfSome, length, position};
@@ -61,7 +62,7 @@ fn unfinished_fault(alloc: Global, reader: &mut CertReader, line: &[u8]) -> Text
     requires goes_on { (before : List LineText) → Stands reader.old before → is_whole (behind_lines before) ≡ false }
     requires within { reader.old.byte + length line.now ≤ MAX_BYTES }
     ensures { (before : List LineText) (s : CertificateState) (byte number : ℕ) → behind_lines before ≡ Ok s → Stands reader.old before
-        → Refuses (behind byte number (InCertificate s) (record { text = line.now; ended = false } ∷ [])) result }
+        → IsRefused (behind byte number (InCertificate s) (record { text = line.now; ended = false } ∷ [])) result }
 {
     if !is_deliveries_line(line) {
         return TextFault::Bad(InputFault::EarlyEnd);
@@ -76,7 +77,7 @@ fn unfinished_fault(alloc: Global, reader: &mut CertReader, line: &[u8]) -> Text
 pub(crate) fn certificate_end(alloc: Global, text: &[u8]) -> Result<(&[u8], u32), TextFault>
     requires { length text.now ≤ MAX_BYTES }
     ensures ends { IfOk result (λ left. Ends text.now left.0.now left.1) }
-    ensures refused { IfErr result (λ fault. Refuses (run_text text.now) fault) }
+    ensures refused { IfErr result (λ fault. IsRefused (run_text text.now) fault) }
 {
     let mut reader = CertReader::new(alloc);
     let mut rest = text;

@@ -1,3 +1,4 @@
+pub mod InnerLines
 pub mod KnownLabels
 pub mod ReadPairs
 pub mod SectionWords

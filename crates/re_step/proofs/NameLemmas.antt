@@ -8,6 +8,10 @@ use Rattle.std.proofs.lemmas.List.{take_more}
 use Rattle.std.specs.declared.cmp.Ordering.{Ordering}
 use Rattle.std.specs.declared.cmp.Ordering.TheVariants.{Less, Equal, Greater}
 use Rattle.std.proofs.lemmas.Bool.{false≢true, leb-true}
+use Rattle.re_problem.specs.Derived.{derived}
+use Rattle.re_problem.specs.NamedProblems.{unnamed}
+use Rattle.re_problem.specs.Problems.{Problem}
+use Rattle.re_step.specs.Derivations.{named_derived}
 use Rattle.re_table.proofs.Insertions.{length-with_list_most}
 use Rattle.re_labels.proofs.ListSets.{In-list_set, list_set-In, list_set_push, one_set, rising-list_set}
 use Rattle.re_labels.proofs.Membership.{length-count_from, length-map'}
@@ -134,3 +138,7 @@ pub names_done : (count i : ℕ) (names : List (List ℕ)) → count ≤ 128 →
 names_done count i names most l e =
     e ∙ ap list_set (take_all (label_names count) i (let n = length-label_names count in omega (arith, n, l)))
     ∙ one_set (list_set (label_names count)) (label_names count) (rising-list_set (label_names count)) (IsNames-label_names count most).ascends (In-list_set (label_names count)) (list_set-In (label_names count))
+
+-- the derived problem with its names, without them
+pub unnamed-derived : (problem : Problem) → unnamed (named_derived problem) ≡ derived problem
+unnamed-derived problem = λ i. record { labels = length-label_names (derived problem).labels i; active = (derived problem).active; passive = (derived problem).passive }

@@ -7,7 +7,6 @@ use Rattle.std.proofs.lemmas.Bool.{false≢true}
 use Rattle.std.proofs.lemmas.Bool.Decides.{nat_tests}
 use Rattle.re_algo.specs.Tables.{AnswerTable, IsTable, views_of}
 use Rattle.re_cert.specs.Entries.{image_labels, label_items, labels_in, of_length}
-use Rattle.re_io.specs.declared.read.TheConstants.{MAX_BYTES}
 use Rattle.re_items.specs.Bytes.{bad_byte, is_empty_line}
 use Rattle.re_items.specs.Items.{ItemText}
 use Rattle.re_labels.proofs.Membership.{all-push}
@@ -16,25 +15,23 @@ use Rattle.re_labels.specs.PortLabels.{port_labels}
 use Rattle.re_places.proofs.CountCode.{few-listed}
 use Rattle.re_places.specs.Counting.{view_count}
 use Rattle.re_places.specs.declared.counting.TheConstants.{MAX_VIEWS}
-use Rattle.re_problem.proofs.TextLines.{bytes_more}
 use Rattle.re_problem.specs.NamedProblems.{IsNamedProblem, NamedProblem}
-use Rattle.re_problem.specs.ProblemTexts.{byte_fault, end_fault, fault_at, problem_of}
-use Rattle.re_problem.specs.TextReading.{FinishRefuses, Refuses as TextRefuses, Stands}
+use Rattle.re_problem.specs.ProblemTexts.{byte_fault, end_fault, fault_at, fault_or, problem_of}
+use Rattle.re_problem.specs.TextReading.{Reads}
 use Rattle.re_problem.specs.declared.fault.InputFault.{InputFault}
 use Rattle.re_problem.specs.declared.fault.InputFault.TheVariants.{BadEntry, BadSection}
 use Rattle.re_problem.specs.declared.fault.TextFault.{TextFault}
-use Rattle.re_problem.specs.declared.fault.TextFault.TheVariants.{Bad, NoMemory}
 use Rattle.re_problem.specs.declared.text_reader.TextReader.{TextReader}
 use Rattle.re_sections.specs.SectionLines.{is_section}
-use Rattle.re_table_texts.specs.Reading.{Holds, IsAt, IsBegun, Reads, Refuses}
+use Rattle.re_table_texts.specs.Reading.{Holds, IsAt, IsBegun}
 use Rattle.re_table_texts.specs.SectionLines.{section_of}
-use Rattle.re_table_texts.specs.TableTexts.{State, are_all, fault_or, has_room, judged, judged_start, judged_table, judged_text, may_stand, next_begins, problem_begins, table_begins, table_counted, table_of, takes_items, takes_labels, text_ends}
+use Rattle.re_table_texts.specs.TableTexts.{State, are_all, has_room, judged, judged_start, judged_table, judged_text, may_stand, next_begins, problem_begins, table_begins, table_counted, table_of, takes_items, takes_labels, text_ends}
 use Rattle.re_table_texts.specs.TableTexts.State.{Start, InText, InTable}
 use Rattle.re_table_texts.specs.declared.reading.Place.{Place}
 use Rattle.re_table_texts.specs.declared.reading.Place.TheVariants as place
 use Rattle.re_table_texts.specs.declared.reading.TableRead.{TableRead}
 use Rattle.re_table_texts.specs.declared.sections.Section.{Section}
-use Rattle.re_table_texts.specs.declared.sections.Section.TheVariants.{Next, Other, Problem, Table}
+use Rattle.re_table_texts.specs.declared.sections.Section.TheVariants.{Table}
 use Rattle.re_table_texts.specs.declared.table_texts.TableForm.{TableForm}
 use Rattle.re_table_texts.specs.declared.table_texts.TableForm.TheVariants.{Faster, Plain, Slower}
 
@@ -57,48 +54,7 @@ module _ (form : TableForm) (byte number : ℕ) (first : Option NamedProblem) (t
       ≡ fault_or (end_fault text_line text) (text_ends form (byte + length line + 1) number first (problem_of text) (section_of line))
   text-section marked = ap (λ t. cond t behind_it inner) marked
 
--- the text reader at some byte of the longest input
-reads-stands : (reader : TextReader) (text_byte text_line : ℕ) (text : List (List ℕ)) (byte : ℕ) → Reads reader text_byte text_line text byte → byte ≤ MAX_BYTES → Stands reader text_byte text_line text
-reads-stands reader text_byte text_line text byte reads within = reads.stands (let e = reads.byte_is in omega arith)
-
-module _ (old : TextReader) (text_byte text_line byte : ℕ) (text : List (List ℕ)) (line : List ℕ) (reads : Reads old text_byte text_line text byte) (within : byte ≤ MAX_BYTES) where
-  -- a line of the text
-  pub text-more : (new : TextReader) → ((b n : ℕ) (before : List (List ℕ)) → Stands old b n before → (fault_at b n before line ≡ None) × Stands new b n (before ++ line ∷ []))
-      → (fault_at text_byte text_line text line ≡ None) × Reads new text_byte text_line (text ++ line ∷ []) (byte + length line + 1)
-  text-more new given =
-      let h = given text_byte text_line text (reads-stands old text_byte text_line text byte reads within) in
-      (h.0, record { stands = λ l. h.1; byte_is = (let e = reads.byte_is in let m = bytes_more text line in omega arith) })
-
-  pub text-refused : (fault : TextFault) (result : Result State InputFault) → TextRefuses old line fault → Refuses (fault_or (fault_at text_byte text_line text line) result) fault
-  text-refused (Bad fault) result refused = ap (λ f. fault_or f result) (refused text_byte text_line text (reads-stands old text_byte text_line text byte reads within))
-  text-refused NoMemory result refused = tt
-
-  pub text-ended : (problem : NamedProblem) → ((b n : ℕ) (lines : List (List ℕ)) → Stands old b n lines → (end_fault n lines ≡ None) × (problem ≡ problem_of lines)) → (end_fault text_line text ≡ None) × (problem ≡ problem_of text)
-  text-ended problem given = given text_byte text_line text (reads-stands old text_byte text_line text byte reads within)
-
-  pub text-lacks : (fault : TextFault) (result : Result State InputFault) → FinishRefuses old fault → Refuses (fault_or (end_fault text_line text) result) fault
-  text-lacks (Bad fault) result refused = ap (λ f. fault_or f result) (refused text_byte text_line text (reads-stands old text_byte text_line text byte reads within))
-  text-lacks NoMemory result refused = absurd refused
-
 -- another section
-pub not-problem : (next number : ℕ) (section : Section) → (section ≡ Problem → ⊥) → problem_begins next number section ≡ Err (BadSection number)
-not-problem next number Problem apart = absurd (apart refl)
-not-problem next number Next apart = refl
-not-problem next number (Table radius) apart = refl
-not-problem next number Other apart = refl
-
-pub not-due : (form : TableForm) (next number : ℕ) (first : Option NamedProblem) (problem : NamedProblem) (section : Section) → (section ≡ Next → ⊥) → ((radius : ℕ) → section ≡ Table radius → ⊥)
-    → text_ends form next number first problem section ≡ Err (BadSection number)
-not-due form next number first problem Problem apart none = refl
-not-due form next number first problem Next apart none = absurd (apart refl)
-not-due form next number first problem (Table radius) apart none = absurd (none radius refl)
-not-due form next number first problem Other apart none = refl
-
-pub not-next : (form : TableForm) (next number : ℕ) (first : Option NamedProblem) (problem : NamedProblem) → (form ≡ Slower → ⊥) → next_begins form next number first problem ≡ Err (BadSection number)
-not-next Plain next number first problem apart = refl
-not-next Faster next number first problem apart = refl
-not-next Slower next number first problem apart = absurd (apart refl)
-
 pub not-twice : (form : TableForm) (next number : ℕ) (first : Option NamedProblem) (problem : NamedProblem) → IsSome first → next_begins form next number first problem ≡ Err (BadSection number)
 not-twice form next number None problem some = absurd (false≢true some)
 not-twice Plain next number (Some given) problem some = refl

@@ -7,10 +7,8 @@ use Rattle.std.proofs.lemmas.Grind.{flat_map-append}
 use Rattle.re_canonical.proofs.BlocksWritten.{block_written}
 use Rattle.re_canonical.proofs.ReadBack.{all_append, text_ended}
 use Rattle.re_canonical.specs.CanonicalLines.{block_lines, canonical_lines}
-use Rattle.re_cert_lines.specs.CertificateLines.{IsOneLine}
-use Rattle.re_labels.proofs.Membership.{AllByRecursion-weaker}
-use Rattle.re_labels.proofs.Tests.{and-true, eqb-apart}
-use Rattle.re_problem.proofs.EndedLines.{NoFeed, parts-ended}
+use Rattle.re_labels.proofs.Tests.{and-true}
+use Rattle.re_problem.proofs.EndedLines.{NoFeed, lines_in-ended, parts-ended}
 use Rattle.re_problem.specs.NamedProblems.{IsNamedProblem, NamedProblem}
 use Rattle.re_problem.specs.ProblemTexts.{ended, lines_in, lines_of}
 use Rattle.re_algo.specs.Tables.{AnswerTable}
@@ -29,16 +27,8 @@ feeds_not (b ∷ text) all =
     other true h = absurd (cc)
     other false h = refl
 
-pub one_no_feed : (line : List ℕ) → IsOneLine line → NoFeed line
-one_no_feed line one = AllByRecursion-weaker (λ b. b ≡ 10 → ⊥) (λ b. eqb b 10 ≡ false) (λ b apart. eqb-apart b 10 apart) line one
-
-whole_lines : (lines : List (List ℕ)) → lines_in (lines ++ [] ∷ []) ≡ lines
-whole_lines [] = refl
-whole_lines (line ∷ []) = refl
-whole_lines (line ∷ next ∷ lines) = ap (λ l. line ∷ l) (whole_lines (next ∷ lines))
-
 pub lines_ended : (lines : List (List ℕ)) → AllByRecursion NoFeed lines → lines_of (ended lines) ≡ lines
-lines_ended lines none = ap lines_in (parts-ended lines none) ∙ whole_lines lines
+lines_ended lines none = ap lines_in (parts-ended lines none) ∙ lines_in-ended lines
 
 pub canonical_feeds : (problem : NamedProblem) → IsNamedProblem problem → AllByRecursion NoFeed (canonical_lines problem)
 canonical_feeds problem is =

@@ -1,5 +1,5 @@
 -- The text of a problem and a table is read as these.
-use Rattle.std.proofs.Common.{◌≡◌, ℕ, suc, ◌≤◌, ◌<◌, ◌+◌, Bool, true, false, cond, ◌&&◌, eqb, leb, List, [], ◌∷◌, ◌++◌, length, codes, decimal, refl, sym, ap, ◌∙◌, subst, arith, Option, Some, None, append-nil, append_assoc, length-append}
+use Rattle.std.proofs.Common.{◌≡◌, ℕ, ◌≤◌, ◌<◌, ◌+◌, Bool, true, false, cond, ◌&&◌, eqb, leb, List, [], ◌∷◌, ◌++◌, length, codes, decimal, refl, sym, ap, ◌∙◌, subst, arith, Option, Some, None, append-nil, append_assoc, length-append}
 use Rattle.std.specs.Prelude.{Ok, Err}
 use Rattle.std.specs.List.{AllByRecursion}
 use Rattle.std.specs.Option.{option_and_then}
@@ -12,23 +12,21 @@ use Rattle.re_cert.specs.Entries.{image_labels, image_on, label_items}
 use Rattle.re_labels.specs.PortLabels.{port_labels}
 use Rattle.re_cert_lines.proofs.EntryLines.{image_line_law}
 use Rattle.re_cert_lines.specs.CertificateLines.{IsRead}
-use Rattle.re_items.specs.Bytes.{bad_byte}
 use Rattle.re_items.specs.Items.{ItemText}
-use Rattle.re_labels.proofs.Tests.{eqb-same, eqb-true}
+use Rattle.re_labels.proofs.Tests.{eqb-same}
 use Rattle.re_places.proofs.CountCode.{listed-few}
 use Rattle.re_places.specs.Counting.{view_count}
-use Rattle.re_problem.proofs.EndedLines.{NoFeed}
+use Rattle.re_problem.proofs.EndedLines.{NoFeed, no_feed}
 use Rattle.re_problem.specs.CanonicalTexts.{canonical}
 use Rattle.re_problem.specs.NamedProblems.{IsNamedProblem, NamedProblem}
-use Rattle.re_problem.specs.ProblemTexts.{byte_fault, bytes_of, end_fault, fault_at, first_fault, first_from, form_fault, limit_fault, lines_of, or_else, problem_of}
-use Rattle.re_problem.specs.declared.fault.InputFault.{InputFault}
+use Rattle.re_problem.specs.ProblemTexts.{end_fault, fault_at, fault_or, first_fault, first_from, lines_of, problem_of}
 use Rattle.re_problem.specs.declared.fault.InputFault.TheVariants.{BadEntry, BadSection}
-use Rattle.re_sections.specs.SectionLines.{is_section}
+use Rattle.re_sections.proofs.InnerLines.{inner_line, neither}
 use Rattle.re_table_texts.proofs.JudgedLines.{table-filled, text-line, text-section}
-use Rattle.re_table_texts.proofs.PrintedLines.{answer_lines, canonical_feeds, lines_ended, one_no_feed, problem_line_feeds, table_line, table_line_feeds, table_lines, table_text_ended}
+use Rattle.re_table_texts.proofs.PrintedLines.{answer_lines, canonical_feeds, lines_ended, problem_line_feeds, table_line, table_line_feeds, table_lines, table_text_ended}
 use Rattle.re_table_texts.specs.PrintedTables.{IsTableFor, TableTextLaw, answer_text, table_text}
 use Rattle.re_table_texts.specs.SectionLines.{section_of}
-use Rattle.re_table_texts.specs.TableTexts.{State, and_behind, are_all, behind, fault_or, has_room, judged, may_stand, table_counted, table_input, table_of, takes_items, takes_labels, text_ends, text_of}
+use Rattle.re_table_texts.specs.TableTexts.{State, and_behind, are_all, behind, has_room, judged, may_stand, table_counted, table_input, table_of, takes_items, takes_labels, text_ends, text_of}
 use Rattle.re_table_texts.specs.TableTexts.State.{InTable, InText, Start}
 use Rattle.re_table_texts.specs.declared.sections.Section.TheVariants.{Table}
 use Rattle.re_table_texts.specs.declared.table_texts.TableForm.{TableForm}
@@ -61,38 +59,6 @@ leads_on form byte number s t u xs ys first next =
     }
 
 -- ---- problem texts
-neither : (f g : Option InputFault) → or_else f g ≡ None → (f ≡ None) × (g ≡ None)
-neither None g none = (refl, none)
-neither (Some fault) g none = absurd (cc)
-
--- a line that begins with `=` has a byte that isn't allowed
-equals_fault : (byte start : ℕ) (before : List (List ℕ)) (line : List ℕ) → fault_at byte start before (61 ∷ line) ≡ None → ⊥
-equals_fault byte start before line none =
-    let number : ℕ = start + length before in
-    let form : Option InputFault = form_fault (byte + bytes_of before) number before (61 ∷ line) in
-    let formed : form ≡ None = (neither form (limit_fault number before (61 ∷ line)) none).0 in
-    bad_there (bad_byte (61 ∷ line)) (equals_bad line) (neither (byte_fault (byte + bytes_of before) (bad_byte (61 ∷ line))) _ formed).0
-  where
-    one_within : (n : ℕ) → leb 1 (suc n) ≡ true
-    one_within n = grind (arith, nat_tests)
-
-    equals_bad : (line : List ℕ) → bad_byte (61 ∷ line) ≡ Some 0
-    equals_bad line = ap (λ t. cond t (Some 0) None) (one_within (length line))
-
-    bad_there : (bad : Option ℕ) → bad ≡ Some 0 → byte_fault (byte + bytes_of before) bad ≡ None → ⊥
-    bad_there None is none = cc
-    bad_there (Some place) is none = cc
-
--- a line without fault is no section line
-inner_line : (byte start : ℕ) (before : List (List ℕ)) (line : List ℕ) → fault_at byte start before line ≡ None → is_section line ≡ false
-inner_line byte start before [] none = refl
-inner_line byte start before (b ∷ []) none = refl
-inner_line byte start before (b ∷ c ∷ line) none = go (eqb b 61) refl
-  where
-    go : (t : Bool) → eqb b 61 ≡ t → is_section (b ∷ c ∷ line) ≡ false
-    go false is = ap (λ t. t && eqb c 61) is
-    go true is = absurd (equals_fault byte start before (c ∷ line) (subst (λ x. fault_at byte start before (x ∷ c ∷ line) ≡ None) (eqb-true b 61 is) none))
-
 module _ (form : TableForm) (text_byte text_line : ℕ) where
   text_read : (lines before : List (List ℕ)) (byte number : ℕ) → first_from text_byte text_line before lines ≡ None
       → Leads form byte number (InText None text_byte text_line before) lines (InText None text_byte text_line (before ++ lines)) × (end_fault text_line (before ++ lines) ≡ None)
@@ -173,7 +139,7 @@ module _ (form : TableForm) (problem : NamedProblem) (table : AnswerTable) (is :
       go : IsRead line × ((items : List ItemText) × (label_items line ≡ Some items) × (image_on before problem items ≡ Some labels))
           → NoFeed line × (judged form byte number (InTable None problem table.radius done) line ≡ Ok (InTable None problem table.radius (done ++ labels ∷ [])))
       go (read, (items, items_are, labels_are)) = (
-        one_no_feed line read.one,
+        no_feed line read.one,
         table-filled byte number None problem table.radius done line read.inner None read.filled (sym read.allowed)
             ∙ (ap (takes_items number None problem table.radius done) items_are
             ∙ (ap (takes_labels number None problem table.radius done) (labels_read labels items (image_labels problem.names problem.active.degree items) labels_are)

@@ -2,11 +2,12 @@
 use Rattle.std.proofs.Common.{◌≡◌, ℕ, zero, suc, ◌<◌, ◌≤◌, ◌+◌, List, [], ◌∷◌, length, refl, ap, ◌∙◌, arith}
 use Rattle.std.specs.Prelude.{Result, Ok, Err}
 use Rattle.re_problem.specs.ProblemTexts.{lines_of}
+use Rattle.re_problem.specs.TextReading.{IsRefused}
 use Rattle.re_problem.specs.declared.fault.TextFault.{TextFault}
 use Rattle.re_problem.specs.declared.fault.TextFault.TheVariants.{Bad, NoMemory}
 use Rattle.re_table_texts.specs.TableTexts.{State, and_behind, behind, ended, judged, table_input}
 use Rattle.re_table_texts.specs.TableTexts.State.{Start}
-use Rattle.re_table_texts.specs.Reading.{Gives, Holds, IsAt, Refuses}
+use Rattle.re_table_texts.specs.Reading.{Gives, Holds, IsAt}
 use Rattle.re_table_texts.specs.declared.reading.Place.{Place}
 use Rattle.re_table_texts.specs.declared.reading.Place.TheVariants as place
 use Rattle.re_table_texts.specs.declared.table_texts.TableForm.{TableForm}
@@ -43,7 +44,7 @@ module _ (form : TableForm) (text : List ℕ) (p : Place) (byte number : ℕ) (r
       go zero none = let old = s.within (omega arith) in omega arith
       go (suc n) some = let old = s.within (omega arith) in let fits = left (omega arith) in omega arith
 
-  pub line_wrong : (fault : TextFault) → Refuses (judged form byte number s.state line) fault → Gives (table_input form text) (Err fault)
+  pub line_wrong : (fault : TextFault) → IsRefused (judged form byte number s.state line) fault → Gives (table_input form text) (Err fault)
   line_wrong (Bad fault) wrong = here ∙ ap (λ r. and_behind r (λ t. behind form (byte + length line + 1) (number + 1) t (lines_of rest'))) wrong
   line_wrong NoMemory wrong = tt
 

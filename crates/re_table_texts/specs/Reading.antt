@@ -1,16 +1,12 @@
 -- What a reader of tables holds of the lines that it was fed, and what its calls give.
-use Rattle.std.specs.Prelude.{◌≡◌, ℕ, ◌+◌, ◌≤◌, true, List, length, IsSome, unwrap_or, Result, Ok, Err}
+use Rattle.std.specs.Prelude.{◌≡◌, ℕ, ◌≤◌, true, length, IsSome, unwrap_or, Result, Ok, Err}
 use Rattle.std.specs.List.{AllByRecursion}
 use Rattle.re_algo.specs.Tables.{views_of}
-use Rattle.re_io.specs.declared.read.TheConstants.{MAX_BYTES}
 use Rattle.re_places.specs.declared.counting.TheConstants.{MAX_VIEWS}
 use Rattle.re_problem.specs.NamedProblems.{NamedProblem}
-use Rattle.re_problem.specs.ProblemTexts.{bytes_of}
-use Rattle.re_problem.specs.TextReading.{Stands as StandsText}
+use Rattle.re_problem.specs.TextReading.{IsRefused, Reads}
 use Rattle.re_problem.specs.declared.fault.InputFault.{InputFault}
 use Rattle.re_problem.specs.declared.fault.TextFault.{TextFault}
-use Rattle.re_problem.specs.declared.fault.TextFault.TheVariants.{Bad, NoMemory}
-use Rattle.re_problem.specs.declared.text_reader.TextReader.{TextReader}
 use Rattle.re_table_texts.specs.TableTexts.{State, TableText, are_all, may_stand, table_of}
 use Rattle.re_table_texts.specs.TableTexts.State.{Start, InText, InTable}
 use Rattle.re_table_texts.specs.declared.reading.Place.{Place}
@@ -19,11 +15,6 @@ use Rattle.re_table_texts.specs.declared.reading.TableRead.{TableRead}
 use Rattle.re_table_texts.specs.declared.table_texts.TableForm.{TableForm}
 use Rattle.re_table_texts.specs.declared.table_texts.TableForm.TheVariants.{Slower}
 use Rattle.re_table_texts.specs.declared.table_texts.TableInput.{TableInput}
-
--- it reads the lines of a problem text up to this byte, where they begin within the bytes of an input
-pub record Reads (reader : TextReader) (text_byte text_line : ℕ) (text : List (List ℕ)) (byte : ℕ) : Type 0 where
-  pub stands : text_byte ≤ MAX_BYTES → StandsText reader text_byte text_line text
-  pub byte_is : byte ≡ text_byte + bytes_of text
 
 -- a table that is begun, of a form: the problems that belong to it have come, its radius may stand, it has no more views than are
 -- listed, and each answer has a label for each port
@@ -44,14 +35,10 @@ IsAt form (place.Table read) (InTable first owner radius answers) byte =
 IsAt form p s byte = ⊥
 
 -- ---- what the calls give
-abbrev pub Refuses : {X : Type 0} → Result X InputFault → TextFault → Type 0
-Refuses result (Bad fault) = result ≡ Err fault
-Refuses result NoMemory = Unit {0}
-
 -- what a line brought is held, at this byte
 abbrev pub Holds : TableForm → Result State InputFault → ℕ → Result Place TextFault → Type 0
 Holds form result byte (Ok p) = (s : State) × (result ≡ Ok s) × IsAt form p s byte
-Holds form result byte (Err fault) = Refuses result fault
+Holds form result byte (Err fault) = IsRefused result fault
 
 abbrev pub text_in : TableInput → TableText
 text_in input = record { problem = input.problem; next = input.next; table = input.table }
@@ -63,4 +50,4 @@ owner_in input = unwrap_or input.next input.problem
 -- the problems and the table that were written, exactly where there was no fault, and else the first fault
 abbrev pub Gives : Result TableText InputFault → Result TableInput TextFault → Type 0
 Gives result (Ok input) = result ≡ Ok (text_in input)
-Gives result (Err fault) = Refuses result fault
+Gives result (Err fault) = IsRefused result fault

@@ -7,7 +7,7 @@ use Rattle.re_items.specs.Bytes.{bad_byte, is_empty_line}
 use Rattle.re_items.specs.Items.{ItemText}
 use Rattle.re_places.specs.Counting.{view_count}
 use Rattle.re_problem.specs.NamedProblems.{NamedProblem}
-use Rattle.re_problem.specs.ProblemTexts.{byte_fault, end_fault, fault_at, lines_of, problem_of}
+use Rattle.re_problem.specs.ProblemTexts.{byte_fault, end_fault, fault_at, fault_or, lines_of, problem_of}
 use Rattle.re_problem.specs.declared.fault.InputFault.{InputFault}
 use Rattle.re_problem.specs.declared.fault.InputFault.TheVariants.{BadItem, BadSection, BadEntry, EarlyEnd, TooManyViews}
 use Rattle.re_sections.specs.SectionLines.{is_section}
@@ -24,10 +24,6 @@ pub data State : Type 0 where
   Start : State
   InText : Option NamedProblem → ℕ → ℕ → List (List ℕ) → State
   InTable : Option NamedProblem → NamedProblem → ℕ → List (List ℕ) → State
-
-abbrev pub fault_or : Option InputFault → Result State InputFault → Result State InputFault
-fault_or None result = result
-fault_or (Some fault) result = Err fault
 
 -- ---- section lines: the next line stands at this byte, the section line has this number
 abbrev pub problem_begins : ℕ → ℕ → Section → Result State InputFault

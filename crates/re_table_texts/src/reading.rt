@@ -1,7 +1,8 @@
 //! The lines of the text of a table, one after another.
 ghost use Rattle.re_cert.specs.Entries.{label_items};
 ghost use Rattle.re_io.specs.declared.read.TheConstants.{MAX_BYTES};
-ghost use Rattle.re_table_texts.specs.Reading.{Gives, Holds, IsAt, IsBegun, Reads, owner_in};
+ghost use Rattle.re_problem.specs.TextReading.{Reads};
+ghost use Rattle.re_table_texts.specs.Reading.{Gives, Holds, IsAt, IsBegun, owner_in};
 ghost use Rattle.re_table_texts.specs.SectionLines.{section_of};
 ghost use Rattle.re_table_texts.specs.TableTexts.{State, are_all, ended, judged, judged_start, judged_table, judged_text, may_stand, next_begins, table_begins, takes_items, text_ends};
 ghost use Rattle.re_table_texts.specs.TableTexts.State.{InTable};

@@ -1,20 +1,20 @@
 -- The table of an upper bound is a table that solves its first problem.
-use Rattle.std.proofs.Common.{◌≡◌, ℕ, ◌≤◌, ◌<◌, List, map, length, refl, sym, ap, ◌∙◌, subst, arith}
-use Rattle.std.specs.Prelude.{nat_le, IsSome, Some, None, if◌then◌else◌, Bool, true, false}
+use Rattle.std.proofs.Common.{◌≡◌, ℕ, ◌<◌, List, map, length, refl, sym, ap, ◌∙◌, subst}
+use Rattle.std.specs.Prelude.{IsSome, Some, if◌then◌else◌}
 use Rattle.std.specs.List.{AllByRecursion}
-use Rattle.std.proofs.lemmas.Bool.Decides.{nat_tests}
 use Rattle.std.proofs.lemmas.List.{length-map}
+use Rattle.re_cert.proofs.Stages.{count-stages}
 use Rattle.re_labels.proofs.Membership.{AllByRecursion-from_contains, Contains-map_cases}
 use Rattle.re_labels.specs.declared.sides.Degrees.{Degrees}
+use Rattle.re_places.proofs.CountCode.{some-listed}
 use Rattle.re_problem.specs.NamedProblems.{IsNamedProblem, unnamed}
 use Rattle.re_views.proofs.AllViewsLemmas.{all_views-IsView}
 use Rattle.re_views.specs.AllViews.{all_views}
 use Rattle.re_places.specs.Counting.{listed, view_count}
-use Rattle.re_places.specs.declared.counting.TheConstants.{MAX_VIEWS}
 use Rattle.re_laws.proofs.ExtractedRounds.{extracted_solves}
 use Rattle.re_laws.specs.Algorithms.{Plain, Solves, SolvesBy}
 use Rattle.re_laws.specs.Extracted.{IsUpperBound, extracted}
-use Rattle.re_cert.specs.Bounds.{Bound, BoundStep}
+use Rattle.re_cert.specs.Bounds.{Bound}
 use Rattle.re_cert.specs.Stages.{stages_of}
 use Rattle.re_algo.proofs.FitsCode.{yes_is}
 use Rattle.re_algo.proofs.JudgeCode.{labels_within}
@@ -24,16 +24,6 @@ use Rattle.re_algo.specs.Tables.{IsTable, built_table, entries}
 use Rattle.re_algo.specs.Verdicts.{table_verdict}
 use Rattle.re_algo.specs.declared.solving.TableVerdict.TheVariants.{Yes}
 use Rattle.re_upper_tables.specs.UpperTables.{upper_table}
-
-count-stages : (steps : List BoundStep) → length (stages_of steps) ≡ length steps
-count-stages steps = length-map steps _
-
-few_views : (n : ℕ) → IsSome (listed n) → n ≤ MAX_VIEWS
-few_views n some = go (nat_le n MAX_VIEWS) refl some
-  where
-    go : (b : Bool) → nat_le n MAX_VIEWS ≡ b → IsSome (if b then Some n else None) → n ≤ MAX_VIEWS
-    go true e some = grind (arith, nat_tests)
-    go false e some = absurd (cc)
 
 module _ (bound : Bound) (is : IsUpperBound (unnamed bound.first) (stages_of bound.steps)) (named : IsNamedProblem bound.first)
     (some : IsSome (view_count bound.first.active.degree bound.first.passive.degree (length bound.steps))) where
@@ -52,7 +42,7 @@ module _ (bound : Bound) (is : IsUpperBound (unnamed bound.first) (stages_of bou
     active_most = named.problem.active.most;
     passive_least = named.problem.passive.least;
     passive_most = named.problem.passive.most;
-    few = few_views (length views) some;
+    few = some-listed (length views) some;
     count = length-map views algorithm;
     ports = AllByRecursion-from_contains (λ labels. length labels ≡ bound.first.active.degree) (map algorithm views) (λ labels held.
         let (v, listed, e) = Contains-map_cases algorithm views labels held in

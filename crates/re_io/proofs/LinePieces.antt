@@ -1,5 +1,5 @@
 -- The pieces of which a line is put together.
-use Rattle.std.proofs.Common.{◌≡◌, ℕ, ◌+◌, ◌-◌, ◌<◌, ◌≤◌, true, false, eqb, List, [], ◌∷◌, ◌++◌, length, take, drop, get_or, Some, None, Contains, refl, sym, ap, ◌∙◌, arith, length-append, length-take, take-append-drop, eq-eqb}
+use Rattle.std.proofs.Common.{◌≡◌, ℕ, ◌+◌, ◌-◌, ◌<◌, ◌≤◌, true, false, eqb, List, [], ◌∷◌, ◌++◌, length, take, drop, get_or, Some, None, Contains, refl, sym, ap, ◌∙◌, arith, length-append, length-take, take-append-drop, eq-eqb, append-nil, append_assoc}
 use Rattle.std.proofs.Common.{◌⊎◌, inl, inr}
 use Rattle.std.specs.List.{position, position_or_len}
 use Rattle.std.proofs.lemmas.Bool.{cases_lt, eqb-true}
@@ -8,7 +8,7 @@ use Rattle.std.proofs.lemmas.Grind.{common_steps}
 use Rattle.std.proofs.lemmas.List.{drop-drop, take_rest, get_or-take, drop_more, get_or_append_left, get_or-append_right}
 use Rattle.std.proofs.lemmas.List.Quantifiers.{position-Some}
 use Rattle.std.proofs.lemmas.List.Sums.{fails_before_first}
-use Rattle.re_io.specs.LineReading.{GivesPart}
+use Rattle.re_io.specs.LineReading.{GivesPart, IsFirstLine}
 
 -- no line feed stands before the first one
 pub no_feed_before : (xs : List ℕ) (i : ℕ) → Some i ≡ position (λ b. eqb b 10) xs → Contains (take i xs) 10 → ⊥
@@ -33,6 +33,27 @@ feed_cut xs i found =
     let first = position-Some (λ b. eqb b 10) xs i 10 (sym found) in
     let feed : get_or xs i 10 ≡ 10 = eqb-true _ _ first.1 in
     sym (take-append-drop i xs) ∙ ap (λ l. take i xs ++ l) (drop_more xs i 10 first.0 ∙ ap (λ x. x ∷ drop (i + 1) xs) feed)
+
+-- the first line of a text, cut off
+pub first_cut : (text : List ℕ) (at : ℕ) → Some at ≡ position (λ b. eqb b 10) text
+    → IsFirstLine text (record { text = take at text; ended = true }) (take (length text - (at + 1)) (drop (at + 1) text)) None
+first_cut text at found = record {
+  bytes = feed_cut text at found ∙ sym (append_assoc (take at text) (10 ∷ []) (drop (at + 1) text)) ∙ ap (λ rest. (take at text ++ 10 ∷ []) ++ rest) (sym (take_rest text (at + 1)));
+  whole = no_feed_before text at found;
+  filled = λ unended. absurd (cc);
+  last = λ unended. absurd (cc);
+}
+
+pub last_cut : (text : List ℕ) → 0 < length text → None ≡ position (λ b. eqb b 10) text
+    → IsFirstLine text (record { text = text; ended = false }) (take (length text - length text) (drop (length text) text)) None
+last_cut text some none =
+    let nothing : take (length text - length text) (drop (length text) text) ≡ [] = (let n : length text - length text ≡ 0 = omega arith in ap (λ n. take n (drop (length text) text)) n) in
+    record {
+      bytes = sym (append-nil text) ∙ ap (λ rest. text ++ rest) (sym nothing);
+      whole = no_feed_at_all text none;
+      filled = λ unended same. (let empty : length text ≡ 0 = ap length same in omega arith);
+      last = λ unended. (nothing, tt);
+    }
 
 pub no_feed_append : (a b : List ℕ) → (Contains a 10 → ⊥) → (Contains b 10 → ⊥) → Contains (a ++ b) 10 → ⊥
 no_feed_append a b left right (k, within, there) = go (cases_lt k (length a))

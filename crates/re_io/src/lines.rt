@@ -1,8 +1,8 @@
 // The lines of a source, one after another.
 ghost use Rattle.std.specs.Io.KnownBytes.{IsAtEnd};
-ghost use Rattle.std.specs.Prelude.{◌≡◌, ◌==◌, ◌<◌, ◌≤◌, ◌↔◌, ◌++◌, ◌∷◌, [], ℕ, List, false, true, Contains, IfOk, IfSome, IsErrOf, OnOk, MatchOption, MatchResult, is_none, length, position, take, drop, if◌then◌else◌};
+ghost use Rattle.std.specs.Prelude.{◌≡◌, ◌==◌, ◌<◌, ◌≤◌, ◌↔◌, ◌++◌, ◌∷◌, [], ℕ, List, false, true, Contains, IfOk, IfSome, IsErrOf, OnOk, MatchOption, MatchResult, is_none, length, position, take, drop, if◌then◌else◌, None, ◌+◌};
 ghost use Rattle.re_io.specs.Faults.{Rose};
-ghost use Rattle.re_io.specs.LineReading.{GivesLine, GivesPart, Refills, Takes};
+ghost use Rattle.re_io.specs.LineReading.{GivesLine, GivesPart, IsFirstLine, Refills, Takes, line_bytes};
 
 use crate::read::{LineFault, MAX_BYTES};
 use crate::{Failed, Source};
@@ -59,12 +59,26 @@ impl Model for Lines {
     ghost invariant = { λ a. (a.at ≤ a.end) × (a.end ≤ PIECE) × (a.stopped ≡ false → a.taken ≤ MAX_BYTES) };
 }
 
-// The place of the first line feed.
-fn feed_place(bytes: &[u8]) -> Option<usize>
+/// The place of the first line feed.
+pub fn feed_place(bytes: &[u8]) -> Option<usize>
     ensures place { result ≡ position (λ byte. byte == 10) bytes.now }
     ensures within { IfSome result (λ place. place < length bytes.now) }
 {
     bytes.iter().position(|byte| *byte == b'\n')
+}
+
+/// The first line of a text, what stands behind it, and whether its line feed was there.
+pub fn cut_line(text: &[u8]) -> (&[u8], &[u8], bool)
+    requires { 0 < length text.now }
+    ensures first { IsFirstLine text.now (record { text = result.0.now; ended = result.2 }) result.1.now None }
+    ensures filled { 0 < length (line_bytes (record { text = result.0.now; ended = result.2 })) }
+    ensures size { length (line_bytes (record { text = result.0.now; ended = result.2 })) + length result.1.now ≡ length text.now }
+    ensures whole { length result.0.now ≤ length (line_bytes (record { text = result.0.now; ended = result.2 })) }
+{
+    match feed_place(text) {
+        Some(at) => (&text[..at], &text[at + 1..], true),
+        None => (text, &text[text.len()..], false),
+    }
 }
 
 impl Lines {

@@ -1,13 +1,12 @@
 -- The certificate at the front of an input, line by line.
-use Rattle.std.proofs.Common.{◌≡◌, ℕ, ◌+◌, ◌-◌, ◌<◌, ◌≤◌, Bool, true, false, cond, codes, not, eqb, ◌||◌, List, [], ◌∷◌, ◌++◌, get_or, length, length-append, length-take, take, take-append-drop, drop, Contains, Some, None, Result, Ok, Err, refl, sym, ap, ◌∙◌, subst, arith, append_assoc, append-nil}
-use Rattle.std.specs.List.{AllByRecursion, position, position_or_len}
+use Rattle.std.proofs.Common.{◌≡◌, ℕ, ◌+◌, ◌-◌, ◌≤◌, Bool, true, false, cond, codes, not, ◌||◌, List, [], ◌∷◌, ◌++◌, get_or, length, length-append, length-take, take-append-drop, Contains, Some, None, Result, Ok, Err, refl, sym, ap, ◌∙◌, subst, arith, append_assoc, append-nil}
+use Rattle.std.specs.List.{AllByRecursion, position_or_len}
 use Rattle.std.proofs.lemmas.Bool.{eq-eqb, eqb-true}
 use Rattle.std.proofs.lemmas.Bool.Decides.{nat_tests}
 use Rattle.std.proofs.lemmas.Grind.{common_steps}
-use Rattle.std.proofs.lemmas.List.{drop_more, get_or-take, take_rest}
+use Rattle.std.proofs.lemmas.List.{drop_more, get_or-take}
 use Rattle.std.proofs.lemmas.List.Quantifiers.{position-Some}
 use Rattle.std.proofs.lemmas.List.Sums.{fails_before_first}
-use Rattle.re_io.proofs.LinePieces.{feed_cut, no_feed_at_all, no_feed_before}
 use Rattle.re_io.specs.LineReading.{IsFirstLine, LineText, line_bytes}
 use Rattle.re_problem.specs.TextReading.{IsRefused}
 use Rattle.re_problem.specs.declared.fault.InputFault.{InputFault}
@@ -26,27 +25,6 @@ use Rattle.re_runs.specs.RunLines.{is_deliveries}
 use Rattle.re_runs.specs.RunReading.{Ends, Feeds}
 use Rattle.re_runs.specs.RunTexts.{RunText, State, and_behind, behind, goes_on, reached, run_text}
 use Rattle.re_runs.specs.RunTexts.State.{InCertificate, BehindEnd}
-
--- ---- the first line of a text
-pub first_cut : (text : List ℕ) (at : ℕ) → Some at ≡ position (λ b. eqb b 10) text
-    → IsFirstLine text (record { text = take at text; ended = true }) (take (length text - (at + 1)) (drop (at + 1) text)) None
-first_cut text at found = record {
-  bytes = feed_cut text at found ∙ sym (append_assoc (take at text) (10 ∷ []) (drop (at + 1) text)) ∙ ap (λ rest. (take at text ++ 10 ∷ []) ++ rest) (sym (take_rest text (at + 1)));
-  whole = no_feed_before text at found;
-  filled = λ unended. absurd (cc);
-  last = λ unended. absurd (cc);
-}
-
-pub last_cut : (text : List ℕ) → 0 < length text → None ≡ position (λ b. eqb b 10) text
-    → IsFirstLine text (record { text = text; ended = false }) (take (length text - length text) (drop (length text) text)) None
-last_cut text some none =
-    let nothing : take (length text - length text) (drop (length text) text) ≡ [] = (let n : length text - length text ≡ 0 = omega arith in ap (λ n. take n (drop (length text) text)) n) in
-    record {
-      bytes = sym (append-nil text) ∙ ap (λ rest. text ++ rest) (sym nothing);
-      whole = no_feed_at_all text none;
-      filled = λ unended same. (let empty : length text ≡ 0 = ap length same in omega arith);
-      last = λ unended. (nothing, tt);
-    }
 
 -- ---- lines that were fed, all of them finished
 abbrev pub lines_bytes : List LineText → List ℕ

@@ -1,44 +1,22 @@
 //! The certificate at the front of an input of `run`.
 ghost use Rattle.re_cert.specs.CertificateReading.{Stands};
 ghost use Rattle.re_cert.specs.CertificateTexts.{State as CertificateState, behind as behind_lines, is_whole};
-ghost use Rattle.re_io.specs.LineReading.{IsFirstLine, LineText, line_bytes};
+ghost use Rattle.re_io.specs.LineReading.{LineText};
 ghost use Rattle.re_io.specs.declared.read.TheConstants.{MAX_BYTES};
 ghost use Rattle.re_problem.specs.TextReading.{IsRefused};
 ghost use Rattle.re_runs.specs.RunReading.{Ends, Feeds};
 ghost use Rattle.re_runs.specs.RunTexts.{behind, run_text};
 ghost use Rattle.re_runs.specs.RunTexts.State.{InCertificate};
-ghost use Rattle.std.specs.Prelude.{◌≡◌, ◌==◌, ◌≤◌, ◌<◌, ◌+◌, ◌++◌, ◌∷◌, [], false, true, List, None, Ok, Err, Some, ℕ, IfErr, IfOk, IfSome, length, position};
+ghost use Rattle.std.specs.Prelude.{◌≡◌, ◌==◌, ◌≤◌, ◌<◌, ◌+◌, ◌++◌, ◌∷◌, [], false, true, List, Ok, Err, ℕ, IfErr, IfOk, length};
 
 use crate::lines::is_deliveries_line;
 use re_cert::CertReader;
-use re_io::Line;
+use re_io::{Line, cut_line};
 use re_problem::{InputFault, TextFault};
 use std::alloc::Global;
 
 // A section line that no certificate has.
 const MARK: &[u8] = b"==";
-
-// The place of the first line feed.
-fn feed_place(bytes: &[u8]) -> Option<usize>
-    ensures place { result ≡ position (λ b. b == 10) bytes.now }
-    ensures within { IfSome result (λ place. place < length bytes.now) }
-{
-    bytes.iter().position(|byte| *byte == b'\n')
-}
-
-/// The first line of a text, what stands behind it, and whether its line feed was there.
-pub(crate) fn cut_line(text: &[u8]) -> (&[u8], &[u8], bool)
-    requires { 0 < length text.now }
-    ensures first { IsFirstLine text.now (record { text = result.0.now; ended = result.2 }) result.1.now None }
-    ensures filled { 0 < length (line_bytes (record { text = result.0.now; ended = result.2 })) }
-    ensures size { length (line_bytes (record { text = result.0.now; ended = result.2 })) + length result.1.now ≡ length text.now }
-    ensures whole { length result.0.now ≤ length (line_bytes (record { text = result.0.now; ended = result.2 })) }
-{
-    match feed_place(text) {
-        Some(at) => (&text[..at], &text[at + 1..], true),
-        None => (text, &text[text.len()..], false),
-    }
-}
 
 // Feeds a finished line with this text.
 fn feed(alloc: Global, reader: &mut CertReader, text: &[u8]) -> Result<(), TextFault>

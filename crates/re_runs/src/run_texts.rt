@@ -6,9 +6,10 @@ ghost use Rattle.re_runs.specs.RunReading.{AreMessages, Fits, Holds, RestGives, 
 ghost use Rattle.re_runs.specs.RunTexts.{behind, degrees_of};
 ghost use Rattle.std.specs.Prelude.{◌≡◌, ◌≤◌, ◌+◌, ◌-◌, IfOk, length};
 
-use crate::certificate_part::{certificate_end, cut_line};
+use crate::certificate_part::certificate_end;
 use crate::reading::{Delivery, Place, judge};
 use re_cert::{Certificate, read_certificate};
+use re_io::cut_line;
 use re_net::Tree;
 use re_problem::{InputFault, TextFault};
 use std::alloc::Global;

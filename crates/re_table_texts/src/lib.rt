@@ -1,7 +1,6 @@
 //! The texts of tables: a problem, perhaps the next one, and the answers of an algorithm, one view a line.
 #![tactic(auto)]
 
-mod answer_lines;
 mod laws;
 mod printing;
 mod reading;

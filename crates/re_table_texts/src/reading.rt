@@ -8,10 +8,10 @@ ghost use Rattle.re_table_texts.specs.TableTexts.{State, are_all, ended, judged,
 ghost use Rattle.re_table_texts.specs.TableTexts.State.{InTable};
 ghost use Rattle.std.specs.Prelude.{◌≡◌, ◌≤◌, ◌<◌, ◌+◌, ◌↔◌, [], IfOk, IsSome, List, ℕ, length, true};
 
-use crate::answer_lines::{has_labels, line_labels};
 use crate::sections::{Section, read_section};
 use crate::table_texts::{TableForm, TableInput};
 use re_algo::Table;
+use re_cert::{has_labels, line_labels};
 use re_io::MAX_BYTES;
 use re_items::{first_bad_byte, is_empty_line};
 use re_labels::{PortLabels, Side};

@@ -1,13 +1,12 @@
 //! The texts of tables, read as a whole.
 ghost use Rattle.re_io.specs.declared.read.TheConstants.{MAX_BYTES};
-ghost use Rattle.re_problem.specs.ProblemTexts.{lines_of};
 ghost use Rattle.re_table_texts.specs.Reading.{Gives, owner_in};
 ghost use Rattle.re_table_texts.specs.TableTexts.{may_stand, table_input};
-ghost use Rattle.std.specs.Prelude.{◌≡◌, ◌==◌, ◌≤◌, ◌<◌, ◌+◌, ◌∷◌, ◌↔◌, IfOk, IfSome, IsSome, length, position, true};
+ghost use Rattle.std.specs.Prelude.{◌≡◌, ◌==◌, ◌≤◌, ◌<◌, ◌+◌, ◌↔◌, IfOk, IsSome, length, true};
 
 use crate::reading::{Place, end_lines, judge};
 use re_algo::Table;
-use re_problem::{Problem, TextFault};
+use re_problem::{Problem, TextFault, cut_line};
 use std::alloc::Global;
 
 /// What the text of a table is for.
@@ -27,28 +26,6 @@ pub struct TableInput {
     pub problem: Problem,
     pub next: Option<Problem>,
     pub table: Table,
-}
-
-// The place of the first line feed.
-fn feed_place(bytes: &[u8]) -> Option<usize>
-    ensures place { result ≡ position (λ b. b == 10) bytes.now }
-    ensures within { IfSome result (λ i. i < length bytes.now) }
-{
-    bytes.iter().position(|b| *b == b'\n')
-}
-
-// The first line of some bytes, and what stands behind its line feed.
-fn cut_line(bytes: &[u8]) -> (&[u8], &[u8])
-    requires { 0 < length bytes.now }
-    ensures line { lines_of bytes.now ≡ result.0.now ∷ lines_of result.1.now }
-    ensures less { length result.1.now < length bytes.now }
-    ensures within { length result.0.now ≤ length bytes.now }
-    ensures left { 0 < length result.1.now → length result.0.now + 1 + length result.1.now ≤ length bytes.now }
-{
-    match feed_place(bytes) {
-        Some(at) => (&bytes[..at], &bytes[at + 1..]),
-        None => (bytes, &bytes[bytes.len()..]),
-    }
 }
 
 /// What the text of a table writes: its problem, its derived problem where the form is `TableForm::Slower`, and the table, which

@@ -1,5 +1,5 @@
-use Rattle.re_runs.proofs.FrontLines.{first_cut, last_cut}
-use Rattle.re_runs.proofs.certificate_part.cut_line.Goals as goal
+use Rattle.re_io.proofs.LinePieces.{first_cut, last_cut}
+use Rattle.re_io.proofs.lines.cut_line.Goals as goal
 
 pub returns-in-Some-clause-first : goal.returns-in-Some-clause-first
 returns-in-Some-clause-first c = first_cut c.args.text.now c.in-Some.at c.in-Some.ensures.place

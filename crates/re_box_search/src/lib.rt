@@ -1,0 +1,9 @@
+//! The search among the boxes of rows for good sets that no kept row dominates.
+#![tactic(auto)]
+
+mod keeper;
+mod searching;
+mod walking;
+
+pub use keeper::Keeper;
+pub use walking::{cover_configs, cover_row};

@@ -1,0 +1,24 @@
+use Rattle.std.proofs.Common.{◌≡◌, ◌∙◌, [], ap, sym, refl, subst}
+use Rattle.std.specs.Prelude.{Contains}
+use Rattle.std.proofs.lemmas.Bool.{false≢true}
+use Rattle.re_config.specs.Rows.{row_cmp}
+use Rattle.re_strength.proofs.EqualRows.{equal_rows, equal_seen, equal_when, row_cmp-same}
+use Rattle.re_strength.proofs.Walks.{all_walked, always, never, one_more}
+use Rattle.re_universal.proofs.settling.is_listed.Goals as goal
+
+pub returns-then-eq : goal.returns-then-eq
+returns-then-eq c =
+    let row = c.args.row.now in
+    let other = c.other-item.result in
+    let same : row ≡ other = equal_rows 128 row other c.sets-sets.ensures.row.sets c.sets-others.ensures.row.sets (sym c.row_order.ensures ∙ equal_when c.row_order.result (sym c.eq.ensures ∙ c.if-eq.true)) in
+    always (subst (Contains c.args.rows.now) (sym same) (c.loop-other.other-index, c.loop-other-test.true, sym c.other-item.is))
+
+pub loop-other-preserved : goal.loop-other-preserved
+loop-other-preserved c =
+    let row = c.args.row.now in
+    let other = c.other-item.result in
+    one_more [] (λ r. row ≡ r → ⊥) c.args.rows.now c.loop-other.other-index other c.loop-other-test.true c.other-item.is c.loop-other.invariant
+    (λ same. false≢true (sym c.if-eq.false ∙ c.eq.ensures ∙ equal_seen c.row_order.result (c.row_order.ensures ∙ ap (row_cmp row) (sym same) ∙ row_cmp-same row)))
+
+pub returns : goal.returns
+returns c = never (λ held. all_walked [] (λ r. c.args.row.now ≡ r → ⊥) c.args.rows.now c.loop-other.other-index c.loop-other-test.false c.loop-other.invariant c.args.row.now held refl)

@@ -1,0 +1,82 @@
+//! A list of maximal rows, to which good sets that no row dominates add the row that they grow to.
+ghost use Rattle.re_boxes.specs.Boxes.{IsStrength};
+ghost use Rattle.re_strength.specs.Held.{ups_in};
+ghost use Rattle.re_strength.specs.Sets.{AreSets};
+ghost use Rattle.re_table.specs.GoodRows.{IsDominated, IsGood, max_rows};
+ghost use Rattle.re_box_search.specs.Growing.{IsLonger};
+ghost use Rattle.re_universal.specs.Kept.{IsKept};
+ghost use Rattle.std.specs.Prelude.{◌≡◌, ◌<◌, ◌↔◌, Contains, IfErr, IsTrue, OnOk, length};
+
+use crate::RowsFault;
+use crate::growing::grown;
+use re_box_search::Keeper;
+use re_config::{MAX_ROWS, Row};
+use re_labels::LabelSet;
+use re_strength::{RowIndex, Strength, is_seen_dominated, row_order};
+use re_table::Constraint;
+use std::cmp::Ordering;
+
+// Whether the row is one of the list.
+fn is_listed(rows: &[Row], row: &Row) -> bool
+    ensures { IsTrue result ↔ Contains rows.now row.now }
+{
+    let _sets = row.sets();
+    for other in rows {
+        let _others = other.sets();
+        if row_order(row, other) == Ordering::Equal {
+            return true;
+        }
+    }
+    false
+}
+
+/// The maximal rows found so far, with an index of their labels.
+#[derive(Drop)]
+pub(crate) struct Found {
+    pub(crate) rows: Vec<Row>,
+    pub(crate) lookup: RowIndex,
+}
+
+impl Keeper for Found {
+    ghost use Rattle.re_config.specs.declared.TheConstants.{MAX_ROWS};
+    ghost use Rattle.re_universal.specs.declared.RowsFault.{RowsFault};
+
+    type Refusal = RowsFault;
+
+    ghost rows = { λ found. found.rows.items };
+
+    ghost most = { λ found. MAX_ROWS };
+
+    ghost serves = { λ found constraint n. IsKept constraint n MAX_ROWS found.rows.items };
+
+    ghost tells = { λ found constraint n fault. fault ≡ RowsFault.TooManyRows → MAX_ROWS < length (max_rows constraint n) };
+
+    fn sees_dominated(&self, sets: &[LabelSet]) -> bool {
+        is_seen_dominated(self.rows.as_slice(), &self.lookup, sets)
+    }
+
+    // Good sets that no row is seen to dominate grow to a row, which is kept where it isn't listed yet.
+    fn settle(
+        &mut self,
+        constraint: &Constraint,
+        strength: &Strength,
+        sets: &[LabelSet],
+    ) -> Result<(), RowsFault> {
+        let _degree = constraint.degree();
+        if self.sees_dominated(sets) {
+            return Ok(());
+        }
+        let row = grown(constraint, strength, sets);
+        if is_listed(self.rows.as_slice(), &row) {
+            return Ok(());
+        }
+        self.lookup.add(&row);
+        if let Err(_) = self.rows.push(row) {
+            return Err(RowsFault::NoMemory);
+        }
+        if self.rows.len() > MAX_ROWS {
+            return Err(RowsFault::TooManyRows);
+        }
+        Ok(())
+    }
+}

@@ -9,6 +9,13 @@ use std::test::Fail;
 const EIGHT_COLOURS: &str =
     "1^3\n2^3\n3^3\n4^3\n5^3\n6^3\n7^3\n8^3\n\n1 [2345678]\n2 [345678]\n3 [45678]\n4 [5678]\n5 [678]\n6 [78]\n7 8\n";
 
+// Two problems of two rounds. With at most six labels left out in each step the trees of depth 0 and 1 have 19,997 nodes in the first and
+// one more in the second. In the tree of depth 2 the first path, of three nodes, leads to a success.
+const TWO_ROUNDS: &str = "A [BEFG]\nB [CD]\nC [DE]\nE^2\nF H\n\nA^2\nB^2\nC E\nD F\nG H\n";
+
+const OTHER_TWO_ROUNDS: &str =
+    "A [BDFG]\nB [CDEH]\nE F\nF [GH]\nG [GH]\n\nA G\nB C\nD E\nF^2\nH^2\n";
+
 // What the search comes to: the number of steps of the certificate, or the counts.
 #[derive(Clone, Copy, Debug, PartialEq, Eq)]
 enum Outcome {
@@ -94,6 +101,17 @@ fn labels_left_out(rt: HostRuntime) -> Result<(), Fail> {
         (1, 3, "O I^2\n\nI [IO]\n", Outcome::Counts(6, 0)),
         (2, 1, "O I^2\n\nI [IO]\n", Outcome::Counts(15, 0)),
         (3, 8, "O I^2\n\nI [IO]\n", Outcome::Counts(44, 0)),
+        // node 20,000 is the first success
+        (1, 6, TWO_ROUNDS, Outcome::Counts(19_997, 0)),
+        (2, 6, TWO_ROUNDS, Outcome::Steps(2)),
+        // node 20,001 is it
+        (1, 6, OTHER_TWO_ROUNDS, Outcome::Counts(19_998, 0)),
+        (
+            2,
+            6,
+            OTHER_TWO_ROUNDS,
+            Outcome::Fault(FindFault::TooManyNodes),
+        ),
     ] {
         assert_eq!(rt;
             search_of_text(rt.alloc(), Aim::Upper, steps, drops, text),

@@ -145,19 +145,15 @@ fn certificates_of_runs(rt: HostRuntime) -> Result<(), Fail> {
     Ok(())
 }
 
-// A tree of so many nodes that is grown level by level, and all messages over its edges: first all of number 0, then all of number 1.
-fn grown(alloc: Global, nodes: u32) -> Result<String, Fail> {
-    let mut text = format!(in alloc; "{TWO_STEPS}== tree\nactive\n")?;
-    let mut first = String::new(alloc);
-    let mut second = String::new(alloc);
+// Where the nodes behind the first one of a tree that is grown level by level are joined: each with the node above it and its port there.
+fn joins(alloc: Global, nodes: u32) -> Result<Vec<(u32, u32, u32)>, Fail> {
+    let mut joins = Vec::new(alloc);
     let mut to: u32 = 0;
     let mut port = 1;
     let mut most = 3;
     let mut level_end = 1;
     for node in 1..nodes {
-        text.push_str(format!(in alloc; "{to} {port} 1\n")?.as_str())?;
-        first.push_str(format!(in alloc; "{node} 1 0\n{to} {port} 0\n")?.as_str())?;
-        second.push_str(format!(in alloc; "{node} 1 1\n{to} {port} 1\n")?.as_str())?;
+        joins.push((node, to, port))?;
         if port < most {
             port += 1;
         } else {
@@ -169,20 +165,84 @@ fn grown(alloc: Global, nodes: u32) -> Result<String, Fail> {
             }
         }
     }
+    Ok(joins)
+}
+
+// The tree, and all messages over its edges: first all of number 0, then all of number 1.
+fn grown(alloc: Global, joins: &[(u32, u32, u32)]) -> Result<String, Fail> {
+    let mut text = format!(in alloc; "{TWO_STEPS}== tree\nactive\n")?;
+    let mut first = String::new(alloc);
+    let mut second = String::new(alloc);
+    for (node, to, port) in joins {
+        text.push_str(format!(in alloc; "{to} {port} 1\n")?.as_str())?;
+        first.push_str(format!(in alloc; "{node} 1 0\n{to} {port} 0\n")?.as_str())?;
+        second.push_str(format!(in alloc; "{node} 1 1\n{to} {port} 1\n")?.as_str())?;
+    }
     text.push_str("== deliveries\n")?;
     text.push_str(first.as_str())?;
     text.push_str(second.as_str())?;
     Ok(text)
 }
 
+// What is written of such a tree.
+fn written_of(alloc: Global, joins: &[(u32, u32, u32)]) -> Result<Vec<u8>, Fail> {
+    let input = grown(alloc, joins)?;
+    answer_to(alloc, "run", input.as_bytes())
+}
+
+// The label that a node outputs over a port, if it outputs.
+fn label_over(lines: &[&[u8]], node: u32, port: u32) -> Option<u8> {
+    let line = *lines.get(node as usize)?;
+    let colon = line.iter().position(|byte| *byte == b':')?;
+    line.get(colon.saturating_add(2 * port as usize)).copied()
+}
+
+// The labels over the two edges of the passive node above this one, if both of its neighbours output.
+fn labels_around(
+    joins: &[(u32, u32, u32)],
+    lines: &[&[u8]],
+    node: u32,
+    passive: u32,
+) -> Option<(u8, u8)> {
+    let (_, above, port) = joins.get((passive as usize).checked_sub(1)?)?;
+    Some((
+        label_over(lines, node, 1)?,
+        label_over(lines, *above, *port)?,
+    ))
+}
+
+// At how many passive nodes both neighbours output, and at how many of these one of the labels is I and one O.
+fn passive_nodes(joins: &[(u32, u32, u32)], lines: &[&[u8]]) -> (u32, u32) {
+    let mut output: u32 = 0;
+    let mut fit: u32 = 0;
+    for (node, passive, _) in joins {
+        match labels_around(joins, lines, *node, *passive) {
+            Some((b'I', b'O') | (b'O', b'I')) => {
+                output = output.saturating_add(1);
+                fit = fit.saturating_add(1);
+            }
+            Some(_) => output = output.saturating_add(1),
+            None => {}
+        }
+    }
+    (output, fit)
+}
+
 #[test]
 fn a_thousand_nodes(rt: HostRuntime) -> Result<(), Fail> {
-    let input = grown(rt.alloc(), 1000)?;
-    let text = answer_to(rt.alloc(), "run", input.as_bytes())?;
-    let text = text.as_slice();
-    assert_eq!(rt; text.iter().filter(|byte| **byte == b'\n').count(), 1000);
+    let alloc = rt.alloc();
+    let joins = joins(alloc, 1000)?;
+    let text = written_of(alloc, joins.as_slice())?;
+    let mut lines = Vec::new(alloc);
+    for line in text.as_slice().split(|byte| *byte == b'\n') {
+        lines.push(line)?;
+    }
+    // what stands behind the last line is empty
+    assert_eq!(rt; lines.len(), 1001);
     // the active nodes that see no missing edge
-    assert_eq!(rt; text.iter().filter(|byte| **byte == b':').count(), 190);
+    assert_eq!(rt; text.as_slice().iter().filter(|byte| **byte == b':').count(), 190);
+    // each passive node between two of them
+    assert_eq!(rt; passive_nodes(joins.as_slice(), lines.as_slice()), (189, 189));
     Ok(())
 }
 
@@ -192,8 +252,8 @@ fn one_node_too_many(rt: HostRuntime) -> Result<(), Fail> {
         (4096, "node 0 round 2: "),
         (4097, "limit: line 4116: more than 4096 nodes\n"),
     ] {
-        let input = grown(rt.alloc(), nodes)?;
-        let text = answer_to(rt.alloc(), "run", input.as_bytes())?;
+        let joins = joins(rt.alloc(), nodes)?;
+        let text = written_of(rt.alloc(), joins.as_slice())?;
         assert!(rt; text.as_slice().starts_with(begin.as_bytes()));
     }
     Ok(())

@@ -240,9 +240,15 @@ fn a_thousand_nodes(rt: HostRuntime) -> Result<(), Fail> {
     // what stands behind the last line is empty
     assert_eq!(rt; lines.len(), 1001);
     // the active nodes that see no missing edge
-    assert_eq!(rt; text.as_slice().iter().filter(|byte| **byte == b':').count(), 190);
+    assert_eq!(rt;
+        text.as_slice().iter().filter(|byte| **byte == b':').count(),
+        190
+    );
     // each passive node between two of them
-    assert_eq!(rt; passive_nodes(joins.as_slice(), lines.as_slice()), (189, 189));
+    assert_eq!(rt;
+        passive_nodes(joins.as_slice(), lines.as_slice()),
+        (189, 189)
+    );
     Ok(())
 }
 

@@ -149,13 +149,13 @@ fn certificates_of_runs(rt: HostRuntime) -> Result<(), Fail> {
 fn joins(alloc: Global, nodes: u32) -> Result<Vec<(u32, u32, u32)>, Fail> {
     let mut joins = Vec::new(alloc);
     let mut to: u32 = 0;
-    let mut port = 1;
+    let mut port: u32 = 1;
     let mut most = 3;
     let mut level_end = 1;
     for node in 1..nodes {
         joins.push((node, to, port))?;
         if port < most {
-            port += 1;
+            port = port.saturating_add(1);
         } else {
             to = node.min(to.saturating_add(1));
             port = 2;

@@ -1,9 +1,11 @@
 #!/bin/sh
 # Writes the tests of what the pages show: crates/worked_rows/src/pages.rt from README.md and the tutorial, gallery.rt from the gallery.
+# And crates/fault_rows/src/examples.rt, which damages the short files of the examples.
 #
 #     examples/rows.sh
 #
-# Run it, and then `rt fmt` in crates/worked_rows, whenever a page or a file that it reads has changed. It needs no built program.
+# Run it, and then `rt fmt` in crates/worked_rows and crates/fault_rows, whenever a page or a file that it reads has changed. It needs no
+# built program.
 # Taken are the lines `$ re WORDS < FILE` and `$ re WORDS < FILE | re WORDS` of the blocks ```console, also without a file. Lines with other
 # programs are run by session.sh alone. The status follows from the first line of the answer.
 set -eu
@@ -104,3 +106,53 @@ rows_of() {
 
 rows_of README.md docs/TUTORIAL.md docs/TUTORIAL-tables.md > crates/worked_rows/src/pages.rt
 rows_of examples/gallery/README.md > crates/worked_rows/src/gallery.rt
+
+# The files of at most 400 bytes, each with the words that read it.
+examples_of() {
+    find "$@" -name '*.txt' -size -401c | LC_ALL=C sort | xargs awk '
+        function stop(why) { print "rows.sh: " why > "/dev/stderr"; failed = 1; exit 1 }
+
+        function words_of(text) {
+            if (text ~ /^== certificate/ && text ~ /== tree/) return "run"
+            if (text ~ /^== certificate [12] upper/ && text !~ /== step.*== step/) return "check extract"
+            if (text ~ /^== certificate/) return "check"
+            if (text ~ /^== from/) return "relax rename"
+            if (text ~ /== next/) return "slower"
+            if (text ~ /^== problem/) return "table faster"
+            return "read"
+        }
+
+        function end_file(    name, words, number) {
+            if (text == "") return
+            name = file
+            sub(/\.txt$/, "", name)
+            sub(/.*\//, "", name)
+            name = toupper(name)
+            gsub(/[^A-Z0-9]/, "_", name)
+            if (name in seen) stop("two files named " name)
+            seen[name]
+            texts = texts "\nconst " name ": &str = \"" text "\";\n"
+            number = split(words_of(text), words, " ")
+            for (i = 1; i <= number; i++) {
+                if (held++ % 5 == 0) tests++
+                rows[tests] = rows[tests] "        (\"" words[i] "\", " name "),\n"
+            }
+            text = ""
+        }
+
+        FNR == 1 { end_file(); file = FILENAME }
+        /["\\]/ { stop(FILENAME " has a quote or a backslash") }
+        { text = text $0 "\\n" }
+        END {
+            if (failed) exit 1
+            end_file()
+            print "// The short files of the examples, damaged: made by examples/rows.sh."
+            print "use crate::damage::first_wrong_damage;\nuse std::test::Fail;"
+            printf "%s", texts
+            for (i = 1; i <= tests; i++)
+                printf "\n#[test]\nfn damaged_%d(rt: HostRuntime) -> Result<(), Fail> {\n    let rows = [\n%s    ];\n    assert_eq!(rt; first_wrong_damage(rt.alloc(), &rows)?, None);\n    Ok(())\n}\n", i, rows[i]
+        }
+    '
+}
+
+examples_of examples > crates/fault_rows/src/examples.rt

@@ -1,4 +1,4 @@
-// Limits of degrees, labels, configurations and rows, each at its number and one past it.
+// Limits of degrees, labels, configurations, rows and search nodes, each at its number and past it.
 use crate::answers::{answer_to, begins};
 use re_cli::Status;
 use std::alloc::Global;
@@ -226,6 +226,33 @@ fn configurations_of_a_problem(rt: HostRuntime) -> Result<(), Fail> {
     Ok(())
 }
 
+// All multisets of six of 16, of 17 and of 28 letters.
+#[test]
+fn configurations_of_one_line(rt: HostRuntime) -> Result<(), Fail> {
+    for (letters, status, lines, begin) in [
+        ("ABCDEFGHIJKLMNOP", Status::Done, 54_264 + 2, "A^6\nA^5 B\n"),
+        (
+            "ABCDEFGHIJKLMNOPQ",
+            Status::Done,
+            74_613 + 2,
+            "A^6\nA^5 B\n",
+        ),
+        (
+            "ABCDEFGHIJKLMNOPQRSTUVWXYZab",
+            Status::Limit,
+            1,
+            "limit: line 1: more than 1048576 configurations\n",
+        ),
+    ] {
+        let input = format!(in rt.alloc(); "[{letters}]^6\n\nA^2\n")?;
+        assert!(rt;
+            begins(rt.alloc(), "read", input.as_bytes(), status, lines, begin)?,
+            "{letters}"
+        );
+    }
+    Ok(())
+}
+
 #[test]
 fn configurations_of_the_passive_side(rt: HostRuntime) -> Result<(), Fail> {
     let alloc = rt.alloc();
@@ -307,6 +334,23 @@ fn labels_of_a_fixed_point(rt: HostRuntime) -> Result<(), Fail> {
             Status::No,
             1,
             line
+        )?
+    );
+    Ok(())
+}
+
+// No bound of any number of rounds is there to be found.
+#[test]
+fn nodes_of_a_search(rt: HostRuntime) -> Result<(), Fail> {
+    let begin = "limit: more than 20000 nodes\n";
+    assert!(rt;
+        begins(
+            rt.alloc(),
+            "upper 64 1",
+            b"O I^2\n\nI [IO]\n",
+            Status::Limit,
+            1,
+            begin
         )?
     );
     Ok(())

@@ -32,11 +32,13 @@ fn is_read_again(alloc: Global, word: &str, text: &[u8]) -> Result<bool, Fail> {
 fn is_answered(alloc: Global, word: &str, input: &[u8]) -> Result<bool, Fail> {
     let answered = answer_to(alloc, word, input)?;
     let text = answered.text.as_slice();
+    if answered.status == Status::Done && !is_line(text, "") {
+        return is_read_again(alloc, word, text);
+    }
     match answered.status {
         Status::BadInput => Ok(is_line(text, "input: ")),
         Status::Limit => Ok(is_line(text, "limit: ")),
-        Status::No => Ok(is_line(text, "")),
-        Status::Done => Ok(is_line(text, "") || is_read_again(alloc, word, text)?),
+        Status::Done | Status::No => Ok(is_line(text, "")),
         _ => Ok(false),
     }
 }
@@ -68,9 +70,10 @@ pub(crate) fn first_wrong_damage(
     for (number, (word, text)) in rows.iter().enumerate() {
         let input = text.as_bytes();
         for place in 0..input.len() {
-            if !is_answered(alloc, word, &input[..place])?
-                || !are_others_answered(alloc, word, input, place)?
-            {
+            if !is_answered(alloc, word, &input[..place])? {
+                return Ok(Some((number, place)));
+            }
+            if !are_others_answered(alloc, word, input, place)? {
                 return Ok(Some((number, place)));
             }
         }

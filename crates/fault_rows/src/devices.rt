@@ -98,7 +98,10 @@ fn first_wrong_sink(
     rows: &[(&'static str, &'static str)],
 ) -> Result<Option<usize>, Fail> {
     for (number, (line, input)) in rows.iter().enumerate() {
-        if first_wrong_write(alloc, line, input)?.is_some() || !is_put_once(alloc, line, input)? {
+        if first_wrong_write(alloc, line, input)?.is_some() {
+            return Ok(Some(number));
+        }
+        if !is_put_once(alloc, line, input)? {
             return Ok(Some(number));
         }
     }

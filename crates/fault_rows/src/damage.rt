@@ -31,11 +31,12 @@ fn is_read_again(alloc: Global, word: &str, text: &[u8]) -> Result<bool, Fail> {
 // Whether the input is answered as it may be.
 fn is_answered(alloc: Global, word: &str, input: &[u8]) -> Result<bool, Fail> {
     let answered = answer_to(alloc, word, input)?;
+    let status = answered.status;
     let text = answered.text.as_slice();
-    if answered.status == Status::Done && !is_line(text, "") {
+    if status == Status::Done && !is_line(text, "") {
         return is_read_again(alloc, word, text);
     }
-    match answered.status {
+    match status {
         Status::BadInput => Ok(is_line(text, "input: ")),
         Status::Limit => Ok(is_line(text, "limit: ")),
         Status::Done | Status::No => Ok(is_line(text, "")),

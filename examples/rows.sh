@@ -1,6 +1,6 @@
 #!/bin/sh
 # Writes the tests of what the pages show: crates/worked_rows/src/pages.rt from README.md and the tutorial, gallery.rt from the gallery.
-# And crates/fault_rows/src/examples.rt, which damages the short files of the examples.
+# And crates/fault_rows/src/examples.rt, which damages the files of the examples.
 #
 #     examples/rows.sh
 #
@@ -107,9 +107,10 @@ rows_of() {
 rows_of README.md docs/TUTORIAL.md docs/TUTORIAL-tables.md > crates/worked_rows/src/pages.rt
 rows_of examples/gallery/README.md > crates/worked_rows/src/gallery.rt
 
-# The files of at most 400 bytes, each with the words that read it.
+# The files, each with the words that read it, and with how many places apart it is damaged: at each place where it is short.
+# The drawing of a tree is for readers and left out.
 examples_of() {
-    find "$@" -name '*.txt' -size -401c | LC_ALL=C sort | xargs awk '
+    find "$@" -name '*.txt' ! -name orientation-run-tree.txt | LC_ALL=C sort | xargs awk '
         function stop(why) { print "rows.sh: " why > "/dev/stderr"; failed = 1; exit 1 }
 
         function words_of(text) {
@@ -120,6 +121,13 @@ examples_of() {
             if (text ~ /== next/) return "slower"
             if (text ~ /^== problem/) return "table faster"
             return "read"
+        }
+
+        function places_apart() {
+            if (bytes <= 400) return 1
+            if (bytes <= 2000) return 11
+            if (bytes <= 20000) return 499
+            return 1999
         }
 
         function end_file(    name, words, number) {
@@ -135,18 +143,19 @@ examples_of() {
             number = split(words_of(text), words, " ")
             for (i = 1; i <= number; i++) {
                 if (held++ % 5 == 0) tests++
-                rows[tests] = rows[tests] "        (\"" words[i] "\", " name "),\n"
+                rows[tests] = rows[tests] "        (\"" words[i] "\", " name ", " places_apart() "),\n"
             }
             text = ""
+            bytes = 0
         }
 
         FNR == 1 { end_file(); file = FILENAME }
         /["\\]/ { stop(FILENAME " has a quote or a backslash") }
-        { text = text $0 "\\n" }
+        { text = text $0 "\\n"; bytes += length($0) + 1 }
         END {
             if (failed) exit 1
             end_file()
-            print "// The short files of the examples, damaged: made by examples/rows.sh."
+            print "// The files of the examples, damaged: made by examples/rows.sh."
             print "use crate::damage::first_wrong_damage;\nuse std::test::Fail;"
             printf "%s", texts
             for (i = 1; i <= tests; i++)

@@ -1,5 +1,5 @@
-// Texts that are cut at each place, and of which each byte is replaced by others: each is answered by the one line of a fault, of a
-// limit or of a verdict, or as the reading of an undamaged text.
+// Texts that are cut at a place, or of which the byte there is replaced by another, at each place of a short text and at some of a long
+// one: each is answered by the one line of a fault, of a limit or of a verdict, or as the reading of an undamaged text.
 use crate::answers::answer_to;
 use re_cli::Status;
 use std::alloc::Global;
@@ -63,14 +63,17 @@ fn are_others_answered(
     Ok(true)
 }
 
-// Which of the rows is not as it should be, and at which place: a word and an input.
+// Which of the rows is not as it should be, and at which place: a word, an input, and how many places apart the input is damaged.
 pub(crate) fn first_wrong_damage(
     alloc: Global,
-    rows: &[(&'static str, &'static str)],
+    rows: &[(&'static str, &'static str, usize)],
 ) -> Result<Option<(usize, usize)>, Fail> {
-    for (number, (word, text)) in rows.iter().enumerate() {
+    for (number, (word, text, apart)) in rows.iter().enumerate() {
         let input = text.as_bytes();
         for place in 0..input.len() {
+            if *apart > 1 && place % *apart > 0 {
+                continue;
+            }
             if !is_answered(alloc, word, &input[..place])? {
                 return Ok(Some((number, place)));
             }

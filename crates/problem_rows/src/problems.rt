@@ -2,14 +2,14 @@
 ghost use Rattle.std.specs.Prelude.{◌<◌};
 
 use re_config::Config;
-use re_labels::{Name, Names, NoMemory};
+use re_labels::{MAX_LABELS, Name, Names, NoMemory};
 use re_problem::{Problem, print_problem};
 use re_table::Constraint;
 use std::alloc::Global;
 use std::test::Fail;
 
 fn of_one(alloc: Global, label: u8) -> Result<Constraint, NoMemory>
-    requires { label < 128 }
+    requires { label < MAX_LABELS }
 {
     let mut constraint = Constraint::new(alloc, 2);
     match constraint.insert(Config::from_labels(&[label, label])) {

@@ -26,6 +26,7 @@ use Rattle.re_problem.specs.ProblemTexts.{begins_empty, block_configs, block_deg
 use Rattle.re_problem.specs.declared.fault.InputFault.TheVariants.{DegreeOutOfRange, WrongDegree}
 use Rattle.re_table.specs.Constraints.{Constraint, IsConstraint}
 use Rattle.re_labels.proofs.Places.{each_degree}
+use Rattle.re_table.specs.declared.constraint_table.TheConstants.{MAX_CONFIGURATIONS}
 
 -- the names that stand on the lines
 abbrev pub written_names : List (List ℕ) → List (List ℕ)
@@ -36,7 +37,7 @@ pub record Writes (names : List (List ℕ)) (constraint : Constraint) (lines : L
   pub filled : AllFilled lines
   pub feed : AllByRecursion NoFeed lines
   pub some : is_nil lines ≡ false
-  pub stand : length constraint.configs ≤ 1048576 → AllStand [] lines
+  pub stand : length constraint.configs ≤ MAX_CONFIGURATIONS → AllStand [] lines
   pub degree : block_degree lines ≡ constraint.degree
   pub configs : block_configs names lines ≡ constraint.configs
   pub names_held : (name : List ℕ) → In name (written_names lines) → In name names
@@ -95,7 +96,7 @@ module _ (names : List (List ℕ)) (constraint : Constraint) (none : constraint.
         allowed = line_is.allowed;
         formed = λ i. is_some (line_is.no_items i) || is_some (line_is.written i);
         degree = λ number. ap (degree_fault number []) degree_is ∙ fit_degree number constraint.degree low high;
-        few = λ others. subst (λ c. length c ≤ 1048576) (sym (nothing_spelled others)) (omega arith);
+        few = λ others. subst (λ c. length c ≤ MAX_CONFIGURATIONS) (sym (nothing_spelled others)) (omega arith);
       },
       tt,
     );
@@ -158,7 +159,7 @@ module _ (names : List (List ℕ)) (is : IsNames names) (degree : ℕ) (low : 2 
   spelled_each others (config ∷ configs) ours =
       ap (λ l. length (l ++ flat_map (spells others) (map line_of configs))) ((config_line config ours.0).spelled others) ∙ ap suc (spelled_each others configs ours.1)
 
-  line_stands : (done : List (List ℕ)) (config : List ℕ) → AllByRecursion IsOurs done → IsOurs config → length done + 1 ≤ 1048576 → MayStand (map line_of done) (line_of config)
+  line_stands : (done : List (List ℕ)) (config : List ℕ) → AllByRecursion IsOurs done → IsOurs config → length done + 1 ≤ MAX_CONFIGURATIONS → MayStand (map line_of done) (line_of config)
   line_stands done config before ours room =
       let line = config_line config ours in
       record {
@@ -179,14 +180,14 @@ module _ (names : List (List ℕ)) (is : IsNames names) (degree : ℕ) (low : 2 
           ap (λ d. fault_if (not (eqb degree d)) (WrongDegree number)) ((config_line first before.0).degree ∙ before.0.count)
           ∙ ap (λ t. fault_if (not t) (WrongDegree number)) (eqb-same degree)
 
-      counted : (others : List (List ℕ)) → length (block_configs others (map line_of done ++ line_of config ∷ [])) ≤ 1048576
+      counted : (others : List (List ℕ)) → length (block_configs others (map line_of done ++ line_of config ∷ [])) ≤ MAX_CONFIGURATIONS
       counted others =
           let all : AllByRecursion IsOurs (done ++ config ∷ []) = all-push IsOurs done config before ours in
           let count : length (flat_map (spells others) (map line_of (done ++ config ∷ []))) ≡ length (done ++ config ∷ []) = spelled_each others (done ++ config ∷ []) all in
-          subst (λ l. length (block_configs others l) ≤ 1048576) (map-append line_of done (config ∷ []))
+          subst (λ l. length (block_configs others l) ≤ MAX_CONFIGURATIONS) (map-append line_of done (config ∷ []))
           (omega (arith, count, length-push done config, length-list_set (flat_map (spells others) (map line_of (done ++ config ∷ [])))))
 
-  lines_stand : (done configs : List (List ℕ)) → AllByRecursion IsOurs done → AllByRecursion IsOurs configs → length done + length configs ≤ 1048576 → AllStand (map line_of done) (map line_of configs)
+  lines_stand : (done configs : List (List ℕ)) → AllByRecursion IsOurs done → AllByRecursion IsOurs configs → length done + length configs ≤ MAX_CONFIGURATIONS → AllStand (map line_of done) (map line_of configs)
   lines_stand done [] before ours few = tt
   lines_stand done (config ∷ configs) before ours few = (
     line_stands done config before ours.0 (omega (arith, few)),

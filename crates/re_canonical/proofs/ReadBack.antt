@@ -15,6 +15,7 @@ use Rattle.re_problem.specs.CanonicalTexts.{canonical, config_text, lines_text}
 use Rattle.re_problem.specs.NamedProblems.{IsNamedProblem, NamedProblem}
 use Rattle.re_problem.specs.ProblemTexts.{all_but_last, block, block_constraint, closed, end_fault, ended, fault_if, first_fault, first_from, groups, last_or, line_items, lines_in, lines_of, names_in, names_of, open_block, problem_of}
 use Rattle.re_problem.specs.declared.fault.InputFault.TheVariants.{MissingBlock}
+use Rattle.re_labels.specs.declared.TheConstants.{MAX_LABELS}
 
 -- ---- the lines of the text
 lines_text-ended : (names : List (List ℕ)) (degree : ℕ) (configs : List (List ℕ)) → lines_text names degree configs ≡ ended (lines_for names degree configs)
@@ -115,8 +116,8 @@ module _ (problem : NamedProblem) (is : IsNamedProblem problem) where
 
   -- ---- no fault
   module _ (limits : IsWithinLimits problem) (byte start : ℕ) where
-    few_names : length (names_of (canonical_lines problem)) ≤ 128
-    few_names = subst (λ n. length n ≤ 128) (sym names_are) is.names.few
+    few_names : length (names_of (canonical_lines problem)) ≤ MAX_LABELS
+    few_names = subst (λ n. length n ≤ MAX_LABELS) (sym names_are) is.names.few
 
     same_lines : (active_lines ++ [] ∷ []) ++ passive_lines ≡ canonical_lines problem
     same_lines = append_assoc active_lines ([] ∷ []) passive_lines
@@ -132,7 +133,7 @@ module _ (problem : NamedProblem) (is : IsNamedProblem problem) where
         let idle : open_block (active_lines ++ [] ∷ []) ≡ [] = ap (last_or []) cut_ended in
         let all : (active_lines ++ [] ∷ []) ++ (passive_lines ++ []) ≡ canonical_lines problem = ap (λ l. (active_lines ++ [] ∷ []) ++ l) (append-nil passive_lines) ∙ same_lines in
         ap (first_from byte start (active_lines ++ [] ∷ [])) (sym (append-nil passive_lines))
-        ∙ block_passed byte start (active_lines ++ [] ∷ []) passive_lines [] room (subst (λ done. AllStand done passive_lines) (sym idle) (passive.stand limits.1)) (subst (λ l. length (names_of l) ≤ 128) (sym all) few_names)
+        ∙ block_passed byte start (active_lines ++ [] ∷ []) passive_lines [] room (subst (λ done. AllStand done passive_lines) (sym idle) (passive.stand limits.1)) (subst (λ l. length (names_of l) ≤ MAX_LABELS) (sym all) few_names)
         ∙ ap (end_fault start) same_lines
 
     no_fault : first_fault byte start (canonical_lines problem) ≡ None

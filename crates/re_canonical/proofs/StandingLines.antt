@@ -10,6 +10,8 @@ use Rattle.re_labels.specs.ListSets.{list_set}
 use Rattle.re_problem.proofs.TextLines.{closed_more, open_more}
 use Rattle.re_problem.specs.ProblemTexts.{block_configs, byte_fault, bytes_of, closed, degree_fault, fault_at, fault_if, first_from, groups, has_form, line_degree, line_items, names_in, names_of, open_block, or_else}
 use Rattle.re_problem.specs.declared.fault.InputFault.TheVariants.{BadItem, ExtraBlock, TooManyConfigurations, TooManyLabels}
+use Rattle.re_table.specs.declared.constraint_table.TheConstants.{MAX_CONFIGURATIONS}
+use Rattle.re_labels.specs.declared.TheConstants.{MAX_LABELS}
 
 -- the line may stand behind these of its block, whatever the names are
 pub record MayStand (done : List (List ℕ)) (line : List ℕ) : Type 0 where
@@ -17,14 +19,14 @@ pub record MayStand (done : List (List ℕ)) (line : List ℕ) : Type 0 where
   pub allowed : bad_byte line ≡ None
   pub formed : has_form done line ≡ true
   pub degree : (number : ℕ) → degree_fault number done (line_degree line) ≡ None
-  pub few : (names : List (List ℕ)) → length (block_configs names (done ++ line ∷ [])) ≤ 1048576
+  pub few : (names : List (List ℕ)) → length (block_configs names (done ++ line ∷ [])) ≤ MAX_CONFIGURATIONS
 
 -- and so on for each of the lines
 abbrev pub AllStand : List (List ℕ) → List (List ℕ) → Type 0
 AllStand done [] = Unit {0}
 AllStand done (line ∷ lines) = MayStand done line × AllStand (done ++ line ∷ []) lines
 
-no_fault : (byte start : ℕ) (before : List (List ℕ)) (line : List ℕ) → length (closed before) < 2 → MayStand (open_block before) line → length (names_of (before ++ line ∷ [])) ≤ 128 → fault_at byte start before line ≡ None
+no_fault : (byte start : ℕ) (before : List (List ℕ)) (line : List ℕ) → length (closed before) < 2 → MayStand (open_block before) line → length (names_of (before ++ line ∷ [])) ≤ MAX_LABELS → fault_at byte start before line ≡ None
 no_fault byte start before line room stands few_names =
     let number : ℕ = start + length before in
     let names : List (List ℕ) = names_of (before ++ line ∷ []) in
@@ -33,8 +35,8 @@ no_fault byte start before line room stands few_names =
     (or_else (byte_fault (byte + bytes_of before) (stands.allowed i))
     (or_else (fault_if (at_least 2 (length (closed before)) room i) (ExtraBlock (start + length before)))
     (or_else (fault_if (not (stands.formed i)) (BadItem (start + length before))) (stands.degree (start + length before) i))))
-    (or_else (fault_if (at_most 128 (length (names_of (before ++ line ∷ []))) few_names i) (TooManyLabels (start + length before)))
-    (fault_if (at_most 1048576 (length (block_configs (names_of (before ++ line ∷ [])) (open_block before ++ line ∷ []))) (stands.few (names_of (before ++ line ∷ []))) i) (TooManyConfigurations (start + length before)))))
+    (or_else (fault_if (at_most MAX_LABELS (length (names_of (before ++ line ∷ []))) few_names i) (TooManyLabels (start + length before)))
+    (fault_if (at_most MAX_CONFIGURATIONS (length (block_configs (names_of (before ++ line ∷ [])) (open_block before ++ line ∷ []))) (stands.few (names_of (before ++ line ∷ []))) i) (TooManyConfigurations (start + length before)))))
   where
     at_least : (least n : ℕ) → n < least → leb least n ≡ false
     at_least least n below = grind (arith, nat_tests)
@@ -48,13 +50,13 @@ names_longer xs ys =
     subst (λ n. length (names_of xs) ≤ length (list_set n)) (sym (flat_map-append (λ line. names_in (line_items line)) xs ys)) more
 
 -- past all lines of a block
-pub block_passed : (byte start : ℕ) (before lines rest : List (List ℕ)) → length (closed before) < 2 → AllStand (open_block before) lines → length (names_of (before ++ (lines ++ rest))) ≤ 128
+pub block_passed : (byte start : ℕ) (before lines rest : List (List ℕ)) → length (closed before) < 2 → AllStand (open_block before) lines → length (names_of (before ++ (lines ++ rest))) ≤ MAX_LABELS
     → first_from byte start before (lines ++ rest) ≡ first_from byte start (before ++ lines) rest
 block_passed byte start before [] rest room stand few = ap (λ b. first_from byte start b rest) (sym (append-nil before))
 block_passed byte start before (line ∷ lines) rest room stand few =
     let all : (before ++ line ∷ []) ++ (lines ++ rest) ≡ before ++ (line ∷ lines ++ rest) = append_assoc before (line ∷ []) (lines ++ rest) in
-    let fewer : length (names_of ((before ++ line ∷ []) ++ (lines ++ rest))) ≤ 128 = subst (λ l. length (names_of l) ≤ 128) (sym all) few in
-    let here : length (names_of (before ++ line ∷ [])) ≤ 128 = omega (arith, fewer, names_longer (before ++ line ∷ []) (lines ++ rest)) in
+    let fewer : length (names_of ((before ++ line ∷ []) ++ (lines ++ rest))) ≤ MAX_LABELS = subst (λ l. length (names_of l) ≤ MAX_LABELS) (sym all) few in
+    let here : length (names_of (before ++ line ∷ [])) ≤ MAX_LABELS = omega (arith, fewer, names_longer (before ++ line ∷ []) (lines ++ rest)) in
     ap (λ f. or_else f (first_from byte start (before ++ line ∷ []) (lines ++ rest))) (no_fault byte start before line room stand.0 here)
     ∙ block_passed byte start (before ++ line ∷ []) lines rest
     (subst (λ b. length b < 2) (sym (closed_more before line stand.0.filled)) room) (subst (λ b. AllStand b lines) (sym (open_more before line stand.0.filled)) stand.1) fewer

@@ -8,6 +8,7 @@ use Rattle.re_labels.specs.Sets.{IsLabelSet, has}
 use Rattle.re_problem.specs.NamedProblems.{NamedProblem}
 use Rattle.re_problem.specs.ProblemTexts.{last_or}
 use Rattle.re_cert.specs.Bounds.{BoundStep, next_problems}
+use Rattle.re_labels.specs.declared.TheConstants.{MAX_LABELS}
 
 pub last_at : (d : NamedProblem) (steps : List BoundStep) (x : BoundStep) (i : ℕ) → suc i ≡ length steps → x ≡ get_or steps i x → last_or d (next_problems steps) ≡ x.next
 last_at d [] x i size is = absurd (omega arith)
@@ -28,9 +29,9 @@ problem_there d steps x (suc n) some low is =
     problem_of_step d steps x n (omega arith) (is ∙ ap (λ i. get_or steps i x) (let i : suc n - 1 ≡ n = omega arith in i))
 
 -- all labels of a set are below a number
-pub all_below : (set : List ℕ) (n : ℕ) → IsLabelSet 128 set → ((k : ℕ) → k < 128 → has set k ≡ true → k < n) → true ≡ list_all (λ label. ltb label n) set
+pub all_below : (set : List ℕ) (n : ℕ) → IsLabelSet MAX_LABELS set → ((k : ℕ) → k < MAX_LABELS → has set k ≡ true → k < n) → true ≡ list_all (λ label. ltb label n) set
 all_below set n is below = sym (all-In_from (λ label. ltb label n) set (λ x member.
-    let low : x < 128 = AllByRecursion-contains (λ y. y < 128) set x is.1 (In-Contains x set member) in
+    let low : x < MAX_LABELS = AllByRecursion-contains (λ y. y < MAX_LABELS) set x is.1 (In-Contains x set member) in
     let small : x < n = below x low (IsIn-has set x (In-Contains x set member)) in
     grind (arith, nat_tests)))
 

@@ -26,6 +26,7 @@ use Rattle.re_cert.specs.Bounds.{entry_fits, image_fits, pair_fits, row_fits}
 use Rattle.re_cert.specs.Entries.{both, entry_on, entry_with, image_on, labels_in, labels_on, of_length, row_on}
 use Rattle.re_sections.specs.Pairs.{ItemPair, label_held}
 use Rattle.re_labels.specs.PortLabels.{port_labels}
+use Rattle.re_labels.specs.declared.TheConstants.{MAX_LABELS}
 
 all_labels : (n : ℕ) (set : List ℕ) → AllByRecursion (λ x. x < n) set → list_all (λ x. ltb x n) set ≡ true
 all_labels n [] below = refl
@@ -81,18 +82,18 @@ image_known before next items image e = go (labels_in next.names items) refl e
 -- ---- rows
 module _ (n : ℕ) where
   -- a label of the set of a number of few bits is small
-  low_label : (b x : ℕ) → b < 2 ^ n → In x (set_of 128 b) → x < n
+  low_label : (b x : ℕ) → b < 2 ^ n → In x (set_of MAX_LABELS b) → x < n
   low_label b x few member =
-      let held : has (set_of 128 b) x ≡ true = IsIn-has (set_of 128 b) x (In-Contains x (set_of 128 b) member) in
-      let below : x < 128 = AllByRecursion-contains (λ y. y < 128) (set_of 128 b) x (IsLabelSet-set_of 128 b).1 (In-Contains x (set_of 128 b) member) in
+      let held : has (set_of MAX_LABELS b) x ≡ true = IsIn-has (set_of MAX_LABELS b) x (In-Contains x (set_of MAX_LABELS b) member) in
+      let below : x < MAX_LABELS = AllByRecursion-contains (λ y. y < MAX_LABELS) (set_of MAX_LABELS b) x (IsLabelSet-set_of MAX_LABELS b).1 (In-Contains x (set_of MAX_LABELS b) member) in
       elim (cases_lt x n) [
         | inl low ↦ low
-        | inr high ↦ absurd (false≢true (sym (has-set_of 128 b x below ∙ ap (λ k. eqb k 1) (bit_at_above b n x few high)) ∙ held))
+        | inr high ↦ absurd (false≢true (sym (has-set_of MAX_LABELS b x below ∙ ap (λ k. eqb k 1) (bit_at_above b n x few high)) ∙ held))
       ]
 
-  low_sets : (numbers : List ℕ) → AllByRecursion (λ b. b < 2 ^ n) numbers → list_all (list_all (λ x. ltb x n)) (map (set_of 128) numbers) ≡ true
+  low_sets : (numbers : List ℕ) → AllByRecursion (λ b. b < 2 ^ n) numbers → list_all (list_all (λ x. ltb x n)) (map (set_of MAX_LABELS) numbers) ≡ true
   low_sets [] few = refl
-  low_sets (b ∷ numbers) few = λ i. all-In_from (λ x. ltb x n) (set_of 128 b) (λ x member. true-below x n (low_label b x few.0 member)) i && low_sets numbers few.1 i
+  low_sets (b ∷ numbers) few = λ i. all-In_from (λ x. ltb x n) (set_of MAX_LABELS b) (λ x member. true-below x n (low_label b x few.0 member)) i && low_sets numbers few.1 i
 
   few_bits : (sets : List (List ℕ)) → AllByRecursion (IsLabelSet n) sets → AllByRecursion (λ b. b < 2 ^ n) (map number sets)
   few_bits [] are = tt
@@ -133,20 +134,20 @@ row_known before line row e = go (are_held names (names_in (line_items line)) &&
     sets : List (List ℕ)
     sets = map (labels_named names) (line_expanded (line_items line))
 
-    fits : are_held names (names_in (line_items line)) ≡ true → length (line_expanded (line_items line)) ≡ before.passive.degree → in_order 128 sets ≡ row → row_fits before row ≡ true
+    fits : are_held names (names_in (line_items line)) ≡ true → length (line_expanded (line_items line)) ≡ before.passive.degree → in_order MAX_LABELS sets ≡ row → row_fits before row ≡ true
     fits held size same =
         let numbers : List ℕ = map number sets in
-        let count : length (in_order 128 sets) ≡ before.passive.degree =
-        length-map' (set_of 128) (sorted numbers) ∙ length-sorted numbers ∙ length-map' number sets ∙ length-map' (labels_named names) (line_expanded (line_items line)) ∙ size in
-        let low : list_all (list_all (λ x. ltb x (length names))) (in_order 128 sets) ≡ true =
+        let count : length (in_order MAX_LABELS sets) ≡ before.passive.degree =
+        length-map' (set_of MAX_LABELS) (sorted numbers) ∙ length-sorted numbers ∙ length-map' number sets ∙ length-map' (labels_named names) (line_expanded (line_items line)) ∙ size in
+        let low : list_all (list_all (λ x. ltb x (length names))) (in_order MAX_LABELS sets) ≡ true =
         low_sets (length names) (sorted numbers)
         (AllByRecursion-Rearranged (λ b. b < 2 ^ length names) (Rearranged-sorted numbers) (few_bits (length names) sets (known_sets names (line_items line) held))) in
-        subst (λ r. row_fits before r ≡ true) same (λ i. eq-eqb (length (in_order 128 sets)) before.passive.degree count i && low i)
+        subst (λ r. row_fits before r ≡ true) same (λ i. eq-eqb (length (in_order MAX_LABELS sets)) before.passive.degree count i && low i)
 
     go : (t : Bool) → (are_held names (names_in (line_items line)) && eqb (length (line_expanded (line_items line))) before.passive.degree) ≡ t
-        → option_and_then (row_of 128) (cond t (Some sets) None) ≡ Some row → row_fits before row ≡ true
+        → option_and_then (row_of MAX_LABELS) (cond t (Some sets) None) ≡ Some row → row_fits before row ≡ true
     go true is e =
         let two = and-true (are_held names (names_in (line_items line))) (eqb (length (line_expanded (line_items line))) before.passive.degree) is in
-        let some = some_if (leb 2 (length sets) && leb (length sets) 6 && is_full sets) (in_order 128 sets) row e in
+        let some = some_if (leb 2 (length sets) && leb (length sets) 6 && is_full sets) (in_order MAX_LABELS sets) row e in
         fits two.0 (eqb-true (length (line_expanded (line_items line))) before.passive.degree two.1) some.1
     go false is e = absurd (cc)

@@ -15,6 +15,9 @@ use Rattle.re_items.specs.Steps.{is_nil}
 use Rattle.re_cert.specs.Bounds.{Bound, BoundStep, entry_fits, has_row_maps, image_fits, is_bound, is_by_row, is_fixed, is_label, is_lower, kind_fits, last_problem, map_fits, one_form, pair_fits, problem_at, renaming_fits, row_fits, step_fits, steps_fit}
 use Rattle.re_cert.specs.declared.certificate.Kind.{Kind}
 use Rattle.re_cert_text.specs.PrintedCertificates.{FitBehind, IsAnyRow, IsLabelled}
+use Rattle.re_labels.specs.declared.TheConstants.{MAX_LABELS}
+use Rattle.re_config.specs.declared.TheConstants.{MAX_ROWS}
+use Rattle.re_cert.specs.declared.certificate.TheConstants.{MAX_STEPS}
 
 -- what a test of each tells
 pub each_of : {X : Type 0} (test : X → Bool) (P : X → Type 0) → ((x : X) → test x ≡ true → P x) → (xs : List X) → list_all test xs ≡ true → AllByRecursion P xs
@@ -36,7 +39,7 @@ row_sets before row fits =
 pub rows_named : (before : NamedProblem) (rows : List (List (List ℕ))) → list_all (row_fits before) rows ≡ true → AllByRecursion (AllByRecursion (AllByRecursion (λ x. x < length before.names))) rows
 rows_named before rows all = each_of (row_fits before) (AllByRecursion (AllByRecursion (λ x. x < length before.names))) (λ row fits. (row_sets before row fits).1) rows all
 
-small_sets : (n : ℕ) (row : List (List ℕ)) → AllByRecursion (λ s. IsLabelSet 128 s × (0 < length s)) row → AllByRecursion (AllByRecursion (λ x. x < n)) row → AllByRecursion (λ s. IsLabelSet n s × (0 < length s)) row
+small_sets : (n : ℕ) (row : List (List ℕ)) → AllByRecursion (λ s. IsLabelSet MAX_LABELS s × (0 < length s)) row → AllByRecursion (AllByRecursion (λ x. x < n)) row → AllByRecursion (λ s. IsLabelSet n s × (0 < length s)) row
 small_sets n [] are below = tt
 small_sets n (s ∷ row) are below = (((are.0.0.0, below.0), are.0.1), small_sets n row are.1 below.1)
 
@@ -89,15 +92,15 @@ few_of : (n most : ℕ) → leb n most ≡ true → n ≤ most
 few_of n most test = grind (arith, nat_tests)
 
 pub step_parts : (kind : Kind) (before : NamedProblem) (step : BoundStep) → step_fits kind before step ≡ true
-    → (kind_fits kind step ≡ true) × (length step.rows ≤ 1024) × (list_all (row_fits before) step.rows ≡ true) × (map_fits before step.next step.map ≡ true)
+    → (kind_fits kind step ≡ true) × (length step.rows ≤ MAX_ROWS) × (list_all (row_fits before) step.rows ≡ true) × (map_fits before step.next step.map ≡ true)
 step_parts kind before step fits =
     let of_kind = kind_fits kind step in
-    let few = leb (length step.rows) 1024 in
+    let few = leb (length step.rows) MAX_ROWS in
     let rows = list_all (row_fits before) step.rows in
     let three = and-true (of_kind && few && rows) (map_fits before step.next step.map) fits in
     let two = and-true (of_kind && few) rows three.0 in
     let one = and-true of_kind few two.0 in
-    (one.0, few_of (length step.rows) 1024 one.1, two.1, three.1)
+    (one.0, few_of (length step.rows) MAX_ROWS one.1, two.1, three.1)
 
 -- the rows, sets and labels of a step that fits have names
 pub rows_ready : (before : NamedProblem) (step : BoundStep) (names : List (List ℕ)) (rows : List (List (List ℕ))) → FitBehind before step → names ≡ before.names → rows ≡ step.rows
@@ -128,10 +131,10 @@ image_parts before next image fits =
     let two = and-true (eqb (length image) before.passive.degree) (list_all (is_label next) image) fits in
     (eqb-true (length image) before.passive.degree two.0, labels_below (length next.names) image two.1)
 
-pub images_held : (before next : NamedProblem) (images : List (List ℕ)) → map_fits before next (by_row images) ≡ true → (length images ≤ 1024) × AllByRecursion (HeldImage before next) images
+pub images_held : (before next : NamedProblem) (images : List (List ℕ)) → map_fits before next (by_row images) ≡ true → (length images ≤ MAX_ROWS) × AllByRecursion (HeldImage before next) images
 images_held before next images fits =
-    let two = and-true (leb (length images) 1024) (list_all (image_fits before next) images) fits in
-    (few_of (length images) 1024 two.0, each_of (image_fits before next) (HeldImage before next) (image_parts before next) images two.1)
+    let two = and-true (leb (length images) MAX_ROWS) (list_all (image_fits before next) images) fits in
+    (few_of (length images) MAX_ROWS two.0, each_of (image_fits before next) (HeldImage before next) (image_parts before next) images two.1)
 
 pub images_ready : (before next : NamedProblem) (held : List (List ℕ)) (names : List (List ℕ)) (images : List (List ℕ)) → map_fits before next (by_row held) ≡ true → names ≡ next.names → images ≡ held
     → AllByRecursion (AllByRecursion (λ x. x < length names)) images
@@ -168,17 +171,17 @@ upper_sets kind first (s ∷ steps) fits upper =
 
 -- the parts of a bound that fits
 pub record Fits (bound : Bound) : Type 0 where
-  pub few : length bound.steps ≤ 64
+  pub few : length bound.steps ≤ MAX_STEPS
   pub steps : steps_fit bound.kind bound.first bound.steps ≡ true
   pub form : one_form bound.steps ≡ true
   pub renaming : renaming_fits bound ≡ true
 
 pub bound_fits : (bound : Bound) → is_bound bound ≡ true → Fits bound
 bound_fits bound is =
-    let three = and-true (leb (length bound.steps) 64 && steps_fit bound.kind bound.first bound.steps && one_form bound.steps) (renaming_fits bound) is in
-    let two = and-true (leb (length bound.steps) 64 && steps_fit bound.kind bound.first bound.steps) (one_form bound.steps) three.0 in
-    let one = and-true (leb (length bound.steps) 64) (steps_fit bound.kind bound.first bound.steps) two.0 in
-    record { few = few_of (length bound.steps) 64 one.0; steps = one.1; form = two.1; renaming = three.1 }
+    let three = and-true (leb (length bound.steps) MAX_STEPS && steps_fit bound.kind bound.first bound.steps && one_form bound.steps) (renaming_fits bound) is in
+    let two = and-true (leb (length bound.steps) MAX_STEPS && steps_fit bound.kind bound.first bound.steps) (one_form bound.steps) three.0 in
+    let one = and-true (leb (length bound.steps) MAX_STEPS) (steps_fit bound.kind bound.first bound.steps) two.0 in
+    record { few = few_of (length bound.steps) MAX_STEPS one.0; steps = one.1; form = two.1; renaming = three.1 }
 
 -- each map is by rows exactly where some is, in a lower bound
 pub all_formed : (bound : Bound) → is_bound bound ≡ true → AllByRecursion (λ (s : BoundStep). is_by_row s.map ≡ (has_row_maps bound.steps && is_lower bound.kind)) bound.steps

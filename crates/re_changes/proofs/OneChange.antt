@@ -25,6 +25,7 @@ use Rattle.re_changes.specs.Changes.{IsChange, after, goes_to, kept, new_numbers
 use Rattle.re_changes.specs.Renumbering.{number_among, renumbered}
 use Rattle.re_changes.specs.declared.change.Change.{Change}
 use Rattle.re_changes.specs.declared.change.Change.TheVariants.{LeaveOut, Merge}
+use Rattle.re_labels.specs.declared.TheConstants.{MAX_LABELS}
 
 -- ---- the labels below a bound
 pub below-counted : (n x : ℕ) → In x (count_from 0 n) → x < n
@@ -179,8 +180,8 @@ module _ (change : Change) (named : NamedProblem) (is : IsNamedProblem named) (m
   pub passive-known : AllByRecursion (AllByRecursion (λ label. label < length images)) passive.configs
   passive-known = subst (λ c. AllByRecursion (AllByRecursion (λ label. label < length images)) c.configs) (sym p) (known (kept change named).passive (λ config x i j. (passive-stays change named is.problem may config x i j).0))
 
-  pub images-below : AllByRecursion (λ image. image < 128) images
-  images-below = subst (AllByRecursion (λ image. image < 128)) (sym m) (AllByRecursion-from_In (λ image. image < 128) (new_numbers change named) (λ image i.
+  pub images-below : AllByRecursion (λ image. image < MAX_LABELS) images
+  images-below = subst (AllByRecursion (λ image. image < MAX_LABELS)) (sym m) (AllByRecursion-from_In (λ image. image < MAX_LABELS) (new_numbers change named) (λ image i.
       let (label, j, e) = In-map_from (λ label. number_among (staying change named) (goes_to change label)) image (count_from 0 (length named.names)) i in
       let low = below-counted (length named.names) label j in
       let goes = goes-low (length named.names) change may label in
@@ -188,7 +189,7 @@ module _ (change : Change) (named : NamedProblem) (is : IsNamedProblem named) (m
       let few = is.names.few in
       omega arith))
 
-  pub stay-few : length stay ≤ 128
+  pub stay-few : length stay ≤ MAX_LABELS
   stay-few = let most = length-set (length named.names) (staying change named) (IsLabelSet-staying change named) in let e = ap length s in let few = is.names.few in omega arith
 
   kept-is : record { names = names; active = active; passive = passive } ≡ kept change named

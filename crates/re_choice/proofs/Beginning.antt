@@ -20,6 +20,7 @@ use Rattle.std.proofs.lemmas.Bool.Decides.{nat_tests}
 use Rattle.re_table.specs.GoodRows.{is_allowed}
 use Rattle.re_choice.proofs.Drawing.{chosen_some, last_drawn}
 use Rattle.re_table.proofs.SetsInOrder.{AreSets, in_order-allowed, in_order-length}
+use Rattle.re_labels.specs.declared.TheConstants.{MAX_LABELS}
 
 -- ---- tests of some choice
 -- the choices of the drawn labels and of the other sets are the drawn labels with the choices of those
@@ -62,7 +63,7 @@ module _ (constraint : Constraint) (drawn : List ℕ) (others sets : List (List 
   begun = ap (λ s. list_any (has_config constraint) (choices s)) is ∙ any-fixed (has_config constraint) drawn others
 
   -- where a set is empty, there is no choice
-  pub asked_none : None ≡ row_of 128 sets → false ≡ begins constraint drawn others
+  pub asked_none : None ≡ row_of MAX_LABELS sets → false ≡ begins constraint drawn others
   asked_none none = sym (go (is_allowed constraint sets) refl) ∙ begun
     where
       go : (b : Bool) → b ≡ is_allowed constraint sets → is_allowed constraint sets ≡ false
@@ -73,27 +74,27 @@ module _ (constraint : Constraint) (drawn : List ℕ) (others sets : List (List 
           let some = row_found sets (sorted (map number sets)) two six full refl in
           cc)
 
-  full_row : (row : List (List ℕ)) → Some row ≡ row_of 128 sets → is_full sets ≡ true
-  full_row row some = (row_of-some 128 sets two six).0 (subst IsSome some refl)
+  full_row : (row : List (List ℕ)) → Some row ≡ row_of MAX_LABELS sets → is_full sets ≡ true
+  full_row row some = (row_of-some MAX_LABELS sets two six).0 (subst IsSome some refl)
 
-  row_is : (row : List (List ℕ)) → Some row ≡ row_of 128 sets → row ≡ in_order 128 sets
+  row_is : (row : List (List ℕ)) → Some row ≡ row_of MAX_LABELS sets → row ≡ in_order MAX_LABELS sets
   row_is row some = let found = row_found sets (sorted (map number sets)) two six (full_row row some) refl in cc
 
-  are : AllByRecursion (λ x. x < 128) drawn → AllByRecursion (IsLabelSet 128) others → (row : List (List ℕ)) → Some row ≡ row_of 128 sets → AreSets sets
-  are below labels row some = filled sets (is_full-filled sets (full_row row some)) (subst (AllByRecursion (IsLabelSet 128)) (sym is) (behind drawn below))
+  are : AllByRecursion (λ x. x < MAX_LABELS) drawn → AllByRecursion (IsLabelSet MAX_LABELS) others → (row : List (List ℕ)) → Some row ≡ row_of MAX_LABELS sets → AreSets sets
+  are below labels row some = filled sets (is_full-filled sets (full_row row some)) (subst (AllByRecursion (IsLabelSet MAX_LABELS)) (sym is) (behind drawn below))
     where
-      behind : (drawn : List ℕ) → AllByRecursion (λ x. x < 128) drawn → AllByRecursion (IsLabelSet 128) (singles drawn ++ others)
+      behind : (drawn : List ℕ) → AllByRecursion (λ x. x < MAX_LABELS) drawn → AllByRecursion (IsLabelSet MAX_LABELS) (singles drawn ++ others)
       behind [] h = labels
       behind (x ∷ drawn) h = ((tt, (h.0, tt)), behind drawn h.1)
 
-      filled : (sets : List (List ℕ)) → AllByRecursion (λ s. 0 < length s) sets → AllByRecursion (IsLabelSet 128) sets → AreSets sets
+      filled : (sets : List (List ℕ)) → AllByRecursion (λ s. 0 < length s) sets → AllByRecursion (IsLabelSet MAX_LABELS) sets → AreSets sets
       filled [] h k = tt
       filled (s ∷ sets) h k = ((k.0, h.0), filled sets h.1 k.1)
 
-  pub asked_length : AllByRecursion (λ x. x < 128) drawn → AllByRecursion (IsLabelSet 128) others → (row : List (List ℕ)) → Some row ≡ row_of 128 sets → length row ≡ length sets
+  pub asked_length : AllByRecursion (λ x. x < MAX_LABELS) drawn → AllByRecursion (IsLabelSet MAX_LABELS) others → (row : List (List ℕ)) → Some row ≡ row_of MAX_LABELS sets → length row ≡ length sets
   asked_length below labels row some = in_order-length sets row (are below labels row some) (row_is row some)
 
-  pub asked_some : AllByRecursion (λ x. x < 128) drawn → AllByRecursion (IsLabelSet 128) others → (row : List (List ℕ)) → Some row ≡ row_of 128 sets → is_allowed constraint row ≡ begins constraint drawn others
+  pub asked_some : AllByRecursion (λ x. x < MAX_LABELS) drawn → AllByRecursion (IsLabelSet MAX_LABELS) others → (row : List (List ℕ)) → Some row ≡ row_of MAX_LABELS sets → is_allowed constraint row ≡ begins constraint drawn others
   asked_some below labels row some = in_order-allowed constraint sets row (are below labels row some) (row_is row some) ∙ begun
 
 -- ---- what the answer says of the first choice

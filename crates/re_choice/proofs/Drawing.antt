@@ -7,6 +7,7 @@ use Rattle.re_config.proofs.LeastLabels.{first-is}
 use Rattle.re_config.specs.Rows.{choices}
 use Rattle.re_labels.specs.Sets.{IsLabelSet, first_of, without_label}
 use Rattle.re_table.specs.Constraints.{Constraint, has_config}
+use Rattle.re_labels.specs.declared.TheConstants.{MAX_LABELS}
 
 find-map : {X Y : Type 0} (p : Y → Bool) (f : X → Y) (xs : List X) → find p (map f xs) ≡ option_map f (find (λ x. p (f x)) xs)
 find-map p f [] = refl
@@ -40,7 +41,7 @@ step constraint drawn x s others =
         go false rest = rest
 
 -- the same of a set with its least label
-whole : (constraint : Constraint) (drawn first : List ℕ) (others : List (List ℕ)) (label : ℕ) → IsLabelSet 128 first → first_of first ≡ Some label
+whole : (constraint : Constraint) (drawn first : List ℕ) (others : List (List ℕ)) (label : ℕ) → IsLabelSet MAX_LABELS first → first_of first ≡ Some label
     → first_behind constraint drawn (first ∷ others) ≡ first_some (option_map (λ labels. label ∷ labels) (first_behind constraint (drawn ++ label ∷ []) others)) (first_behind constraint drawn (without_label first label ∷ others))
 whole constraint drawn first others label set found =
     ap (λ s. first_behind constraint drawn (s ∷ others)) (first-is first label set.0 found) ∙ step constraint drawn label (without_label first label) others
@@ -54,7 +55,7 @@ last_drawn constraint next [] found none is = go found (is ∙ ap (has_config co
     go false e = subst (λ c. IsDrawn (cond c (Some []) None) next false next) e (refl, refl)
 last_drawn constraint next (s ∷ others) found none is = absurd (omega arith)
 
-module _ (constraint : Constraint) (drawn next first : List ℕ) (others : List (List ℕ)) (label : ℕ) (set : IsLabelSet 128 first)
+module _ (constraint : Constraint) (drawn next first : List ℕ) (others : List (List ℕ)) (label : ℕ) (set : IsLabelSet MAX_LABELS first)
     (found : first_of first ≡ Some label) (pushed : next ≡ drawn ++ label ∷ []) where
   -- a choice behind the label that was drawn is the first choice
   pub drawn_here : (new : List ℕ) (r : Bool) → r ≡ true → IsDrawn (first_behind constraint next others) next r new → IsDrawn (first_behind constraint drawn (first ∷ others)) drawn true new

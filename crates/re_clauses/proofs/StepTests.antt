@@ -26,6 +26,7 @@ use Rattle.re_entries.proofs.RowSets.{place_of-there, row_sets_law, sets-place}
 use Rattle.re_entries.proofs.Telling.{held-read, read-held}
 use Rattle.re_maps.proofs.ImageRows.{known_labels}
 use Rattle.re_entries.specs.StepClauses.{HasAllowedImages, HasGoodImages, HasNextLabels, HasRowSets, KeepsAllowed, KeepsAllowedByRow, KeepsImages, KeepsRows, OccursInRows}
+use Rattle.re_labels.specs.declared.TheConstants.{MAX_LABELS}
 
 -- ---- rows
 pub maximal-test : (before : NamedProblem) (rows : List (List (List ℕ))) (r : Bool)
@@ -76,10 +77,10 @@ allowed_images-test before passive entries r tells =
     (λ t. tells.1 (all_there _ _ passive.configs (λ config. is_allowed-IsAllowed before (map (set_for entries) config)) t))
 
 -- ---- images by rows
-held_low : (constraint : Constraint) (labels : List ℕ) (x : ℕ) → IsConstraint 128 constraint → Has constraint labels → Contains labels x → x < 128
+held_low : (constraint : Constraint) (labels : List ℕ) (x : ℕ) → IsConstraint MAX_LABELS constraint → Has constraint labels → Contains labels x → x < MAX_LABELS
 held_low constraint labels x is has at =
-    let config : IsConfig constraint.degree 128 (sorted labels) = AllByRecursion-contains (IsConfig constraint.degree 128) constraint.configs (sorted labels) is.configs has in
-    AllByRecursion-contains (λ y. y < 128) (sorted labels) x config.below (Contains-Rearranged x (Rearranged-sorted labels) at)
+    let config : IsConfig constraint.degree MAX_LABELS (sorted labels) = AllByRecursion-contains (IsConfig constraint.degree MAX_LABELS) constraint.configs (sorted labels) is.configs has in
+    AllByRecursion-contains (λ y. y < MAX_LABELS) (sorted labels) x config.below (Contains-Rearranged x (Rearranged-sorted labels) at)
 
 pub images-test : (active : Constraint) (images : List (List ℕ)) (r : Bool) → IsTrue r ↔ KeepsImages images active → r ≡ keep_images active images
 images-test active images r tells =
@@ -87,10 +88,10 @@ images-test active images r tells =
     (λ t. all_held (has_config active) (Has active) images (Has-has_config active) (tells.0 t))
     (λ t. tells.1 (all_there (has_config active) (Has active) images (has_config-Has active) t))
 
-pub images-below : (active : Constraint) (images : List (List ℕ)) (r : Bool) → IsConstraint 128 active → IsTrue r ↔ KeepsImages images active → IsTrue r → AllByRecursion (AllByRecursion (λ x. x < 128)) images
+pub images-below : (active : Constraint) (images : List (List ℕ)) (r : Bool) → IsConstraint MAX_LABELS active → IsTrue r ↔ KeepsImages images active → IsTrue r → AllByRecursion (AllByRecursion (λ x. x < MAX_LABELS)) images
 images-below active images r is tells t =
-    AllByRecursion-from_contains (AllByRecursion (λ x. x < 128)) images (λ image held.
-    AllByRecursion-from_contains (λ x. x < 128) image (λ x at. held_low active image x is (tells.0 t image held) at))
+    AllByRecursion-from_contains (AllByRecursion (λ x. x < MAX_LABELS)) images (λ image held.
+    AllByRecursion-from_contains (λ x. x < MAX_LABELS) image (λ x at. held_low active image x is (tells.0 t image held) at))
 
 -- each set of the maximal rows is among those that occur
 occurs-listed : (before : NamedProblem) (rows : List (List (List ℕ))) → rows ≡ max_rows before.passive (length before.names) → (set : List ℕ) → OccursInRows rows set → Contains (sets_in (length before.names) rows) set
@@ -135,19 +136,19 @@ labels-test before next entries r all tells is =
     (filled ∙ both.1))
 
 -- ---- labels that no configuration may have
-high_entry : (entries : List SetEntry) → list_all (λ (entry : SetEntry). ltb entry.label 128) entries ≡ false → (i : ℕ) × (i < length entries) × (128 ≤ label_at entries i)
+high_entry : (entries : List SetEntry) → list_all (λ (entry : SetEntry). ltb entry.label MAX_LABELS) entries ≡ false → (i : ℕ) × (i < length entries) × (MAX_LABELS ≤ label_at entries i)
 high_entry entries low =
-    let found = not_all (λ (entry : SetEntry). ltb entry.label 128) entries low in
+    let found = not_all (λ (entry : SetEntry). ltb entry.label MAX_LABELS) entries low in
     let no_entry : SetEntry = record { set = []; label = 0 } in
     let place = held-read entries found.0 no_entry (In-Contains found.0 entries found.1) in
-    let test : ltb (label_at entries place.0) 128 ≡ false = ap (λ (entry : SetEntry). ltb entry.label 128) place.2 ∙ found.2 in
-    (place.0, place.1, (let l : 128 ≤ label_at entries place.0 = grind (arith, nat_tests) in l))
+    let test : ltb (label_at entries place.0) MAX_LABELS ≡ false = ap (λ (entry : SetEntry). ltb entry.label MAX_LABELS) place.2 ∙ found.2 in
+    (place.0, place.1, (let l : MAX_LABELS ≤ label_at entries place.0 = grind (arith, nat_tests) in l))
 
 label_there : (entries : List SetEntry) (i : ℕ) → IsRising (λ s t. number s < number t) (entry_sets entries) → i < length entries → label_of entries (get_or (entry_sets entries) i []) ≡ label_at entries i
 label_there entries i rises l = ap (label_at entries) (place_of-there (entry_sets entries) i (get_or (entry_sets entries) i []) rises (sets-place entries i l) refl)
 
-pub not_below : (active : Constraint) (rows : List (List (List ℕ))) (entries : List SetEntry) → IsConstraint 128 active → HasRowSets rows entries
-    → list_all (λ (entry : SetEntry). ltb entry.label 128) entries ≡ false → false ≡ keep_rows active rows entries
+pub not_below : (active : Constraint) (rows : List (List (List ℕ))) (entries : List SetEntry) → IsConstraint MAX_LABELS active → HasRowSets rows entries
+    → list_all (λ (entry : SetEntry). ltb entry.label MAX_LABELS) entries ≡ false → false ≡ keep_rows active rows entries
 not_below active rows entries is sets low = go (keep_rows active rows entries) refl
   where
     go : (b : Bool) → keep_rows active rows entries ≡ b → false ≡ b
@@ -157,17 +158,17 @@ not_below active rows entries is sets low = go (keep_rows active rows entries) r
         let set = get_or (entry_sets entries) high.0 [] in
         let occurs = (sets.sets set).0 (read-held (entry_sets entries) high.0 [] (sets-place entries high.0 high.1)) in
         let has = all_there _ (λ row. Has active (map (label_of entries) row)) rows (λ row. has_config-Has active (map (label_of entries) row)) e occurs.0 occurs.1 in
-        let small : label_of entries set < 128 = held_low active (map (label_of entries) occurs.0) (label_of entries set) is has (Contains-map (label_of entries) occurs.0 set occurs.2) in
+        let small : label_of entries set < MAX_LABELS = held_low active (map (label_of entries) occurs.0) (label_of entries set) is has (Contains-map (label_of entries) occurs.0 set occurs.2) in
         let same : label_of entries set ≡ label_at entries high.0 = label_there entries high.0 sets.ascends high.1 in
-        let large : 128 ≤ label_at entries high.0 = high.2 in
+        let large : MAX_LABELS ≤ label_at entries high.0 = high.2 in
         absurd (omega (arith, small, same, large))
 
-pub below-all : (entries : List SetEntry) → list_all (λ (entry : SetEntry). ltb entry.label 128) entries ≡ true → AllByRecursion (λ (entry : SetEntry). entry.label < 128) entries
+pub below-all : (entries : List SetEntry) → list_all (λ (entry : SetEntry). ltb entry.label MAX_LABELS) entries ≡ true → AllByRecursion (λ (entry : SetEntry). entry.label < MAX_LABELS) entries
 below-all [] all = tt
 below-all (entry ∷ entries) all =
-    let both = and-true (ltb entry.label 128) (list_all (λ (entry : SetEntry). ltb entry.label 128) entries) all in
-    let test : ltb entry.label 128 ≡ true = both.0 in
-    ((let l : entry.label < 128 = grind (arith, nat_tests) in l), below-all entries both.1)
+    let both = and-true (ltb entry.label MAX_LABELS) (list_all (λ (entry : SetEntry). ltb entry.label MAX_LABELS) entries) all in
+    let test : ltb entry.label MAX_LABELS ≡ true = both.0 in
+    ((let l : entry.label < MAX_LABELS = grind (arith, nat_tests) in l), below-all entries both.1)
 
 -- ---- labels of the entries of an upper step
 pub known : (n : ℕ) (constraint given : Constraint) (entries : List SetEntry) → IsConstraint n constraint → given ≡ constraint → HasNextLabels n entries

@@ -18,6 +18,7 @@ use Rattle.re_cli.specs.declared.command.Making.TheVariants.{OfFamily, OneStep}
 use Rattle.re_cli.specs.declared.command.Reading.{Reading}
 use Rattle.re_cli.specs.declared.command.Reading.TheVariants.{Rounds, Search, Step}
 use Rattle.re_families.proofs.Whole.{number_range}
+use Rattle.re_cert.specs.declared.certificate.TheConstants.{MAX_STEPS}
 
 -- ---- what the tests say
 le_of : (a b : ℕ) → nat_le a b ≡ true → a ≤ b
@@ -26,11 +27,11 @@ le_of a b h = grind (arith, nat_tests)
 equal_most : (a b most : ℕ) → (a == b) ≡ true → b ≤ most → a ≤ most
 equal_most a b most h l = grind (arith, nat_tests)
 
-search_range : (kind : Kind) (steps changes : ℕ) → is_search kind steps changes ≡ true → (least_steps kind ≤ steps) × (steps ≤ 64) × (changes ≤ 8)
+search_range : (kind : Kind) (steps changes : ℕ) → is_search kind steps changes ≡ true → (least_steps kind ≤ steps) × (steps ≤ MAX_STEPS) × (changes ≤ 8)
 search_range kind steps changes h =
-    let all = and-true (nat_le (least_steps kind) steps && nat_le steps 64) (nat_le changes 8) h in
-    let both = and-true (nat_le (least_steps kind) steps) (nat_le steps 64) all.0 in
-    (le_of (least_steps kind) steps both.0, le_of steps 64 both.1, le_of changes 8 all.1)
+    let all = and-true (nat_le (least_steps kind) steps && nat_le steps MAX_STEPS) (nat_le changes 8) h in
+    let both = and-true (nat_le (least_steps kind) steps) (nat_le steps MAX_STEPS) all.0 in
+    (le_of (least_steps kind) steps both.0, le_of steps MAX_STEPS both.1, le_of changes 8 all.1)
 
 degree_most : (degree : ℕ) → is_degree degree ≡ true → degree ≤ 6
 degree_most degree h = le_of degree 6 (and-true (nat_le 2 degree) (nat_le degree 6) h).1
@@ -89,11 +90,11 @@ chosen false x y h k = k
 
 steps_within : (number : Option ℕ) → IsWithin (steps_of number)
 steps_within None = tt
-steps_within (Some n) = chosen (nat_le 1 n && nat_le n 64) (Some (Reads (Step n))) None tt tt
+steps_within (Some n) = chosen (nat_le 1 n && nat_le n MAX_STEPS) (Some (Reads (Step n))) None tt tt
 
 rounds_within : (number : Option ℕ) → IsWithin (rounds_up_to number)
 rounds_within None = tt
-rounds_within (Some most) = chosen (nat_le most 64) (Some (Reads (Rounds most))) None tt tt
+rounds_within (Some most) = chosen (nat_le most MAX_STEPS) (Some (Reads (Rounds most))) None tt tt
 
 search_within : (kind : Option Kind) (steps changes : Option ℕ) → IsWithin (search_with kind steps changes)
 search_within None steps changes = tt

@@ -1,4 +1,5 @@
 // The commands that search for a certificate.
+ghost use Rattle.re_cert.specs.declared.certificate.TheConstants.{MAX_STEPS};
 ghost use Rattle.re_cli.specs.Command.{least_steps};
 ghost use Rattle.re_cli.specs.Output.{outcome_of};
 ghost use Rattle.re_cli.specs.Searching.{not_found_line, search_outcome, searched};
@@ -26,7 +27,7 @@ fn find(
     problem: &Problem,
 ) -> Result<Search, FindFault>
     requires least { least_steps kind ≤ steps }
-    requires steps { steps ≤ 64 }
+    requires steps { steps ≤ MAX_STEPS }
     requires changes { changes ≤ 8 }
     ensures { Answers kind steps changes problem.now result }
 {
@@ -59,7 +60,7 @@ pub(crate) fn search_output(
     problem: &Problem,
 ) -> Result<Output, NoMemory>
     requires least { least_steps kind ≤ steps }
-    requires steps { steps ≤ 64 }
+    requires steps { steps ≤ MAX_STEPS }
     requires changes { changes ≤ 8 }
     ensures { IfOk result (λ output. outcome_of output ≡ search_outcome kind steps changes problem.now) }
 {

@@ -9,6 +9,7 @@ use Rattle.re_config.specs.Configs.{sorted}
 use Rattle.re_config.specs.Rows.{IsChosen, choices}
 use Rattle.re_labels.proofs.Membership.{length-map'}
 use Rattle.re_labels.specs.Sets.{IsLabelSet}
+use Rattle.re_labels.specs.declared.TheConstants.{MAX_LABELS}
 
 pub length-choices : (s : List ℕ) (row : List (List ℕ)) → length (choices (s ∷ row)) ≡ length s * length (choices row)
 length-choices s row = length-flat_map (λ x. map (λ labels. x ∷ labels) (choices row)) (length (choices row)) s 0 (λ k lt. length-map' (λ labels. get_or s k 0 ∷ labels) (choices row))
@@ -40,29 +41,29 @@ chosen-step first others index rounds label labels some (place, below, is, at) e
       (λ i. e i ∷ at i) ∙ sym (get_or-choices first others (rounds % c) place (mod-lt rounds some) below),
     )
 
-pub chosen-found : (sets others : List (List ℕ)) (first : List ℕ) (index rounds count label : ℕ) (labels items : List ℕ) → first ∷ others ≡ sets → AllByRecursion (λ s. IsLabelSet 128 s × (0 < length s)) sets
+pub chosen-found : (sets others : List (List ℕ)) (first : List ℕ) (index rounds count label : ℕ) (labels items : List ℕ) → first ∷ others ≡ sets → AllByRecursion (λ s. IsLabelSet MAX_LABELS s × (0 < length s)) sets
     → IsChosen others index rounds labels → count ≡ length first → label ≡ get_or first (rounds % count) 0 → items ≡ insert labels 0 label → IsChosen sets index (rounds / count) items
 chosen-found sets others first index rounds count label labels items e filled c n l i =
-    let full = subst (AllByRecursion (λ s. IsLabelSet 128 s × (0 < length s))) (sym e) filled in
+    let full = subst (AllByRecursion (λ s. IsLabelSet MAX_LABELS s × (0 < length s))) (sym e) filled in
     let step = chosen-step first others index rounds label labels full.0.1 c (l ∙ ap (λ k. get_or first (rounds % k) 0) n) in
     subst (λ s. IsChosen s index (rounds / count) items) e
     (subst (λ k. IsChosen (first ∷ others) index (rounds / k) items) (sym n)
     (subst (IsChosen (first ∷ others) index (rounds / length first)) (sym (i ∙ insert-first labels label)) step))
 
 -- there are at most 128 ^ 6 choices
-pub few-choices : (fuel : ℕ) (row : List (List ℕ)) → AllByRecursion (λ s. IsLabelSet 128 s × (0 < length s)) row → length row ≤ fuel → length (choices row) ≤ 128 ^ fuel
+pub few-choices : (fuel : ℕ) (row : List (List ℕ)) → AllByRecursion (λ s. IsLabelSet MAX_LABELS s × (0 < length s)) row → length row ≤ fuel → length (choices row) ≤ MAX_LABELS ^ fuel
 few-choices zero [] h l = omega arith
 few-choices zero (s ∷ row) h l = absurd (omega arith)
 few-choices (suc fuel) [] h l =
-    let more : 1 ≤ 128 ^ fuel = few-choices fuel [] tt (omega arith) in
-    let p = pow-suc 128 fuel in
+    let more : 1 ≤ MAX_LABELS ^ fuel = few-choices fuel [] tt (omega arith) in
+    let p = pow-suc MAX_LABELS fuel in
     omega (arith, p, more)
 few-choices (suc fuel) (s ∷ row) h l =
-    let more : length (choices row) ≤ 128 ^ fuel = few-choices fuel row h.1 (omega arith) in
-    let p : 128 ^ suc fuel ≡ 128 ^ fuel * 128 = pow-suc 128 fuel in
-    let one : length s ≤ 128 = length-set 128 s h.0.0 in
+    let more : length (choices row) ≤ MAX_LABELS ^ fuel = few-choices fuel row h.1 (omega arith) in
+    let p : MAX_LABELS ^ suc fuel ≡ MAX_LABELS ^ fuel * MAX_LABELS = pow-suc MAX_LABELS fuel in
+    let one : length s ≤ MAX_LABELS = length-set MAX_LABELS s h.0.0 in
     let size = length-choices s row in
-    let both : length s * length (choices row) ≤ 128 ^ fuel * 128 = product (length s) (length (choices row)) 128 (128 ^ fuel) one more in
+    let both : length s * length (choices row) ≤ MAX_LABELS ^ fuel * MAX_LABELS = product (length s) (length (choices row)) MAX_LABELS (MAX_LABELS ^ fuel) one more in
     omega (arith, size, p, both)
   where
     product : (a b c d : ℕ) → a ≤ c → b ≤ d → a * b ≤ d * c

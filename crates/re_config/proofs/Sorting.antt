@@ -11,6 +11,7 @@ use Rattle.re_config.proofs.Rearranging.{Rearranged-map, Rearranged-refl, length
 use Rattle.re_config.specs.Configs.{IsConfig, inserted, sorted}
 use Rattle.re_config.specs.Rearranging.{Rearranged, chained, kept, swapped, unmoved}
 use Rattle.re_labels.specs.Lists.{IsRising}
+use Rattle.re_labels.specs.declared.TheConstants.{MAX_LABELS}
 
 pub inserted_low : (x y : ℕ) (xs : List ℕ) → x ≤ y → inserted x (y ∷ xs) ≡ x ∷ y ∷ xs
 inserted_low x y xs h = elim (leb_tells x y) [ inl t ↦ rw t.0 | inr t ↦ absurd (omega (arith, t.1)) ]
@@ -200,11 +201,11 @@ IsConfig-sorted degree n labels e h = record {
   ascends = sorted_rises labels;
 }
 
-pub IsConfig-of_sorted : (labels : List ℕ) → 2 ≤ length labels → length labels ≤ 6 → AllByRecursion (λ x. x < 128) labels
-    → (2 ≤ length (sorted labels)) × (length (sorted labels) ≤ 6) × IsConfig (length (sorted labels)) 128 (sorted labels)
+pub IsConfig-of_sorted : (labels : List ℕ) → 2 ≤ length labels → length labels ≤ 6 → AllByRecursion (λ x. x < MAX_LABELS) labels
+    → (2 ≤ length (sorted labels)) × (length (sorted labels) ≤ 6) × IsConfig (length (sorted labels)) MAX_LABELS (sorted labels)
 IsConfig-of_sorted labels two six h =
     let e : length (sorted labels) ≡ length labels = length-sorted labels in
-    (omega arith, omega arith, IsConfig-sorted (length (sorted labels)) 128 labels (sym e) h)
+    (omega arith, omega arith, IsConfig-sorted (length (sorted labels)) MAX_LABELS labels (sym e) h)
 
 -- to number anew and sort, the labels needn't be sorted before
 pub sorted_map : (g : ℕ → ℕ) (c : List ℕ) → sorted (map g (sorted c)) ≡ sorted (map g c)

@@ -30,6 +30,7 @@ use Rattle.re_table.proofs.Goodness.{Has-Rearranged, IsAllowed-Rearranged}
 use Rattle.re_table.proofs.MaxSets.{allowed_law}
 use Rattle.re_table.specs.Constraints.{Constraint, Has, IsConstraint}
 use Rattle.re_table.specs.GoodRows.{IsAllowed, allowed}
+use Rattle.re_labels.specs.declared.TheConstants.{MAX_LABELS}
 
 -- ---- entries
 abbrev pub entry : List ℕ → ℕ → SetEntry
@@ -178,10 +179,10 @@ rows-more x over new result row others rows image more images parts image_parts 
     subst (OverMore x over result) (λ i. image_entries (parts i) (image_parts i)) (over-then x over new result (row_entries row image) (image_entries others more) first rest)
 
 -- ---- labels that configurations may have
-pub image-labels : (rows : List (List (List ℕ))) (images : List (List ℕ)) → AllByRecursion (AllByRecursion (λ x. x < 128)) images → AllByRecursion (λ (e : SetEntry). e.label < 128) (image_entries rows images)
-image-labels rows images below = AllByRecursion-from_contains (λ (e : SetEntry). e.label < 128) (image_entries rows images) (λ e held.
+pub image-labels : (rows : List (List (List ℕ))) (images : List (List ℕ)) → AllByRecursion (AllByRecursion (λ x. x < MAX_LABELS)) images → AllByRecursion (λ (e : SetEntry). e.label < MAX_LABELS) (image_entries rows images)
+image-labels rows images below = AllByRecursion-from_contains (λ (e : SetEntry). e.label < MAX_LABELS) (image_entries rows images) (λ e held.
     let (row, image, (k, l, m, s, t), (j, a, b, c, d)) = entry-becomes rows images e held in
-    AllByRecursion-contains (λ x. x < 128) image e.label (AllByRecursion-contains (AllByRecursion (λ x. x < 128)) images image below (k, m, t)) (j, b, d))
+    AllByRecursion-contains (λ x. x < MAX_LABELS) image e.label (AllByRecursion-contains (AllByRecursion (λ x. x < MAX_LABELS)) images image below (k, m, t)) (j, b, d))
 
 pub kept-by_row : (n : ℕ) (from to : Constraint) (rows : List (List (List ℕ))) (images : List (List ℕ)) (r : Bool) → IsConstraint n from
     → (IsTrue r ↔ ((config : List ℕ) → Contains from.configs config → TakesChoices (image_entries rows images) to config))
@@ -190,23 +191,23 @@ kept-by_row n from to rows images r is known sets occur =
     let law = keeps_allowed_by_row_law n from to sets rows images is occur in
     tells-same r known (λ each. law.1 (λ config labels held chosen. each config held labels chosen)) (λ kept config held labels chosen. law.0 kept config labels held chosen)
 
-pub all-low : (labels : List ℕ) → list_all (λ x. ltb x 128) labels ≡ true → AllByRecursion (λ x. x < 128) labels
+pub all-low : (labels : List ℕ) → list_all (λ x. ltb x MAX_LABELS) labels ≡ true → AllByRecursion (λ x. x < MAX_LABELS) labels
 all-low [] all = tt
 all-low (x ∷ labels) all =
-    let both = and-true (ltb x 128) (list_all (λ x. ltb x 128) labels) all in
-    let test : ltb x 128 ≡ true = both.0 in
-    ((let l : x < 128 = grind (arith, nat_tests) in l), all-low labels both.1)
+    let both = and-true (ltb x MAX_LABELS) (list_all (λ x. ltb x MAX_LABELS) labels) all in
+    let test : ltb x MAX_LABELS ≡ true = both.0 in
+    ((let l : x < MAX_LABELS = grind (arith, nat_tests) in l), all-low labels both.1)
 
-low-all : (labels : List ℕ) → AllByRecursion (λ x. x < 128) labels → list_all (λ x. ltb x 128) labels ≡ true
+low-all : (labels : List ℕ) → AllByRecursion (λ x. x < MAX_LABELS) labels → list_all (λ x. ltb x MAX_LABELS) labels ≡ true
 low-all [] below = refl
 low-all (x ∷ labels) below = λ i. low x below.0 i && low-all labels below.1 i
   where
-    low : (x : ℕ) → x < 128 → ltb x 128 ≡ true
+    low : (x : ℕ) → x < MAX_LABELS → ltb x MAX_LABELS ≡ true
     low x l = grind (arith, nat_tests)
 
 -- a configuration has only labels that configurations may have
-pub high-label : (to : Constraint) (image held : List ℕ) → IsConstraint 128 to → held ≡ image → list_all (λ x. ltb x 128) held ≡ false → Has to image → ⊥
+pub high-label : (to : Constraint) (image held : List ℕ) → IsConstraint MAX_LABELS to → held ≡ image → list_all (λ x. ltb x MAX_LABELS) held ≡ false → Has to image → ⊥
 high-label to image held is same fails has =
-    let config : IsConfig to.degree 128 (sorted image) = AllByRecursion-contains (IsConfig to.degree 128) to.configs (sorted image) is.configs has in
-    let below : AllByRecursion (λ x. x < 128) image = AllByRecursion-Rearranged (λ x. x < 128) (Rearranged-sym (Rearranged-sorted image)) config.below in
-    false≢true (sym fails ∙ ap (list_all (λ x. ltb x 128)) same ∙ low-all image below)
+    let config : IsConfig to.degree MAX_LABELS (sorted image) = AllByRecursion-contains (IsConfig to.degree MAX_LABELS) to.configs (sorted image) is.configs has in
+    let below : AllByRecursion (λ x. x < MAX_LABELS) image = AllByRecursion-Rearranged (λ x. x < MAX_LABELS) (Rearranged-sym (Rearranged-sorted image)) config.below in
+    false≢true (sym fails ∙ ap (list_all (λ x. ltb x MAX_LABELS)) same ∙ low-all image below)

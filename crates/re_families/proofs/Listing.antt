@@ -16,6 +16,7 @@ use Rattle.re_labels.specs.ListSets.{list_set, with_list}
 use Rattle.re_labels.specs.Lists.{IsBefore}
 use Rattle.re_problem.proofs.ListSizes.{length-list_set}
 use Rattle.re_families.proofs.Sizes.{few_multisets}
+use Rattle.re_table.specs.declared.constraint_table.TheConstants.{MAX_CONFIGURATIONS}
 
 -- one list more is passed
 pub passed : (all done rest behind : List (List ℕ)) (x : List ℕ) → done ++ rest ≡ all → rest ≡ x ∷ behind → (done ++ x ∷ []) ++ behind ≡ all
@@ -41,7 +42,7 @@ module _ (p : List ℕ → Bool) (done configs : List (List ℕ)) (x : List ℕ)
   left t = e ∙ ap list_set (sym (append-nil (filter p done))) ∙ sym (more false t)
 
 -- the lists that were kept are fewer than a constraint has room for
-pub room : (p : List ℕ → Bool) (d n : ℕ) (done rest configs : List (List ℕ)) → d ≤ 6 → n ≤ 16 → done ++ rest ≡ multisets d 0 n → configs ≡ list_set (filter p done) → length configs < 1048576
+pub room : (p : List ℕ → Bool) (d n : ℕ) (done rest configs : List (List ℕ)) → d ≤ 6 → n ≤ 16 → done ++ rest ≡ multisets d 0 n → configs ≡ list_set (filter p done) → length configs < MAX_CONFIGURATIONS
 room p d n done rest configs six few e k =
     let at : length configs ≡ length (list_set (filter p done)) = ap length k in
     let whole : length (done ++ rest) ≡ length (multisets d 0 n) = ap length e in

@@ -6,6 +6,7 @@ use Rattle.re_config.specs.Orders.{begun, multisets}
 use Rattle.re_labels.proofs.Membership.{length-map'}
 use Rattle.re_labels.specs.Lists.{count_from}
 use Rattle.re_problem.proofs.UsedLabels.{counted_all}
+use Rattle.re_table.specs.declared.constraint_table.TheConstants.{MAX_CONFIGURATIONS}
 
 -- f 1 + .. + f k
 sums : (ℕ → ℕ) → ℕ → ℕ
@@ -45,7 +46,7 @@ few_tallies : list_all (λ d. leb (tally d 16) 1000000) (count_from 0 7) ≡ tru
 unfolding tally sums
 few_tallies = refl
 
-pub few_multisets : (d n : ℕ) → d ≤ 6 → n ≤ 16 → length (multisets d 0 n) < 1048576
+pub few_multisets : (d n : ℕ) → d ≤ 6 → n ≤ 16 → length (multisets d 0 n) < MAX_CONFIGURATIONS
 few_multisets d n six few =
     let most : tally d 16 ≤ 1000000 = leb-true (tally d 16) 1000000 (counted_all (λ d. leb (tally d 16) 1000000) 7 d few_tallies (omega arith)) in
     let e : (16 - n) + n ≡ 16 = omega arith in

@@ -18,6 +18,7 @@ use Rattle.re_labels.proofs.Tests.{and-true, true-and}
 use Rattle.re_labels.specs.Lists.{IsBefore, IsRising, place_of, same_list}
 use Rattle.re_labels.specs.Names.{is_name, name_of}
 use Rattle.re_labels.specs.Sets.{with_label}
+use Rattle.re_labels.specs.declared.TheConstants.{MAX_LABELS}
 
 pub is_held : (names : List (List ℕ)) (name : List ℕ) → Contains names name → list_any (same_list name) names ≡ true
 is_held names name held = any-In (same_list name) name names (Contains-In name names held) (same_list-refl name)
@@ -121,11 +122,11 @@ module _ (old : List (List ℕ)) (text : List ℕ) (front : List (List ℕ)) (na
       let whole : labels_of text ≡ Some front = read.whole ∙ ap (in_front front) end ∙ ap Some (append-nil front) in
       read.added ∙ ap (λ all. list_set (old ++ names_or_none all)) (sym whole)
 
-  pub too_many : (name : List ℕ) (rest before : Option (List (List ℕ))) → before ≡ with_name name rest → length names ≡ 128 → (Contains names name → ⊥) → is_some (labels_of text) ≡ true
-      → AddedNames old text front before names → 128 < length (list_set (old ++ names_or_none (labels_of text)))
+  pub too_many : (name : List ℕ) (rest before : Option (List (List ℕ))) → before ≡ with_name name rest → length names ≡ MAX_LABELS → (Contains names name → ⊥) → is_some (labels_of text) ≡ true
+      → AddedNames old text front before names → MAX_LABELS < length (list_set (old ++ names_or_none (labels_of text)))
   too_many name rest before next full apart some read = go rest (read.whole ∙ ap (in_front front) next)
     where
-      go : (rest : Option (List (List ℕ))) → labels_of text ≡ in_front front (with_name name rest) → 128 < length (list_set (old ++ names_or_none (labels_of text)))
+      go : (rest : Option (List (List ℕ))) → labels_of text ≡ in_front front (with_name name rest) → MAX_LABELS < length (list_set (old ++ names_or_none (labels_of text)))
       go None whole = absurd (false≢true (sym (ap is_some whole) ∙ some))
       go (Some behind) whole =
           let one : length (list_set (old ++ (front ++ name ∷ []))) ≡ 129 = ap length (sym (with_one name read.added)) ∙ longer_new names name apart ∙ omega arith in

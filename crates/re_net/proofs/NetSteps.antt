@@ -25,6 +25,7 @@ use Rattle.re_net.proofs.Steps.{kept_histories, kept_history, read_history, same
 use Rattle.re_pool.specs.declared.shape.Shape.{Shape}
 use Rattle.re_pool.proofs.Growing.{Keeps-refl, Keeps-trans}
 use Rattle.re_pool.specs.Pools.{Keeps, tree_at}
+use Rattle.re_net.specs.declared.nets.TheConstants.{MAX_ROUNDS}
 
 -- ---- one message more
 or_same : (a b : Bool) → a ≡ b → (c : Bool) → (b || c) ≡ (a || (b || c))
@@ -227,7 +228,7 @@ started_more tree bound start pool next histories n history are keeps views stan
   ]);
 }
 
-pub net_started : (tree : FiniteTree) (bound : ℕ) (start pool : List Shape) (histories : List (List ℕ)) → IsFiniteTree tree → IsNumbered tree → bound ≤ 64 → AreStarted tree bound start pool histories (node_count tree)
+pub net_started : (tree : FiniteTree) (bound : ℕ) (start pool : List Shape) (histories : List (List ℕ)) → IsFiniteTree tree → IsNumbered tree → bound ≤ MAX_ROUNDS → AreStarted tree bound start pool histories (node_count tree)
     → IsNet (record { tree = tree; bound = bound; delivered = []; pool = pool }) histories
 unfolding IsStrictlySortedBy
 net_started tree bound start pool histories built numbered few are = record {

@@ -16,6 +16,9 @@ use re_pool::{NodeId, Pool, Shape};
 use std::alloc::Global;
 use std::marker::Model;
 
+/// How many rounds the nodes of a net may stand at, at most.
+pub const MAX_ROUNDS: u8 = 64;
+
 /// A finite tree whose nodes pass messages over its edges. One delivery of one message is the step, and each node stands at the round
 /// that the messages delivered allow, with its views up to that round in a pool. Contracts see the tree, the most rounds, the messages
 /// delivered in ascending order, and the pool.
@@ -63,7 +66,7 @@ fn starting_histories(
     pool: &mut Pool,
 ) -> Result<Vec<History>, NoMemory>
     requires numbered { IsNumbered tree.now }
-    requires few { bound ≤ 64 }
+    requires few { bound ≤ MAX_ROUNDS }
     requires none { delivered.now.messages ≡ [] }
     ensures { IfOk result (λ histories. IsNet (record { tree = tree.now; bound = bound; delivered = []; pool = pool.new }) histories.items) }
 {
@@ -78,14 +81,14 @@ fn starting_histories(
 
 impl Net {
     /// The net of a numbered tree in which nothing is delivered. Each node stands at round 0, or at the bound where it has no neighbour. The
-    /// bound is at most 64.
+    /// bound is at most `MAX_ROUNDS`.
     ///
     /// It looks at the ports of each node. For the messages it takes as many bytes as there are nodes, times the bound: in a tree of two nodes
     /// a byte for each message that there can be, in a large one half a byte. NoMemory comes where there was none for these, for a node's
     /// list of views or for the pool.
     pub fn new(alloc: Global, tree: Tree, bound: u8) -> Result<Net, NoMemory>
         requires numbered { IsNumbered tree }
-        requires few { bound ≤ 64 }
+        requires few { bound ≤ MAX_ROUNDS }
         ensures tree { IfOk result (λ net. net.tree ≡ tree) }
         ensures bound { IfOk result (λ net. net.bound ≡ bound) }
         ensures delivered { IfOk result (λ net. net.delivered ≡ []) }
@@ -110,10 +113,10 @@ impl Net {
         &self.tree
     }
 
-    /// The most rounds, at most 64.
+    /// The most rounds, at most `MAX_ROUNDS`.
     pub fn bound(&self) -> u8
         ensures bound { result ≡ self.now.bound }
-        ensures few { result ≤ 64 }
+        ensures few { result ≤ MAX_ROUNDS }
     {
         self.bound
     }

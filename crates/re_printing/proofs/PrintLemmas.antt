@@ -8,6 +8,7 @@ use Rattle.re_labels.proofs.Membership.{get_or-count_from, length-count_from, le
 use Rattle.re_labels.proofs.Numbers.{set_of-number, rising_tail}
 use Rattle.re_labels.specs.Lists.{IsRising, count_from}
 use Rattle.re_labels.specs.Sets.{IsLabelSet, first_of, number, set_of, without_label}
+use Rattle.re_labels.specs.declared.TheConstants.{MAX_LABELS}
 
 -- ---- the labels of a set
 pub label_then_rest : (f : ℕ → List ℕ) (set rest : List ℕ) (label : ℕ) (old middle new : List ℕ) → IsRising (λ x y. x < y) set → first_of set ≡ Some label → rest ≡ without_label set label
@@ -22,13 +23,13 @@ first_holds P set label r e h = (subst (AllByRecursion P) (first-is set label r 
 pub rest_holds : (P : ℕ → Type 0) (set rest : List ℕ) (label : ℕ) → IsRising (λ x y. x < y) set → first_of set ≡ Some label → rest ≡ without_label set label → AllByRecursion P set → AllByRecursion P rest
 rest_holds P set rest label r e w h = subst (AllByRecursion P) (sym w) (subst (AllByRecursion P) (first-is set label r e) h).1
 
-pub rest_is : (set rest : List ℕ) (label : ℕ) → IsLabelSet 128 set → first_of set ≡ Some label → rest ≡ without_label set label → IsLabelSet 128 rest
+pub rest_is : (set rest : List ℕ) (label : ℕ) → IsLabelSet MAX_LABELS set → first_of set ≡ Some label → rest ≡ without_label set label → IsLabelSet MAX_LABELS rest
 rest_is set rest label is e w =
-    (subst (IsRising (λ x y. x < y)) (sym w) (rising_tail label (without_label set label) (subst (IsRising (λ x y. x < y)) (first-is set label is.0 e) is.0)), rest_holds (λ x. x < 128) set rest label is.0 e w is.1)
+    (subst (IsRising (λ x y. x < y)) (sym w) (rising_tail label (without_label set label) (subst (IsRising (λ x y. x < y)) (first-is set label is.0 e) is.0)), rest_holds (λ x. x < MAX_LABELS) set rest label is.0 e w is.1)
 
 -- ---- a run of equal sets
-pub set_there : (numbers : List ℕ) (sets : List (List ℕ)) (at : ℕ) (set : List ℕ) → numbers ≡ map number sets → at < length numbers → set ≡ get_or sets at set → IsLabelSet 128 set → set_of 128 (get_or numbers at 0) ≡ set
-set_there numbers sets at set e l s is = ap (λ n. set_of 128 (get_or n at 0)) e ∙ ap (set_of 128) (go sets at (let n = length-map' number sets in let m = ap length e in omega (arith, l, n, m)) ∙ ap number (sym s)) ∙ (set_of-number 128 set is).1
+pub set_there : (numbers : List ℕ) (sets : List (List ℕ)) (at : ℕ) (set : List ℕ) → numbers ≡ map number sets → at < length numbers → set ≡ get_or sets at set → IsLabelSet MAX_LABELS set → set_of MAX_LABELS (get_or numbers at 0) ≡ set
+set_there numbers sets at set e l s is = ap (λ n. set_of MAX_LABELS (get_or n at 0)) e ∙ ap (set_of MAX_LABELS) (go sets at (let n = length-map' number sets in let m = ap length e in omega (arith, l, n, m)) ∙ ap number (sym s)) ∙ (set_of-number MAX_LABELS set is).1
   where
     go : (sets : List (List ℕ)) (at : ℕ) → at < length sets → get_or (map number sets) at 0 ≡ number (get_or sets at set)
     go [] at l = absurd (omega arith)

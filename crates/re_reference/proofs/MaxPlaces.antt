@@ -15,6 +15,7 @@ use Rattle.re_table.proofs.MaxSets.{max_sets-from, maximal}
 use Rattle.re_table.specs.Constraints.{Constraint}
 use Rattle.re_table.specs.GoodRows.{max_rows, max_sets}
 use Rattle.re_reference.specs.Reading.{AreSets, occurring}
+use Rattle.re_labels.specs.declared.TheConstants.{MAX_LABELS}
 
 filter_shorter : {X : Type 0} (p : X → Bool) (xs : List X) → length (filter p xs) ≤ length xs
 filter_shorter p [] = omega arith
@@ -23,18 +24,18 @@ filter_shorter p (x ∷ xs) = let more = filter_shorter p xs in elim (p x) as (�
 few_powers : (n : ℕ) → n ≤ 6 → 2 ^ n - 1 < 128
 few_powers n h = let p : 2 ^ n ≤ 2 ^ 6 = pow_mono h in omega (arith, p)
 
-pub sets_few : (K : Constraint) (n : ℕ) (sets : List (List ℕ)) → n ≤ 6 → sets ≡ max_sets K n → length sets < 128
+pub sets_few : (K : Constraint) (n : ℕ) (sets : List (List ℕ)) → n ≤ 6 → sets ≡ max_sets K n → length sets < MAX_LABELS
 sets_few K n sets h e =
     let shorter : length (max_sets K n) ≤ length (all_sets n) = filter_shorter (λ set. list_any (list_any (same_list set)) (max_rows K n)) (all_sets n) in
     let all : length (all_sets n) ≡ 2 ^ n - 1 = length-map' (set_of n) (count_from 1 (2 ^ n - 1)) ∙ length-count_from 1 (2 ^ n - 1) in
     let few = few_powers n h in
-    subst (λ sets. length sets < 128) (sym e) (omega (arith, shorter, all, few))
+    subst (λ sets. length sets < MAX_LABELS) (sym e) (omega (arith, shorter, all, few))
 
 pub sets_are : (K : Constraint) (n : ℕ) (sets : List (List ℕ)) → n ≤ 6 → sets ≡ max_sets K n → AreSets sets
-sets_are K n sets h e = subst AreSets (sym e) (AllByRecursion-from_contains (λ s. IsLabelSet 128 s × (0 < length s)) (max_sets K n) (λ set held.
+sets_are K n sets h e = subst AreSets (sym e) (AllByRecursion-from_contains (λ s. IsLabelSet MAX_LABELS s × (0 < length s)) (max_sets K n) (λ set held.
     let (row, at, there) = max_sets-from K n set held in
     let is = AllByRecursion-contains (λ s. IsLabelSet n s × (0 < length s)) row set (maximal K n row at).is_row.sets there in
-    ((is.0.0, AllByRecursion-weaker (λ x. x < n) (λ x. x < 128) (λ x l. omega (arith, l)) set is.0.1), is.1)))
+    ((is.0.0, AllByRecursion-weaker (λ x. x < n) (λ x. x < MAX_LABELS) (λ x l. omega (arith, l)) set is.0.1), is.1)))
 
 -- the configurations of the maximal rows ascend as they stand
 pub configs_are : (K : Constraint) (n : ℕ) (sets configs : List (List ℕ)) (rows : List (List (List ℕ))) → sets ≡ max_sets K n → rows ≡ max_rows K n
@@ -47,10 +48,10 @@ place_of-most : (sets : List (List ℕ)) (set : List ℕ) → place_of sets set 
 place_of-most [] set = omega arith
 place_of-most (t ∷ sets) set = let more = place_of-most sets set in elim (same_list t set) as (λ b. cond b 0 (suc (place_of sets set)) ≤ suc (length sets)) [ true ↦ omega arith | false ↦ omega (arith, more) ]
 
-pub places_low : (sets row : List (List ℕ)) (labels : List ℕ) → length sets < 128 → labels ≡ map (place_of sets) row → AllByRecursion (λ x. x < 128) labels
-places_low sets row labels h e = subst (AllByRecursion (λ x. x < 128)) (sym e) (go row)
+pub places_low : (sets row : List (List ℕ)) (labels : List ℕ) → length sets < MAX_LABELS → labels ≡ map (place_of sets) row → AllByRecursion (λ x. x < MAX_LABELS) labels
+places_low sets row labels h e = subst (AllByRecursion (λ x. x < MAX_LABELS)) (sym e) (go row)
   where
-    go : (row : List (List ℕ)) → AllByRecursion (λ x. x < 128) (map (place_of sets) row)
+    go : (row : List (List ℕ)) → AllByRecursion (λ x. x < MAX_LABELS) (map (place_of sets) row)
     go [] = tt
     go (s ∷ row) = let most = place_of-most sets s in (omega (arith, most), go row)
 

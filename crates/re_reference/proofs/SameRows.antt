@@ -10,9 +10,10 @@ use Rattle.re_labels.proofs.Membership.{AllByRecursion-weaker}
 use Rattle.re_labels.proofs.Rising.{rising-map}
 use Rattle.re_labels.specs.Sets.{number}
 use Rattle.re_table.proofs.Goodness.{filled-is_full}
+use Rattle.re_labels.specs.declared.TheConstants.{MAX_LABELS}
 
-pub row_again : (row sets : List (List ℕ)) → 2 ≤ length row → length row ≤ 6 → IsRow (length row) 128 row → sets ≡ row → row_of 128 sets ≡ Some row
+pub row_again : (row sets : List (List ℕ)) → 2 ≤ length row → length row ≤ 6 → IsRow (length row) MAX_LABELS row → sets ≡ row → row_of MAX_LABELS sets ≡ Some row
 row_again row sets two six is e =
     let rises = rising-map (λ s t. number s ≤ number t) (λ x y. x ≤ y) number row (λ s t i j le. le) is.ascends in
     let full = filled-is_full row (AllByRecursion-weaker _ _ (λ s h. h.1) row is.sets) in
-    ap (row_of 128) e ∙ sym (row_found row (map number row) two six full (sym (sorted_again (map number row) rises))) ∙ ap Some (row_numbers 128 row is.sets)
+    ap (row_of MAX_LABELS) e ∙ sym (row_found row (map number row) two six full (sym (sorted_again (map number row) rises))) ∙ ap Some (row_numbers MAX_LABELS row is.sets)

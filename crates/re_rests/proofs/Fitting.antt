@@ -7,6 +7,7 @@ use Rattle.re_labels.proofs.Membership.{Contains-cases, Contains-here, Contains-
 use Rattle.re_rests.specs.Spans.{Tree, AreFilled, AreSpans, Fits, IsEnding, IsFirst, IsNext, IsSpan, lesser}
 use Rattle.re_table.specs.declared.branches.Branches.{Branches}
 use Rattle.re_rests.specs.declared.visiting.Candidate.{Candidate}
+use Rattle.re_labels.specs.declared.TheConstants.{MAX_LABELS}
 
 -- what is read past the last candidate
 abbrev pub no_candidate : Candidate
@@ -45,12 +46,12 @@ module _ (constraint : Tree) (depth : ℕ) where
 
 -- ---- the least label
 abbrev pub IsFirstOf : Tree → ℕ → Branches → Option ℕ → Type 0
-IsFirstOf constraint depth span first = MatchOption first ((ending : List ℕ) → IsEnding constraint depth span ending → ⊥) (λ label. (label < 128) × IsFirst constraint depth span label)
+IsFirstOf constraint depth span first = MatchOption first ((ending : List ℕ) → IsEnding constraint depth span ending → ⊥) (λ label. (label < MAX_LABELS) × IsFirst constraint depth span label)
 
 abbrev pub IsLeast : Tree → ℕ → Branches → List Candidate → Option ℕ → Type 0
 IsLeast constraint depth main candidates least = MatchOption least
     (((ending : List ℕ) → IsEnding constraint depth main ending → ⊥) × ((x : ℕ) (ending : List ℕ) → Fits constraint (depth + 1) candidates x ending → ⊥))
-    (λ label. (label < 128) × IsNext constraint depth main candidates label)
+    (λ label. (label < MAX_LABELS) × IsNext constraint depth main candidates label)
 
 module _ (constraint : Tree) (depth : ℕ) (main : Branches) where
   pub least-start : (first : Option ℕ) → IsFirstOf constraint depth main first → IsLeast constraint depth main [] first

@@ -11,6 +11,7 @@ use Rattle.re_table.proofs.Descents.{ending-narrow}
 use Rattle.re_rests.specs.Spans.{Tree, IsEnding, IsFirst, IsSpan}
 use Rattle.re_table.specs.declared.branches.Branches.{Branches}
 use Rattle.re_rests.specs.declared.visiting.Candidate.{Candidate}
+use Rattle.re_labels.specs.declared.TheConstants.{MAX_LABELS}
 
 -- ---- a set with one more label
 pub IsIn-with_cases : (s : List ℕ) (y x : ℕ) → IsIn x (with_label s y) → (y ≡ x) ⊎ IsIn x s
@@ -64,13 +65,13 @@ next-test constraint depth span first label is low = elim (eqb first label) as (
 abbrev pub Comes : Tree → ℕ → Branches → ℕ → Type 0
 Comes constraint depth span x = (ending : List ℕ) × IsEnding constraint depth span (x ∷ ending)
 
-pub Ending-below : (constraint : Tree) (depth : ℕ) → depth < constraint.degree → (span : Branches) → IsSpan constraint depth span → (x : ℕ) (ending : List ℕ) → IsEnding constraint depth span (x ∷ ending) → x < 128
+pub Ending-below : (constraint : Tree) (depth : ℕ) → depth < constraint.degree → (span : Branches) → IsSpan constraint depth span → (x : ℕ) (ending : List ℕ) → IsEnding constraint depth span (x ∷ ending) → x < MAX_LABELS
 Ending-below constraint depth deep span spans x ending h = ending-narrow constraint.degree constraint.nodes depth span spans deep x ending h
 
 module _ (constraint : Tree) (depth : ℕ) (span : Branches) where
   -- the labels below a number have been found, and the others are to come
   pub record AreFound (found : List ℕ) (least : ℕ) (rest : Branches) : Type 0 where
-    pub low : least ≤ 128
+    pub low : least ≤ MAX_LABELS
     pub span_of_rest : IsSpan constraint depth rest
     pub later : (other : ℕ) (ending : List ℕ) → IsEnding constraint depth rest (other ∷ ending) ↔ ((least ≤ other) × IsEnding constraint depth span (other ∷ ending))
     pub labels : (x : ℕ) → IsIn x found ↔ ((x < least) × Comes constraint depth span x)
@@ -83,7 +84,7 @@ module _ (constraint : Tree) (depth : ℕ) (span : Branches) where
     labels = λ x. (λ i. absurd (Contains-none x i), λ two. absurd (omega (arith, two.0)));
   }
 
-  pub found-more : (found new : List ℕ) (least : ℕ) (rest after : Branches) (label : ℕ) → AreFound found least rest → label < 128 → IsFirst constraint depth rest label → new ≡ with_label found label
+  pub found-more : (found new : List ℕ) (least : ℕ) (rest after : Branches) (label : ℕ) → AreFound found least rest → label < MAX_LABELS → IsFirst constraint depth rest label → new ≡ with_label found label
       → IsSpan constraint depth after → ((other : ℕ) (ending : List ℕ) → IsEnding constraint depth after (other ∷ ending) ↔ ((label < other) × IsEnding constraint depth rest (other ∷ ending)))
       → AreFound new (label + 1) after
   found-more found new least rest after label state few first e spans ends = record {

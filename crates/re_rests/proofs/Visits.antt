@@ -24,6 +24,7 @@ use Rattle.re_rests.specs.Rests.{Completes}
 use Rattle.re_rests.specs.Spans.{Tree, constraint_of, AreFilled, AreSpans, Ascends, Fits, IsBound, IsEnding, IsNarrowed, IsNext, IsOpened, IsSpan, IsVisit, IsWaiting}
 use Rattle.re_table.specs.declared.branches.Branches.{Branches}
 use Rattle.re_rests.specs.declared.visiting.Candidate.{Candidate}
+use Rattle.re_labels.specs.declared.TheConstants.{MAX_LABELS}
 
 -- ---- ascending lists
 -- a label goes behind lesser ones
@@ -63,9 +64,9 @@ all-up (z ∷ []) x h = (omega (arith, h.0), (omega arith, tt))
 all-up (z ∷ w ∷ front) x h = let rest = all-up (w ∷ front) x h.1 in (omega (arith, h.0, rest.0), rest)
 
 -- ---- completions of rests with a beginning
-module _ (constraint : Tree) (is : IsConstraint 128 (constraint_of constraint)) (beginning : List ℕ) (bound : ℕ) (bounded : IsBound beginning bound) where
+module _ (constraint : Tree) (is : IsConstraint MAX_LABELS (constraint_of constraint)) (beginning : List ℕ) (bound : ℕ) (bounded : IsBound beginning bound) where
   pub config-ascends : (config : List ℕ) → Contains constraint.configs config → Ascends config
-  config-ascends config held = (AllByRecursion-contains (IsConfig constraint.degree 128) constraint.configs config is.configs held).ascends
+  config-ascends config held = (AllByRecursion-contains (IsConfig constraint.degree MAX_LABELS) constraint.configs config is.configs held).ascends
 
   -- a label that isn't below the bound goes behind the beginning
   sorted-behind : (x : ℕ) (ending : List ℕ) → bound ≤ x → Ascends (beginning ++ ending) → sorted (x ∷ beginning ++ ending) ≡ beginning ++ inserted x ending
@@ -315,23 +316,23 @@ narrowed-next constraint beginning least next old now new so_far len goes more n
     sides label low = grind arith
 
 -- a rest with a completion has so many labels
-pub rest-length : (constraint : Tree) → IsConstraint 128 (constraint_of constraint) → (rest : List ℕ) (a : ℕ) → Completes (constraint_of constraint) rest a → length rest + 1 ≡ constraint.degree
+pub rest-length : (constraint : Tree) → IsConstraint MAX_LABELS (constraint_of constraint) → (rest : List ℕ) (a : ℕ) → Completes (constraint_of constraint) rest a → length rest + 1 ≡ constraint.degree
 rest-length constraint is rest a done =
-    let count : length (sorted (a ∷ rest)) ≡ constraint.degree = (AllByRecursion-contains (IsConfig constraint.degree 128) constraint.configs (sorted (a ∷ rest)) is.configs done).count in
+    let count : length (sorted (a ∷ rest)) ≡ constraint.degree = (AllByRecursion-contains (IsConfig constraint.degree MAX_LABELS) constraint.configs (sorted (a ∷ rest)) is.configs done).count in
     let same = length-sorted (a ∷ rest) in
     omega (arith, count, same)
 
 -- the labels of a rest with a completion are below 128
-pub rest-below : (constraint : Tree) → IsConstraint 128 (constraint_of constraint) → (beginning : List ℕ) (label : ℕ) (ending : List ℕ) (a : ℕ) → Completes (constraint_of constraint) (beginning ++ label ∷ ending) a → label < 128
+pub rest-below : (constraint : Tree) → IsConstraint MAX_LABELS (constraint_of constraint) → (beginning : List ℕ) (label : ℕ) (ending : List ℕ) (a : ℕ) → Completes (constraint_of constraint) (beginning ++ label ∷ ending) a → label < MAX_LABELS
 rest-below constraint is beginning label ending a done =
-    at beginning (AllByRecursion-Rearranged (λ x. x < 128) (Rearranged-sym (Rearranged-sorted (a ∷ beginning ++ label ∷ ending)))
-    (AllByRecursion-contains (IsConfig constraint.degree 128) constraint.configs (sorted (a ∷ beginning ++ label ∷ ending)) is.configs done).below).1
+    at beginning (AllByRecursion-Rearranged (λ x. x < MAX_LABELS) (Rearranged-sym (Rearranged-sorted (a ∷ beginning ++ label ∷ ending)))
+    (AllByRecursion-contains (IsConfig constraint.degree MAX_LABELS) constraint.configs (sorted (a ∷ beginning ++ label ∷ ending)) is.configs done).below).1
   where
-    at : (front : List ℕ) → AllByRecursion (λ x. x < 128) (front ++ label ∷ ending) → label < 128
+    at : (front : List ℕ) → AllByRecursion (λ x. x < MAX_LABELS) (front ++ label ∷ ending) → label < MAX_LABELS
     at [] h = h.0
     at (x ∷ front) h = at front h.1
 
-pub narrowed-all : (constraint : Tree) → IsConstraint 128 (constraint_of constraint) → (beginning : List ℕ) (least : ℕ) (old new : List (List ℕ)) → length beginning + 1 < constraint.degree → IsNarrowedBelow constraint beginning least old new
+pub narrowed-all : (constraint : Tree) → IsConstraint MAX_LABELS (constraint_of constraint) → (beginning : List ℕ) (least : ℕ) (old new : List (List ℕ)) → length beginning + 1 < constraint.degree → IsNarrowedBelow constraint beginning least old new
     → ((label a : ℕ) (ending : List ℕ) → least ≤ label → Ascends (beginning ++ label ∷ ending) → Completes (constraint_of constraint) (beginning ++ label ∷ ending) a → ⊥)
     → IsNarrowed (constraint_of constraint) beginning old new
 narrowed-all constraint is beginning least old new deep so_far none a b below = (
@@ -351,7 +352,7 @@ narrowed-all constraint is beginning least old new deep so_far none a b below = 
     ]
 
 -- a whole rest, by the set of its completions
-pub narrowed-rest : (constraint : Tree) → IsConstraint 128 (constraint_of constraint) → (rest : List ℕ) (completions : List ℕ) (old new : List (List ℕ)) → length rest + 1 ≡ constraint.degree
+pub narrowed-rest : (constraint : Tree) → IsConstraint MAX_LABELS (constraint_of constraint) → (rest : List ℕ) (completions : List ℕ) (old new : List (List ℕ)) → length rest + 1 ≡ constraint.degree
     → Ascends rest → ((x : ℕ) → Contains completions x ↔ Completes (constraint_of constraint) rest x)
     → ((a b : ℕ) → a < length old → Contains (get_or new a []) b ↔ (Contains (get_or old a []) b × (Contains completions a → Contains completions b)))
     → IsNarrowed (constraint_of constraint) rest old new
@@ -369,7 +370,7 @@ narrowed-rest constraint is rest completions old new whole up complete narrow a 
     by_first (label ∷ ending) each done = absurd (let l = rest-length constraint is (rest ++ label ∷ ending) a done in let m = length-append rest (label ∷ ending) in omega (arith, l, m, whole))
 
 -- ---- the completions of a rest
-module _ (constraint : Tree) (is : IsConstraint 128 (constraint_of constraint)) (rest : List ℕ) (bound : ℕ) (main : Branches) (candidates : List Candidate) (visit : IsVisit constraint rest bound main candidates)
+module _ (constraint : Tree) (is : IsConstraint MAX_LABELS (constraint_of constraint)) (rest : List ℕ) (bound : ℕ) (main : Branches) (candidates : List Candidate) (visit : IsVisit constraint rest bound main candidates)
     (whole : length rest + 1 ≡ constraint.degree) where
   -- a candidate completes the rest
   pub candidate-completes : (candidate : Candidate) → Contains candidates candidate → (candidate.label < bound) × Completes (constraint_of constraint) rest candidate.label
@@ -411,7 +412,7 @@ module _ (constraint : Tree) (is : IsConstraint 128 (constraint_of constraint)) 
       no_more : (ending : List ℕ) → Contains constraint.configs (rest ++ x ∷ ending) → Completes (constraint_of constraint) rest x
       no_more [] held = subst (Contains constraint.configs) (sym (sorted_again (rest ++ x ∷ []) (config-ascends constraint is rest bound visit.bounded (rest ++ x ∷ []) held)) ∙ sorted-Rearranged (moved rest)) held
       no_more (y ∷ ending) held =
-          absurd (let count : length (rest ++ x ∷ y ∷ ending) ≡ constraint.degree = (AllByRecursion-contains (IsConfig constraint.degree 128) constraint.configs (rest ++ x ∷ y ∷ ending) is.configs held).count in
+          absurd (let count : length (rest ++ x ∷ y ∷ ending) ≡ constraint.degree = (AllByRecursion-contains (IsConfig constraint.degree MAX_LABELS) constraint.configs (rest ++ x ∷ y ∷ ending) is.configs held).count in
           let m = length-append rest (x ∷ y ∷ ending) in omega (arith, count, m, whole))
 
 -- ---- one round: a label is opened, the candidates are parted behind it, and the rests behind it are visited
@@ -433,7 +434,7 @@ pub record IsPartedAt (constraint : Tree) (depth label : ℕ) (all below after :
   pub fits_below : (x : ℕ) (ending : List ℕ) → Fits constraint (depth + 1) below x ending ↔ Fits constraint depth all x (label ∷ ending)
   pub fits_after : (x other : ℕ) (ending : List ℕ) → Fits constraint depth after x (other ∷ ending) ↔ ((label < other) × Fits constraint depth all x (other ∷ ending))
 
-module _ (constraint : Tree) (is : IsConstraint 128 (constraint_of constraint)) (beginning : List ℕ) (bound : ℕ) (bounded : IsBound beginning bound) (least : ℕ) (rest : Branches) (waiting : List Candidate)
+module _ (constraint : Tree) (is : IsConstraint MAX_LABELS (constraint_of constraint)) (beginning : List ℕ) (bound : ℕ) (bounded : IsBound beginning bound) (least : ℕ) (rest : Branches) (waiting : List Candidate)
     (state : IsWaiting constraint beginning bound least rest waiting) (label : ℕ) (next : IsNext constraint (length beginning) rest waiting label) (low high : Branches) (opened below after : List Candidate)
     (open_facts : IsOpenedAt constraint beginning bound label low high opened) (part_facts : IsPartedAt constraint (length beginning + 1) label opened below after) where
   pub round-visit : IsVisit constraint (beginning ++ label ∷ []) (label + 1) low below
@@ -458,7 +459,7 @@ module _ (constraint : Tree) (is : IsConstraint 128 (constraint_of constraint)) 
       h done)
 
 -- where nothing comes next, no rest that goes on from here has a completion
-pub nothing-more : (constraint : Tree) (is : IsConstraint 128 (constraint_of constraint)) (beginning : List ℕ) (bound : ℕ) (bounded : IsBound beginning bound) (least : ℕ) (rest : Branches) (waiting : List Candidate)
+pub nothing-more : (constraint : Tree) (is : IsConstraint MAX_LABELS (constraint_of constraint)) (beginning : List ℕ) (bound : ℕ) (bounded : IsBound beginning bound) (least : ℕ) (rest : Branches) (waiting : List Candidate)
     → IsWaiting constraint beginning bound least rest waiting
     → ((ending : List ℕ) → IsEnding constraint (length beginning) rest ending → ⊥) → ((x : ℕ) (ending : List ℕ) → Fits constraint (length beginning + 1) waiting x ending → ⊥)
     → (label a : ℕ) (ending : List ℕ) → least ≤ label → Ascends (beginning ++ label ∷ ending) → Completes (constraint_of constraint) (beginning ++ label ∷ ending) a → ⊥
@@ -476,7 +477,7 @@ same_lists (x ∷ xs) (y ∷ ys) l h =
     (λ i. one i ∷ others i)
 
 -- the narrowed sets are the up-sets
-pub narrowed-up_sets : (constraint : Tree) → IsConstraint 128 (constraint_of constraint) → (n : ℕ) (old new : List (List ℕ)) → n ≤ 128 → old ≡ map (λ x. count_from 0 n) (count_from 0 n) → length new ≡ length old
+pub narrowed-up_sets : (constraint : Tree) → IsConstraint MAX_LABELS (constraint_of constraint) → (n : ℕ) (old new : List (List ℕ)) → n ≤ MAX_LABELS → old ≡ map (λ x. count_from 0 n) (count_from 0 n) → length new ≡ length old
     → ((k : ℕ) → ((a : ℕ) → IsLabelSet k (get_or old a [])) → (a : ℕ) → IsLabelSet k (get_or new a []))
     → IsNarrowed (constraint_of constraint) [] old new → new ≡ map (λ label. up_set (constraint_of constraint) label n) (count_from 0 n)
 narrowed-up_sets constraint is n old new few e len sets narrowed = same_lists new (map (λ label. up_set (constraint_of constraint) label n) (count_from 0 n)) (len ∙ old_count ∙ sym (length-map' (λ label. up_set (constraint_of constraint) label n) (count_from 0 n) ∙ length-count_from 0 n)) same
@@ -513,7 +514,7 @@ narrowed-up_sets constraint is n old new few e len sets narrowed = same_lists ne
         to b i =
             let two = (narrowed k b there).0 i in
             let range = count_from_range 0 n b (subst (λ l. Contains l b) (old_at k low) two.0) in
-            (rest_law (constraint_of constraint) 128 n k b is).1 (omega (arith, range.1), λ rest done. unsorted rest b (two.1 (sorted rest) (sorted_rises rest) (resorted rest k done)))
+            (rest_law (constraint_of constraint) MAX_LABELS n k b is).1 (omega (arith, range.1), λ rest done. unsorted rest b (two.1 (sorted rest) (sorted_rises rest) (resorted rest k done)))
           where
             resorted : (rest : List ℕ) (x : ℕ) → Completes (constraint_of constraint) rest x → Completes (constraint_of constraint) (sorted rest) x
             resorted rest x done = Has-Rearranged (constraint_of constraint) (kept (Rearranged-sorted rest)) done
@@ -523,7 +524,7 @@ narrowed-up_sets constraint is n old new few e len sets narrowed = same_lists ne
 
         from : (b : ℕ) → IsIn b (up_set (constraint_of constraint) k n) → IsIn b (get_or new k [])
         from b i =
-            let two = (rest_law (constraint_of constraint) 128 n k b is).0 i in
+            let two = (rest_law (constraint_of constraint) MAX_LABELS n k b is).0 i in
             (narrowed k b there).1 (subst (λ l. Contains l b) (sym (old_at k low)) (Contains-count_from 0 n b (omega arith) (let h = two.0 in omega (arith, h))), λ ending h done. two.1 ending done)
 
         new_set : IsLabelSet n (get_or new k [])

@@ -1,5 +1,6 @@
 //! Branches of a constraint's prefix tree: what a walk down the beginnings of its configurations needs. The constraint and the
 //! depth are there for the contracts alone.
+ghost use Rattle.re_labels.specs.declared.TheConstants.{MAX_LABELS};
 ghost use Rattle.re_rests.specs.Spans.{IsEnding, IsFirst, IsSpan, tree_of};
 ghost use Rattle.std.specs.Prelude.{◌≡◌, ◌<◌, ◌↔◌, ◌+◌, ◌∷◌, ℕ, List, MatchOption};
 
@@ -25,7 +26,7 @@ pub fn first_label(
     requires depth { depth < constraint.now.degree }
     ensures { MatchOption result
         ((ending : List ℕ) → IsEnding (tree_of constraint.now nodes.now) depth span ending → ⊥)
-        (λ label. (label < 128) × IsFirst (tree_of constraint.now nodes.now) depth span label) }
+        (λ label. (label < MAX_LABELS) × IsFirst (tree_of constraint.now nodes.now) depth span label) }
 {
     span.first_label(nodes)
 }

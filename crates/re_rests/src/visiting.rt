@@ -46,7 +46,7 @@ fn least_label(
     requires candidates { AreSpans (tree_of constraint.now nodes.now) (depth + 1) candidates.now }
     ensures { MatchOption result
         (((ending : List ℕ) → IsEnding (tree_of constraint.now nodes.now) depth main ending → ⊥) × ((x : ℕ) (ending : List ℕ) → Fits (tree_of constraint.now nodes.now) (depth + 1) candidates.now x ending → ⊥))
-        (λ label. (label < 128) × IsNext (tree_of constraint.now nodes.now) depth main candidates.now label) }
+        (λ label. (label < MAX_LABELS) × IsNext (tree_of constraint.now nodes.now) depth main candidates.now label) }
 {
     let _degree = constraint.degree();
     let mut least = first_label(constraint, nodes, depth, main);
@@ -84,7 +84,7 @@ fn part(
 )
     requires depth { depth < constraint.now.degree }
     requires candidates { AreSpans (tree_of constraint.now nodes.now) depth candidates.now }
-    requires few { length candidates.now ≤ 128 }
+    requires few { length candidates.now ≤ MAX_LABELS }
     requires least { (x other : ℕ) (ending : List ℕ) → Fits (tree_of constraint.now nodes.now) depth candidates.now x (other ∷ ending) → label ≤ other }
     requires below { below.old.items ≡ [] }
     requires after { after.old.items ≡ [] }
@@ -224,7 +224,7 @@ fn narrow(ups: &mut [LabelSet], completions: LabelSet)
 
 // The candidates in a vector.
 fn copied(candidates: &[Candidate]) -> ArrayVec<Candidate, 128>
-    requires { length candidates.now ≤ 128 }
+    requires { length candidates.now ≤ MAX_LABELS }
     ensures { result.items ≡ candidates.now }
 {
     let mut copied = ArrayVec::new();

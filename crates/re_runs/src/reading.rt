@@ -1,4 +1,5 @@
 //! The lines behind the certificate, one after another.
+ghost use Rattle.re_cert.specs.declared.certificate.TheConstants.{MAX_STEPS};
 ghost use Rattle.re_io.specs.declared.read.TheConstants.{MAX_BYTES};
 ghost use Rattle.re_net.specs.FiniteTrees.{IsNumbered};
 ghost use Rattle.re_runs.specs.RunReading.{AreMessages, Fits, Holds, state_of};
@@ -186,7 +187,7 @@ fn add_delivery(
     port: u32,
     number: u32,
 ) -> Result<Place, TextFault>
-    requires few { steps ≤ 64 }
+    requires few { steps ≤ MAX_STEPS }
     ensures { (bound : Bound) → length bound.steps ≡ steps → Fits bound (Place.Deliveries tree deliveries)
         → Holds bound (delivers bound tree deliveries.items line (record { from = from; port = port; number = number })) result }
 {
@@ -214,7 +215,7 @@ fn delivery_line(
     number: u32,
     line: &[u8],
 ) -> Result<Place, TextFault>
-    requires few { steps ≤ 64 }
+    requires few { steps ≤ MAX_STEPS }
     requires within { byte + length line.now ≤ MAX_BYTES }
     ensures { (bound : Bound) → length bound.steps ≡ steps → Fits bound (Place.Deliveries tree deliveries)
         → Holds bound (judged_in byte number (InDeliveries bound tree deliveries.items) line.now) result }

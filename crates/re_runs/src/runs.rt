@@ -1,6 +1,7 @@
 //! Deliveries made one after another on a net, and what its nodes output then.
 ghost use Rattle.re_net.specs.FiniteTrees.{IsFiniteTree, IsNumbered};
 ghost use Rattle.re_net.specs.Nets.{with_message};
+ghost use Rattle.re_net.specs.declared.nets.TheConstants.{MAX_ROUNDS};
 ghost use Rattle.re_runs.specs.RunReading.{AreMessages};
 ghost use Rattle.re_runs.specs.Runs.{Comes, first_illegal, messages_of, standings_of};
 ghost use Rattle.std.specs.Prelude.{◌≡◌, ◌≤◌, [], IfOk, None, fold};
@@ -70,7 +71,7 @@ fn standings<R: Rule>(alloc: Global, net: &mut Net, rule: &mut R) -> Result<Vec<
 /// of its message is above the round of its node; it is the first one. Else each node has its round by the messages of the list, and the
 /// rule's labels at its surroundings exactly where it is active, its round is the bound and its surroundings are full.
 ///
-/// The tree is numbered, the bound at most 64, and each delivery of a message of the tree with a number below the bound. It costs a
+/// The tree is numbered, the bound at most `MAX_ROUNDS`, and each delivery of a message of the tree with a number below the bound. It costs a
 /// delivery of the net for each of them, and an output for each node.
 pub fn run_net<R: Rule>(
     alloc: Global,
@@ -80,7 +81,7 @@ pub fn run_net<R: Rule>(
     rule: &mut R,
 ) -> Result<Run, NoMemory>
     requires numbered { IsNumbered tree }
-    requires few { bound ≤ 64 }
+    requires few { bound ≤ MAX_ROUNDS }
     requires messages { AreMessages tree bound deliveries.now }
     requires degrees { R.degrees rule.old ≡ tree.degrees }
     requires radius { R.radius rule.old ≡ bound }

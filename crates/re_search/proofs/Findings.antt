@@ -30,6 +30,7 @@ use Rattle.re_search.specs.declared.types.Search.TheVariants.{Found as FoundBoun
 use Rattle.re_search.specs.declared.walking.Count.{Count}
 use Rattle.re_search.specs.declared.walking.Walked.{Walked}
 use Rattle.re_search.specs.declared.walking.Walked.TheVariants.{Found, Passed}
+use Rattle.re_cert.specs.declared.certificate.TheConstants.{MAX_STEPS}
 
 -- ---- the trees of a search
 -- the depths of the trees, in order
@@ -77,7 +78,7 @@ module _ (kind : Kind) (depth most : ℕ) (first : NamedProblem) where
   nodes = all_nodes kind depth most first
 
   -- the bound of the path to a success
-  pub found-bound : (steps : List BoundStep) → IsNamedProblem first → depth ≤ 64 → ((node : Node) × (judged_on kind first 0 (all_nodes kind depth most first) ≡ found node) × (node.steps ≡ steps))
+  pub found-bound : (steps : List BoundStep) → IsNamedProblem first → depth ≤ MAX_STEPS → ((node : Node) × (judged_on kind first 0 (all_nodes kind depth most first) ≡ found node) × (node.steps ≡ steps))
       → (is_bound (bound_of kind first (node_at first steps 0)) ≡ true) × (bound_fault (bound_of kind first (node_at first steps 0)) ≡ None) × (search_of kind depth most first ≡ Ok (FoundBound (bound_of kind first (node_at first steps 0))))
   unfolding search_of
   found-bound steps is few (node, e, same) =
@@ -139,22 +140,22 @@ module _ (kind : Kind) (depth most : ℕ) (first : NamedProblem) where
   all-walk : (new : List BoundStep) (r : Result Walked FindFault) → Walks kind first none_yet (flat_map (tree_of kind most first) (depths kind depth)) [] new r → Walks kind first none_yet (all_nodes kind depth most first) [] new r
   all-walk new r w = subst (λ ns. Walks kind first none_yet ns [] new r) (by_depths kind depth most first) w
 
-  pub bound-found : (new : List BoundStep) → IsNamedProblem first → depth ≤ 64 → Walks kind first none_yet (flat_map (tree_of kind most first) (depths kind depth)) [] new (Ok Found)
+  pub bound-found : (new : List BoundStep) → IsNamedProblem first → depth ≤ MAX_STEPS → Walks kind first none_yet (flat_map (tree_of kind most first) (depths kind depth)) [] new (Ok Found)
       → is_bound (bound_of kind first (node_at first new 0)) ≡ true
   bound-found new is few w = (found-bound kind depth most first new is few (all-walk new (Ok Found) w)).0
 
-  pub answers-found : (new : List BoundStep) (certificate : Bound) → IsNamedProblem first → depth ≤ 64 → Walks kind first none_yet (flat_map (tree_of kind most first) (depths kind depth)) [] new (Ok Found)
+  pub answers-found : (new : List BoundStep) (certificate : Bound) → IsNamedProblem first → depth ≤ MAX_STEPS → Walks kind first none_yet (flat_map (tree_of kind most first) (depths kind depth)) [] new (Ok Found)
       → certificate ≡ bound_of kind first (node_at first new 0) → Answers kind depth most first (Ok (FoundBound certificate))
   answers-found new certificate is few w e = (found-bound kind depth most first new is few (all-walk new (Ok Found) w)).2 ∙ ap (λ b. Ok (FoundBound b)) (sym e)
 
-  pub finds-valid : (new : List BoundStep) (certificate : Bound) → IsNamedProblem first → depth ≤ 64 → Walks kind first none_yet (flat_map (tree_of kind most first) (depths kind depth)) [] new (Ok Found)
+  pub finds-valid : (new : List BoundStep) (certificate : Bound) → IsNamedProblem first → depth ≤ MAX_STEPS → Walks kind first none_yet (flat_map (tree_of kind most first) (depths kind depth)) [] new (Ok Found)
       → certificate ≡ bound_of kind first (node_at first new 0) → FindsValid kind (Ok (FoundBound certificate))
   finds-valid new certificate is few w e =
       let none : bound_fault certificate ≡ None = subst (λ b. bound_fault b ≡ None) (sym e) (found-bound kind depth most first new is few (all-walk new (Ok Found) w)).1 in
       let same : certificate.kind ≡ kind = ap (λ (b : Bound). b.kind) e ∙ kind-told kind first (node_at first new 0) (if is_fixed kind then way_back first (node_at first new 0) else None) in
       accepted certificate none ∙ ap (λ k. Accepted k (length certificate.steps)) same
 
-  pub finds-true : (new : List BoundStep) (certificate : Bound) → IsNamedProblem first → depth ≤ 64 → Walks kind first none_yet (flat_map (tree_of kind most first) (depths kind depth)) [] new (Ok Found)
+  pub finds-true : (new : List BoundStep) (certificate : Bound) → IsNamedProblem first → depth ≤ MAX_STEPS → Walks kind first none_yet (flat_map (tree_of kind most first) (depths kind depth)) [] new (Ok Found)
       → certificate ≡ bound_of kind first (node_at first new 0) → AllByRecursion IsNamedProblem (next_problems new) → FindsTrue kind first (Ok (FoundBound certificate))
   finds-true new certificate is few w e named =
       let way : Option (ℕ × List ℕ) = if is_fixed kind then way_back first (node_at first new 0) else None in

@@ -16,6 +16,7 @@ use Rattle.re_maps.specs.declared.verdict.MapVerdict.TheVariants.{Active, Count,
 use Rattle.re_problem.specs.Problems.{Problem}
 use Rattle.re_table.specs.Constraints.{Constraint, has_config}
 use Rattle.re_search.specs.Losses.{are_mapped, is_lost, loses, may_become}
+use Rattle.re_labels.specs.declared.TheConstants.{MAX_LABELS}
 
 -- ---- a verdict that isn't Yes
 not_yes : (a : Bool) (t : Option ℕ) (p q : Option (List ℕ)) (m n : Option Side)
@@ -89,5 +90,5 @@ mapped-below images (x ∷ labels) h =
     let two = and-true (ltb x (length images)) (are_mapped images labels) h in
     ((let l = two.0 in grind (arith, nat_tests)), mapped-below images labels two.1)
 
-pub below-most : (n : ℕ) (images : List ℕ) → n ≤ 128 → AllByRecursion (λ image. image < n) images → AllByRecursion (λ image. image < 128) images
-below-most n images few all = AllByRecursion-weaker (λ image. image < n) (λ image. image < 128) (λ image l. omega arith) images all
+pub below-most : (n : ℕ) (images : List ℕ) → n ≤ MAX_LABELS → AllByRecursion (λ image. image < n) images → AllByRecursion (λ image. image < MAX_LABELS) images
+below-most n images few all = AllByRecursion-weaker (λ image. image < n) (λ image. image < MAX_LABELS) (λ image l. omega arith) images all

@@ -19,6 +19,7 @@ use Rattle.re_search.proofs.Firsts.{none-there, some-there}
 use Rattle.re_search.proofs.Losses.{apart-becomes}
 use Rattle.re_search.specs.Losses.{may_become}
 use Rattle.re_search.specs.Walking.{node_at}
+use Rattle.re_cert.specs.declared.certificate.TheConstants.{MAX_STEPS}
 
 -- the search through all orders of the labels
 pub renaming-is : (problem target : NamedProblem) (rest : List ℕ) → rest ≡ count_from 0 (length problem.names) → length problem.names ≡ length target.names → length problem.names ≤ 8
@@ -61,6 +62,6 @@ module _ (first : NamedProblem) (steps : List BoundStep) (left : ℕ) where
   no-way none = none-there (way_to first (node_at first steps left)) 0 (length steps) (λ j m. let y : 0 + j ≡ j = omega arith in ap (way_to first (node_at first steps left)) y ∙ none j m)
 
 -- a bound has few steps
-pub bound-short : (kind : Kind) (first : NamedProblem) (node : Node) (o : Option (ℕ × List ℕ)) → is_bound (bound_with kind first node o) ≡ true → length node.steps ≤ 64
-bound-short kind first node None h = let two = (and-true (leb (length node.steps) 64) _ (and-true (leb (length node.steps) 64 && _) _ (and-true (leb (length node.steps) 64 && _ && _) _ h).0).0).0 in grind (arith, nat_tests)
-bound-short kind first node (Some way) h = let two = (and-true (leb (length node.steps) 64) _ (and-true (leb (length node.steps) 64 && _) _ (and-true (leb (length node.steps) 64 && _ && _) _ h).0).0).0 in grind (arith, nat_tests)
+pub bound-short : (kind : Kind) (first : NamedProblem) (node : Node) (o : Option (ℕ × List ℕ)) → is_bound (bound_with kind first node o) ≡ true → length node.steps ≤ MAX_STEPS
+bound-short kind first node None h = let two = (and-true (leb (length node.steps) MAX_STEPS) _ (and-true (leb (length node.steps) MAX_STEPS && _) _ (and-true (leb (length node.steps) MAX_STEPS && _ && _) _ h).0).0).0 in grind (arith, nat_tests)
+bound-short kind first node (Some way) h = let two = (and-true (leb (length node.steps) MAX_STEPS) _ (and-true (leb (length node.steps) MAX_STEPS && _) _ (and-true (leb (length node.steps) MAX_STEPS && _ && _) _ h).0).0).0 in grind (arith, nat_tests)

@@ -1,5 +1,6 @@
 //! Searches for bounds.
 ghost use Rattle.re_cert.specs.Bounds.{is_bound, is_fixed};
+ghost use Rattle.re_cert.specs.declared.certificate.TheConstants.{MAX_STEPS};
 ghost use Rattle.re_search.specs.Searches.{Answers, FindsTrue, FindsValid};
 ghost use Rattle.re_search.specs.Walking.{least_depth, node_at};
 ghost use Rattle.re_tree.specs.Nodes.{way_back};
@@ -18,7 +19,7 @@ use std::alloc::Global;
 
 // Each label with its image.
 fn pairs_of(alloc: Global, images: &[u8]) -> Result<Vec<(u8, u8)>, NoMemory>
-    requires { length images.now ≤ 64 }
+    requires { length images.now ≤ MAX_STEPS }
     ensures { IfOk result (λ pairs. pairs.items ≡ pairs_of 0 images.now) }
 {
     let mut pairs = Vec::new(alloc);
@@ -30,7 +31,7 @@ fn pairs_of(alloc: Global, images: &[u8]) -> Result<Vec<(u8, u8)>, NoMemory>
 
 // The way back from the end of the path, in a fixed point.
 fn back_of(tree: &Tree, path: &[Step]) -> Option<Way>
-    requires { length path.now ≤ 64 }
+    requires { length path.now ≤ MAX_STEPS }
     ensures { MatchOption result ((if is_fixed tree.now.kind then way_back tree.now.first.now (node_at tree.now.first.now path.now 0) else None) ≡ None)
         (λ way. (if is_fixed tree.now.kind then way_back tree.now.first.now (node_at tree.now.first.now path.now 0) else None) ≡ Some (way.number, way.images.items)) }
 {
@@ -82,7 +83,7 @@ fn least_depth(kind: Kind, depth: u8) -> u8
 // Searches the trees in turn: of each depth up to the greatest at upper bounds, else of this depth alone.
 fn search(tree: &Tree, derivations: &mut Derivations, depth: u8) -> Result<Search, FindFault>
     requires most { tree.now.most ≤ 8 }
-    requires depth { depth ≤ 64 }
+    requires depth { depth ≤ MAX_STEPS }
     ensures answer { Answers tree.now.kind depth tree.now.most tree.now.first.now result }
     ensures valid { FindsValid tree.now.kind result }
     ensures means { FindsTrue tree.now.kind tree.now.first.now result }
@@ -123,7 +124,7 @@ pub fn find_lower(
     steps: u8,
     merges: u8,
 ) -> Result<Search, FindFault>
-    requires steps { steps ≤ 64 }
+    requires steps { steps ≤ MAX_STEPS }
     requires merges { merges ≤ 8 }
     ensures answer { Answers Kind.Lower steps merges first.now result }
     ensures valid { FindsValid Kind.Lower result }
@@ -144,7 +145,7 @@ pub fn find_lower(
 ///
 /// The answers and the cost are those of `find_lower`, with the trees one after another.
 pub fn find_upper(alloc: Global, first: &Problem, steps: u8, drops: u8) -> Result<Search, FindFault>
-    requires steps { steps ≤ 64 }
+    requires steps { steps ≤ MAX_STEPS }
     requires drops { drops ≤ 8 }
     ensures answer { Answers Kind.Upper steps drops first.now result }
     ensures valid { FindsValid Kind.Upper result }
@@ -172,7 +173,7 @@ pub fn find_fixed(
     merges: u8,
 ) -> Result<Search, FindFault>
     requires least { 1 ≤ steps }
-    requires steps { steps ≤ 64 }
+    requires steps { steps ≤ MAX_STEPS }
     requires merges { merges ≤ 8 }
     ensures answer { Answers Kind.Fixed steps merges first.now result }
     ensures valid { FindsValid Kind.Fixed result }

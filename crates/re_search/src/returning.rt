@@ -1,4 +1,5 @@
 //! Problems on a path that the problem at its end is an image of.
+ghost use Rattle.re_cert.specs.declared.certificate.TheConstants.{MAX_STEPS};
 ghost use Rattle.re_check.specs.Verdicts.{is_yes};
 ghost use Rattle.re_config.specs.Orders.{orders};
 ghost use Rattle.re_labels.specs.Lists.{count_from};
@@ -137,7 +138,7 @@ fn renaming_to(problem: &Problem, target: &Problem) -> Option<ArrayVec<u8, 8>>
 /// at most 8 labels, and degrees and counts allow it, one-to-one maps are tried in order, label by label; a beginning is left as soon
 /// as it loses a configuration.
 pub(crate) fn way_back(first: &Problem, path: &[Step]) -> Option<Way>
-    requires { length path.now ≤ 64 }
+    requires { length path.now ≤ MAX_STEPS }
     ensures { (left : ℕ) → MatchOption result (way_back first.now (node_at first.now path.now left) ≡ None)
         (λ way. way_back first.now (node_at first.now path.now left) ≡ Some (way.number, way.images.items)) }
 {

@@ -1,5 +1,6 @@
 //! The walk over a search tree, with one path in memory.
 ghost use Rattle.re_cert.specs.Bounds.{is_lower};
+ghost use Rattle.re_cert.specs.declared.certificate.TheConstants.{MAX_STEPS};
 ghost use Rattle.re_changes.specs.Changes.{changed_times};
 ghost use Rattle.re_problem.specs.NamedProblems.{unnamed};
 ghost use Rattle.re_search.specs.Walking.{IsLevel, Visits, Walks, below_made, node_at};
@@ -61,7 +62,7 @@ pub(crate) enum Visited {
 
 // Whether the node at the end of the path is a success.
 fn succeeds(tree: &Tree, path: &[Step], left: u8, zero: bool) -> bool
-    requires short { length path.now ≤ 64 }
+    requires short { length path.now ≤ MAX_STEPS }
     requires zero { zero ≡ is_zero (node_at tree.now.first.now path.now left).problem }
     ensures { result ≡ succeeds tree.now.kind tree.now.first.now (node_at tree.now.first.now path.now left) }
 {
@@ -86,7 +87,7 @@ fn visit(
     path: &[Step],
     left: u8,
 ) -> Result<Visited, FindFault>
-    requires { length path.now + left ≤ 64 }
+    requires { length path.now + left ≤ MAX_STEPS }
     ensures { Visits tree.now.kind tree.now.first.now (node_at tree.now.first.now path.now left) result }
 {
     let problem = end_of(tree.first, path);
@@ -116,7 +117,7 @@ pub(crate) fn walk(
     count: Count,
 ) -> Result<Walked, FindFault>
     requires most { tree.now.most ≤ 8 }
-    requires short { length path.old.items + left ≤ 64 }
+    requires short { length path.old.items + left ≤ MAX_STEPS }
     requires nodes { count.nodes ≤ MAX_NODES }
     requires cut { count.cut ≤ count.nodes }
     ensures { Walks tree.now.kind tree.now.first.now count (preorder tree.now.kind tree.now.most left (node_at tree.now.first.now path.old.items left)) path.old.items path.new.items result }
@@ -161,7 +162,7 @@ fn walk_children(
     count: Count,
 ) -> Result<Walked, FindFault>
     requires most { tree.now.most ≤ 8 }
-    requires short { length path.old.items + suc left ≤ 64 }
+    requires short { length path.old.items + suc left ≤ MAX_STEPS }
     requires nodes { count.nodes ≤ MAX_NODES }
     requires cut { count.cut ≤ count.nodes }
     requires derived { derived ≡ derivation (unnamed (node_at tree.now.first.now path.old.items (suc left)).problem) }
@@ -209,7 +210,7 @@ fn walk_changed(
 ) -> Result<Walked, FindFault>
     requires most { tree.now.most ≤ 8 }
     requires changes { changes ≤ 8 }
-    requires short { length path.old.items + suc left ≤ 64 }
+    requires short { length path.old.items + suc left ≤ MAX_STEPS }
     requires nodes { count.nodes ≤ MAX_NODES }
     requires cut { count.cut ≤ count.nodes }
     requires level { IsLevel (node_at tree.now.first.now path.old.items (suc left)).problem level.now }
@@ -266,7 +267,7 @@ fn walk_child(
     count: Count,
 ) -> Result<Walked, FindFault>
     requires most { tree.now.most ≤ 8 }
-    requires short { length path.old.items + suc left ≤ 64 }
+    requires short { length path.old.items + suc left ≤ MAX_STEPS }
     requires nodes { count.nodes ≤ MAX_NODES }
     requires cut { count.cut ≤ count.nodes }
     requires level { IsLevel (node_at tree.now.first.now path.old.items (suc left)).problem level.now }

@@ -10,11 +10,12 @@ use Rattle.re_labels.proofs.Places.{place_of-below}
 use Rattle.re_labels.specs.Lists.{place_of}
 use Rattle.re_labels.specs.ListSets.{list_set, with_list}
 use Rattle.re_table.proofs.Insertions.{length-with_list_most}
+use Rattle.re_labels.specs.declared.TheConstants.{MAX_LABELS}
 
-pub places_below : (sets row : List (List ℕ)) (labels : List ℕ) → length sets ≤ 128 → ((set : List ℕ) → Contains row set → Contains sets set) → labels ≡ map (place_of sets) row → AllByRecursion (λ x. x < 128) labels
-places_below sets row labels few there e = subst (AllByRecursion (λ x. x < 128)) (sym e) (go row there)
+pub places_below : (sets row : List (List ℕ)) (labels : List ℕ) → length sets ≤ MAX_LABELS → ((set : List ℕ) → Contains row set → Contains sets set) → labels ≡ map (place_of sets) row → AllByRecursion (λ x. x < MAX_LABELS) labels
+places_below sets row labels few there e = subst (AllByRecursion (λ x. x < MAX_LABELS)) (sym e) (go row there)
   where
-    go : (row : List (List ℕ)) → ((set : List ℕ) → Contains row set → Contains sets set) → AllByRecursion (λ x. x < 128) (map (place_of sets) row)
+    go : (row : List (List ℕ)) → ((set : List ℕ) → Contains row set → Contains sets set) → AllByRecursion (λ x. x < MAX_LABELS) (map (place_of sets) row)
     go [] h = tt
     go (s ∷ row) h = let l : place_of sets s < length sets = place_of-below sets s (h s (Contains-here s row)) in (omega (arith, l, few), go row (λ t i. h t (Contains-later t s row i)))
 

@@ -20,6 +20,7 @@ use Rattle.re_labels.specs.Lists.{IsBefore, IsRising, count_from}
 use Rattle.re_labels.specs.ListSets.{list_set, with_list}
 use Rattle.re_labels.specs.Names.{IsName, IsNames, is_name}
 use Rattle.re_step.specs.LabelNames.{label_name, label_names, letter, three_digits}
+use Rattle.re_labels.specs.declared.TheConstants.{MAX_LABELS}
 
 -- ---- tests that compute
 rising_test : List (List ℕ) → Bool
@@ -31,7 +32,7 @@ letters : List (List ℕ)
 letters = map (λ i. letter i ∷ []) (count_from 0 52)
 
 numbered : List (List ℕ)
-numbered = map (λ i. codes "L" ++ three_digits i) (count_from 0 128)
+numbered = map (λ i. codes "L" ++ three_digits i) (count_from 0 MAX_LABELS)
 
 letters_rise : rising_test letters ≡ true
 unfolding rising_test letters
@@ -87,7 +88,7 @@ map_alike f g h [] = refl
 map_alike f g h (x ∷ xs) = λ i. h x i ∷ map_alike f g h xs i
 
 -- the names are the first of the letters, or of the numbered ones
-names_are : (count : ℕ) → count ≤ 128 → (label_names count ≡ take count letters) ⊎ (label_names count ≡ take count numbered)
+names_are : (count : ℕ) → count ≤ MAX_LABELS → (label_names count ≡ take count letters) ⊎ (label_names count ≡ take count numbered)
 unfolding letters numbered
 names_are count most = go (leb count 52) refl
   where
@@ -95,9 +96,9 @@ names_are count most = go (leb count 52) refl
     go true e = inl (map_alike (label_name count) (λ i. letter i ∷ []) (λ i. ap (λ b. cond b (letter i ∷ []) (codes "L" ++ three_digits i)) e) (count_from 0 count)
         ∙ sym (take_counted (λ i. letter i ∷ []) 0 count 52 (leb-true count 52 e)))
     go false e = inr (map_alike (label_name count) (λ i. codes "L" ++ three_digits i) (λ i. ap (λ b. cond b (letter i ∷ []) (codes "L" ++ three_digits i)) e) (count_from 0 count)
-        ∙ sym (take_counted (λ i. codes "L" ++ three_digits i) 0 count 128 most))
+        ∙ sym (take_counted (λ i. codes "L" ++ three_digits i) 0 count MAX_LABELS most))
 
-pub IsNames-label_names : (count : ℕ) → count ≤ 128 → IsNames (label_names count)
+pub IsNames-label_names : (count : ℕ) → count ≤ MAX_LABELS → IsNames (label_names count)
 IsNames-label_names count most = record {
   ascends = elim (names_are count most) [
     | inl e ↦ subst (IsRising IsBefore) (sym e) (rising_take count letters (from_rising_test letters letters_rise))
@@ -134,7 +135,7 @@ names_step count i name l n names after e few a =
     let most = length-with_list_most names name in
     (is, subst (λ w. length w ≤ i + 1) (sym a) (omega (arith, most, few)))
 
-pub names_done : (count i : ℕ) (names : List (List ℕ)) → count ≤ 128 → count ≤ i → names ≡ list_set (take i (label_names count)) → names ≡ label_names count
+pub names_done : (count i : ℕ) (names : List (List ℕ)) → count ≤ MAX_LABELS → count ≤ i → names ≡ list_set (take i (label_names count)) → names ≡ label_names count
 names_done count i names most l e =
     e ∙ ap list_set (take_all (label_names count) i (let n = length-label_names count in omega (arith, n, l)))
     ∙ one_set (list_set (label_names count)) (label_names count) (rising-list_set (label_names count)) (IsNames-label_names count most).ascends (In-list_set (label_names count)) (list_set-In (label_names count))

@@ -4,7 +4,7 @@ use Rattle.re_problem.proofs.ZeroPlaces.{get-Contains}
 use Rattle.re_config.proofs.Rows.{number_filled}
 use Rattle.std.proofs.Common.{◌≡◌, ℕ, zero, suc, ◌<◌, ◌≤◌, Bool, false, cond, ltb, List, [], ◌∷◌, length, map, flat_map, get_or, Contains, Option, None, Some, is_some, inl, refl, sym, ap, ◌∙◌, subst, arith}
 use Rattle.std.specs.List.{AllByRecursion}
-use Rattle.std.specs.Prelude.{MatchOption}
+use Rattle.std.specs.Prelude.{◌*◌, MatchOption}
 use Rattle.std.proofs.lemmas.Bool.{false≢true}
 use Rattle.re_config.proofs.Sorting.{sorted_again}
 use Rattle.re_config.specs.Configs.{IsConfig, sorted}
@@ -29,6 +29,9 @@ use Rattle.re_step.specs.LabelNames.{label_names}
 use Rattle.re_step.specs.declared.derivation.StepLimit.{StepLimit}
 use Rattle.re_step.specs.declared.derivation.StepLimit.TheVariants.{Configurations, Labels, Rows}
 use Rattle.re_labels.proofs.Numbers.{not_same}
+use Rattle.re_table.specs.declared.constraint_table.TheConstants.{MAX_CONFIGURATIONS}
+use Rattle.re_labels.specs.declared.TheConstants.{MAX_LABELS}
+use Rattle.re_config.specs.declared.TheConstants.{MAX_ROWS}
 
 -- ---- the sets of the maximal rows
 set_is : (K : Constraint) (n : ℕ) (row : List (List ℕ)) → Contains (max_rows K n) row → (set : List ℕ) → Contains row set → IsLabelSet n set × (0 < length set)
@@ -38,15 +41,15 @@ pub rows_filled : (K : Constraint) (n : ℕ) (rows : List (List (List ℕ))) →
 rows_filled K n rows e = subst (AllByRecursion (AllByRecursion (λ set. 0 < number set))) (sym e)
     (AllByRecursion-from_contains (AllByRecursion (λ set. 0 < number set)) (max_rows K n) (λ row held. AllByRecursion-from_contains (λ set. 0 < number set) row (λ set there. number_filled set (set_is K n row held set there).1)))
 
-pub rows_sets : (K : Constraint) (n : ℕ) (rows : List (List (List ℕ))) → n ≤ 128 → rows ≡ max_rows K n → AllByRecursion (AllByRecursion (IsLabelSet 128)) rows
-rows_sets K n rows most e = subst (AllByRecursion (AllByRecursion (IsLabelSet 128))) (sym e)
-    (AllByRecursion-from_contains (AllByRecursion (IsLabelSet 128)) (max_rows K n) (λ row held. AllByRecursion-from_contains (IsLabelSet 128) row (λ set there.
-    let is = (set_is K n row held set there).0 in (is.0, AllByRecursion-weaker (λ x. x < n) (λ x. x < 128) (λ x l. omega (arith, l, most)) set is.1))))
+pub rows_sets : (K : Constraint) (n : ℕ) (rows : List (List (List ℕ))) → n ≤ MAX_LABELS → rows ≡ max_rows K n → AllByRecursion (AllByRecursion (IsLabelSet MAX_LABELS)) rows
+rows_sets K n rows most e = subst (AllByRecursion (AllByRecursion (IsLabelSet MAX_LABELS))) (sym e)
+    (AllByRecursion-from_contains (AllByRecursion (IsLabelSet MAX_LABELS)) (max_rows K n) (λ row held. AllByRecursion-from_contains (IsLabelSet MAX_LABELS) row (λ set there.
+    let is = (set_is K n row held set there).0 in (is.0, AllByRecursion-weaker (λ x. x < n) (λ x. x < MAX_LABELS) (λ x l. omega (arith, l, most)) set is.1))))
 
 pub rows_alike : (K : Constraint) (n d : ℕ) (rows : List (List (List ℕ))) → d ≡ K.degree → rows ≡ max_rows K n → AllByRecursion (λ row. length row ≡ d) rows
 rows_alike K n d rows f e = subst (AllByRecursion (λ row. length row ≡ d)) (sym e) (AllByRecursion-from_contains (λ row. length row ≡ d) (max_rows K n) (λ row held. (maximal K n row held).is_row.count ∙ sym f))
 
-pub rows_few : (K : Constraint) (n : ℕ) (rows : List (List (List ℕ))) → K.degree ≤ 6 → rows ≡ max_rows K n → length rows ≤ 1024 → length (flat_map (λ row. row) rows) ≤ 6144
+pub rows_few : (K : Constraint) (n : ℕ) (rows : List (List (List ℕ))) → K.degree ≤ 6 → rows ≡ max_rows K n → length rows ≤ MAX_ROWS → length (flat_map (λ row. row) rows) ≤ 6 * MAX_ROWS
 rows_few K n rows six e few =
     let each : AllByRecursion (λ row. length row ≤ 6) rows
     = AllByRecursion-weaker (λ row. length row ≡ K.degree) (λ row. length row ≤ 6) (λ row f. omega (arith, f, six)) rows (rows_alike K n K.degree rows refl e) in
@@ -73,13 +76,13 @@ active_is K n rows sets configs e f c =
     ∙ one_set (list_set there) there (rising-list_set there) (rising-max_configs K n) (In-list_set there) (list_set-In there)
 
 -- ---- it is a problem with names
-wider : (n : ℕ) (constraint : Constraint) → n ≤ 128 → IsConstraint n constraint → IsConstraint 128 constraint
+wider : (n : ℕ) (constraint : Constraint) → n ≤ MAX_LABELS → IsConstraint n constraint → IsConstraint MAX_LABELS constraint
 wider n constraint few is = record {
   least = is.least;
   most = is.most;
-  configs = AllByRecursion-weaker (IsConfig constraint.degree n) (IsConfig constraint.degree 128) (λ config c. record {
+  configs = AllByRecursion-weaker (IsConfig constraint.degree n) (IsConfig constraint.degree MAX_LABELS) (λ config c. record {
     count = c.count;
-    below = AllByRecursion-weaker (λ x. x < n) (λ x. x < 128) (λ x l. omega (arith, l, few)) config c.below;
+    below = AllByRecursion-weaker (λ x. x < n) (λ x. x < MAX_LABELS) (λ x l. omega (arith, l, few)) config c.below;
     ascends = c.ascends;
   }) constraint.configs is.configs;
   ascends = is.ascends;
@@ -109,7 +112,7 @@ each_occurs P label l =
     let at : place_of sets set ≡ label = place_again sets (rising-max_sets P.passive P.labels) label l in
     (map (place_of sets) r.0, Contains-map (map (place_of sets)) (max_rows P.passive P.labels) r.0 r.1, subst (Contains (map (place_of sets) r.0)) at (Contains-map (place_of sets) r.0 set r.2))
 
-pub IsNamedProblem-derived : (P : Problem) → IsProblem P → length (max_sets P.passive P.labels) ≤ 128 → IsNamedProblem (named_derived P)
+pub IsNamedProblem-derived : (P : Problem) → IsProblem P → length (max_sets P.passive P.labels) ≤ MAX_LABELS → IsNamedProblem (named_derived P)
 IsNamedProblem-derived P is few =
     let n = length (max_sets P.passive P.labels) in
     record {
@@ -118,7 +121,7 @@ IsNamedProblem-derived P is few =
       occur = λ label l. inl (each_occurs P label (subst (λ m. label < m) (length-label_names n) l));
     }
 
-pub built_is : (P : Problem) (names : List (List ℕ)) (active passive : Constraint) (result : Option NamedProblem) → IsProblem P → length (max_sets P.passive P.labels) ≤ 128
+pub built_is : (P : Problem) (names : List (List ℕ)) (active passive : Constraint) (result : Option NamedProblem) → IsProblem P → length (max_sets P.passive P.labels) ≤ MAX_LABELS
     → names ≡ label_names (length (max_sets P.passive P.labels)) → active ≡ (derived P).active → passive ≡ (derived P).passive → result ≡ built names active passive → result ≡ Some (named_derived P)
 built_is P names active passive result is few n a p e =
     let whole : built names active passive ≡ built (label_names (length (max_sets P.passive P.labels))) (derived P).active (derived P).passive = (λ i. built (n i) (a i) (p i)) in
@@ -139,10 +142,10 @@ some_apart x e = false≢true (ap is_some e)
 abbrev limit_by : Bool → Bool → Bool → ℕ → Option StepLimit
 limit_by rows labels configs count = cond rows (Some Rows) (cond labels (Some (Labels count)) (cond configs (Some Configurations) None))
 
-tests : (P : Problem) (a b c : Bool) → ltb 1024 (length (max_rows P.passive P.labels)) ≡ a → ltb 128 (length (max_sets P.passive P.labels)) ≡ b → ltb 1048576 (length (derived P).passive.configs) ≡ c
+tests : (P : Problem) (a b c : Bool) → ltb MAX_ROWS (length (max_rows P.passive P.labels)) ≡ a → ltb MAX_LABELS (length (max_sets P.passive P.labels)) ≡ b → ltb MAX_CONFIGURATIONS (length (derived P).passive.configs) ≡ c
     → step_limit P ≡ limit_by a b c (length (max_sets P.passive P.labels))
 tests P a b c e f g = λ i. limit_by (e i) (f i) (g i) (length (max_sets P.passive P.labels))
 
-pub no_limit : (P : Problem) → length (max_rows P.passive P.labels) ≤ 1024 → length (max_sets P.passive P.labels) ≤ 128 → length (derived P).passive.configs ≤ 1048576 → step_limit P ≡ None
+pub no_limit : (P : Problem) → length (max_rows P.passive P.labels) ≤ MAX_ROWS → length (max_sets P.passive P.labels) ≤ MAX_LABELS → length (derived P).passive.configs ≤ MAX_CONFIGURATIONS → step_limit P ≡ None
 no_limit P rows labels configs =
-    tests P false false false (ltb_not 1024 (length (max_rows P.passive P.labels)) rows) (ltb_not 128 (length (max_sets P.passive P.labels)) labels) (ltb_not 1048576 (length (derived P).passive.configs) configs)
+    tests P false false false (ltb_not MAX_ROWS (length (max_rows P.passive P.labels)) rows) (ltb_not MAX_LABELS (length (max_sets P.passive P.labels)) labels) (ltb_not MAX_CONFIGURATIONS (length (derived P).passive.configs) configs)

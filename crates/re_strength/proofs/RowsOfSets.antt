@@ -20,40 +20,41 @@ use Rattle.re_labels.specs.Sets.{IsLabelSet, number, set_of}
 use Rattle.re_table.proofs.Goodness.{IsDominated-is_dominated, filled-is_full, is_dominated-IsDominated}
 use Rattle.re_table.specs.GoodRows.{IsDominated, is_dominated}
 use Rattle.re_strength.specs.Sets.{AreSets}
+use Rattle.re_labels.specs.declared.TheConstants.{MAX_LABELS}
 
 pub AreSets-more : (n m : ℕ) → n ≤ m → (sets : List (List ℕ)) → AreSets n sets → AreSets m sets
 AreSets-more n m h sets k = AllByRecursion-weaker (λ s. IsLabelSet n s × (0 < length s)) (λ s. IsLabelSet m s × (0 < length s))
     (λ s a. ((a.0.0, AllByRecursion-weaker (λ x. x < n) (λ x. x < m) (λ x l. omega (arith, l, h)) s a.0.1), a.1)) sets k
 
-pub in_order_moved : (sets : List (List ℕ)) → AreSets 128 sets → Rearranged sets (in_order 128 sets)
-in_order_moved sets h = subst (λ t. Rearranged t (in_order 128 sets)) (row_numbers 128 sets h) (Rearranged-map (set_of 128) (Rearranged-sorted (map number sets)))
+pub in_order_moved : (sets : List (List ℕ)) → AreSets MAX_LABELS sets → Rearranged sets (in_order MAX_LABELS sets)
+in_order_moved sets h = subst (λ t. Rearranged t (in_order MAX_LABELS sets)) (row_numbers MAX_LABELS sets h) (Rearranged-map (set_of MAX_LABELS) (Rearranged-sorted (map number sets)))
 
 from_numbers : (r : List (List ℕ)) → IsRising (λ x y. x ≤ y) (map number r) → IsRising (λ s t. number s ≤ number t) r
 from_numbers [] h = tt
 from_numbers (s ∷ []) h = tt
 from_numbers (s ∷ t ∷ r) h = (h.0, from_numbers (t ∷ r) h.1)
 
-numbers_below : (sets : List (List ℕ)) → AreSets 128 sets → AllByRecursion (λ x. x < 2 ^ 128) (map number sets)
+numbers_below : (sets : List (List ℕ)) → AreSets MAX_LABELS sets → AllByRecursion (λ x. x < 2 ^ MAX_LABELS) (map number sets)
 numbers_below [] h = tt
-numbers_below (s ∷ sets) h = ((set_of-number 128 s h.0.0).0, numbers_below sets h.1)
+numbers_below (s ∷ sets) h = ((set_of-number MAX_LABELS s h.0.0).0, numbers_below sets h.1)
 
-pub in_order_row : (n : ℕ) → n ≤ 128 → (d : ℕ) (sets : List (List ℕ)) → length sets ≡ d → AreSets n sets → IsRow d n (in_order 128 sets)
+pub in_order_row : (n : ℕ) → n ≤ MAX_LABELS → (d : ℕ) (sets : List (List ℕ)) → length sets ≡ d → AreSets n sets → IsRow d n (in_order MAX_LABELS sets)
 in_order_row n few d sets e h =
-    let whole = AreSets-more n 128 few sets h in
+    let whole = AreSets-more n MAX_LABELS few sets h in
     let p = in_order_moved sets whole in
     let v = sorted (map number sets) in
-    let below = AllByRecursion-Rearranged (λ x. x < 2 ^ 128) (Rearranged-sorted (map number sets)) (numbers_below sets whole) in
+    let below = AllByRecursion-Rearranged (λ x. x < 2 ^ MAX_LABELS) (Rearranged-sorted (map number sets)) (numbers_below sets whole) in
     record {
       count = sym (length-Rearranged p) ∙ e;
       sets = AreSets-Rearranged n p h;
-      ascends = from_numbers (in_order 128 sets) (subst (IsRising (λ x y. x ≤ y)) (sym (numbers_back 128 v below)) (sorted_rises (map number sets)));
+      ascends = from_numbers (in_order MAX_LABELS sets) (subst (IsRising (λ x y. x ≤ y)) (sym (numbers_back MAX_LABELS v below)) (sorted_rises (map number sets)));
     }
 
-pub made : (sets : List (List ℕ)) (o : Option (List (List ℕ))) → 2 ≤ length sets → length sets ≤ 6 → AreSets 128 sets → o ≡ row_of 128 sets → o ≡ Some (in_order 128 sets)
+pub made : (sets : List (List ℕ)) (o : Option (List (List ℕ))) → 2 ≤ length sets → length sets ≤ 6 → AreSets MAX_LABELS sets → o ≡ row_of MAX_LABELS sets → o ≡ Some (in_order MAX_LABELS sets)
 made sets o two six h e = e ∙ sym (row_found sets (sorted (map number sets)) two six (filled-is_full sets (AllByRecursion-weaker _ _ (λ s a. a.1) sets h)) refl)
 
 -- what dominates the row dominates the sets, and the other way round
-pub sets_dominated : (rows : List (List (List ℕ))) (sets row : List (List ℕ)) (r : Bool) → AreSets 128 sets → row ≡ in_order 128 sets → r ≡ is_dominated rows row
+pub sets_dominated : (rows : List (List (List ℕ))) (sets row : List (List ℕ)) (r : Bool) → AreSets MAX_LABELS sets → row ≡ in_order MAX_LABELS sets → r ≡ is_dominated rows row
     → IsTrue r ↔ IsDominated rows sets
 sets_dominated rows sets row r h e told =
     let p : Rearranged sets row = subst (Rearranged sets) (sym e) (in_order_moved sets h) in (

@@ -22,6 +22,7 @@ use Rattle.re_table.specs.GoodRows.{IsGood}
 use Rattle.re_table.specs.Strength.{up_set}
 use Rattle.re_strength.specs.Choosing.{AreGoodChoices}
 use Rattle.re_strength.specs.Held.{IsWeakest, ups_in}
+use Rattle.re_labels.specs.declared.TheConstants.{MAX_LABELS}
 
 -- the up-sets of the labels below m
 abbrev pub up_sets : Constraint → ℕ → ℕ → List (List ℕ)
@@ -49,7 +50,7 @@ module _ (constraint : Constraint) (n : ℕ) (ups : List (List ℕ)) (e : ups �
   pub ups_below : (x y : ℕ) → x < n → IsIn y (get_or ups x []) → y < n
   ups_below x y h i = (IsIn-up_set_cases constraint x y n (subst (IsIn y) (up_at x [] h) i)).0
 
-  pub stronger : IsConstraint 128 constraint → HasStronger constraint n (ups_in ups)
+  pub stronger : IsConstraint MAX_LABELS constraint → HasStronger constraint n (ups_in ups)
   stronger fine x y = (there, back)
     where
       there : IsIn y (ups_in ups x) → IsAbove constraint n y x
@@ -61,12 +62,12 @@ module _ (constraint : Constraint) (n : ℕ) (ups : List (List ℕ)) (e : ups �
       back : IsAbove constraint n y x → IsIn y (ups_in ups x)
       back (inl same) = elim (cases_lt x n) [
         | inl h ↦ subst (IsIn y) (sym (up_at x (x ∷ []) h))
-            (subst (λ z. IsIn z (up_set constraint x n)) (sym same) (IsIn-up_set constraint x x n h (IsAtLeastAsStrong-refl constraint 128 x fine)))
+            (subst (λ z. IsIn z (up_set constraint x n)) (sym same) (IsIn-up_set constraint x x n h (IsAtLeastAsStrong-refl constraint MAX_LABELS x fine)))
         | inr h ↦ subst (IsIn y) (sym (up_past x h)) (subst (λ z. IsIn z (x ∷ [])) (sym same) (Contains-here x []))
       ]
       back (inr three) = subst (IsIn y) (sym (up_at x (x ∷ []) three.0)) (IsIn-up_set constraint x y n three.1 three.2)
 
-  pub ups_strong : IsConstraint 128 constraint → IsStrength constraint (ups_in ups)
+  pub ups_strong : IsConstraint MAX_LABELS constraint → IsStrength constraint (ups_in ups)
   ups_strong fine = strength_law constraint n (ups_in ups) (stronger fine)
 
 -- ---- a configuration whose labels go up
@@ -199,12 +200,12 @@ pub label_sets_more : (n m : ℕ) → n ≤ m → (sets : List (List ℕ)) → A
 label_sets_more n m h sets k = AllByRecursion-weaker (IsLabelSet n) (IsLabelSet m) (λ s a. (a.0, AllByRecursion-weaker (λ x. x < n) (λ x. x < m) (λ x l. omega (arith, l, h)) s a.1)) sets k
 
 -- a constraint of labels below n
-pub constraint_below : (constraint : Constraint) (n : ℕ) → IsConstraint 128 constraint → AllByRecursion (AllByRecursion (λ x. x < n)) constraint.configs → IsConstraint n constraint
+pub constraint_below : (constraint : Constraint) (n : ℕ) → IsConstraint MAX_LABELS constraint → AllByRecursion (AllByRecursion (λ x. x < n)) constraint.configs → IsConstraint n constraint
 constraint_below constraint n fine below = record {
   least = fine.least;
   most = fine.most;
   configs = AllByRecursion-from_contains (IsConfig constraint.degree n) constraint.configs (λ c h.
-      let is : IsConfig constraint.degree 128 c = AllByRecursion-contains (IsConfig constraint.degree 128) constraint.configs c fine.configs h in
+      let is : IsConfig constraint.degree MAX_LABELS c = AllByRecursion-contains (IsConfig constraint.degree MAX_LABELS) constraint.configs c fine.configs h in
       record { count = is.count; below = AllByRecursion-contains (AllByRecursion (λ x. x < n)) constraint.configs c below h; ascends = is.ascends });
   ascends = fine.ascends;
 }

@@ -32,7 +32,7 @@ pub struct RowIndex {
 
 // The rows among those found that have each of the labels, by the marks from this one on.
 fn having(marks: &[LabelSet], start: usize, labels: LabelSet, found: LabelSet) -> LabelSet
-    requires { start + 128 ≤ length marks.now }
+    requires { start + BLOCK ≤ length marks.now }
 {
     let Some(label) = least_of(labels) else {
         return found;
@@ -74,7 +74,7 @@ fn holder(
 // The row with this number in its block has the labels, by the marks from this one on.
 fn mark(marks: &mut ArrayVec<LabelSet, 6912>, start: usize, number: u8, labels: LabelSet)
     requires start { start ≤ 8000 }
-    requires number { number < 128 }
+    requires number { number < MAX_LABELS }
 {
     let Some(label) = least_of(labels) else {
         return;
@@ -145,8 +145,9 @@ fn some_row_holds(rows: &[Row], sets: &[LabelSet]) -> bool
 }
 
 /// Whether a row of the list is seen to dominate the sets: true only where one does. Up to eight rows are compared with the sets
-/// one by one. Of more rows the index names one that dominates them, and it alone is compared. Of the sets, those with many labels are looked for first. With m rows of d sets that is
-/// m / 128 steps for each label and place, and few of them where no row has the first set.
+/// one by one. Of more rows the index names one that dominates them, and it alone is compared. Of the sets, those with many labels are
+/// looked for first. With m rows of d sets that is m / 128 steps for each label and place, and few of them where no row has the first
+/// set.
 pub fn is_seen_dominated(rows: &[Row], lookup: &RowIndex, sets: &[LabelSet]) -> bool
     requires { length sets.now ≤ 6 }
     ensures { result ≡ true → IsDominated rows.now sets.now }

@@ -2,6 +2,7 @@
 ghost use Rattle.re_boxes.specs.Boxes.{IsStrength, with_stronger};
 ghost use Rattle.re_boxes.specs.Strength.{HasStronger};
 ghost use Rattle.re_labels.specs.Sets.{IsIn, IsLabelSet, IsWithin, has};
+ghost use Rattle.re_labels.specs.declared.TheConstants.{MAX_LABELS};
 ghost use Rattle.re_strength.specs.Held.{IsWeakest, ups_in};
 ghost use Rattle.std.specs.List.{AllByRecursion, AllZip};
 ghost use Rattle.std.specs.Prelude.{◌≡◌, ◌<◌, ◌≤◌, ℕ, [], length, map, not, slice_index_or, filter};
@@ -23,7 +24,7 @@ pub struct Strength {
     past: ArrayVec<LabelSet, 128>,
     strong_first: ArrayVec<LabelSet, 128>,
     weak_first: ArrayVec<LabelSet, 128>,
-    ghost few: { labels ≤ 128 },
+    ghost few: { labels ≤ MAX_LABELS },
     ghost count: { length ups.items ≡ labels },
     ghost alike: { length apart.items ≡ labels },
     ghost beside: { length past.items ≡ labels },
@@ -34,7 +35,7 @@ pub struct Strength {
 
 // The labels that do not go up to this one.
 fn apart_from(ups: &[LabelSet], label: u8) -> LabelSet
-    requires few { length ups.now ≤ 128 }
+    requires few { length ups.now ≤ MAX_LABELS }
     requires label { label < length ups.now }
     ensures { (z : ℕ) → z < length ups.now → has result z ≡ not (has (ups_in ups.now z) label) }
 {
@@ -49,7 +50,7 @@ fn apart_from(ups: &[LabelSet], label: u8) -> LabelSet
 
 // The labels below the number that are not in the set.
 fn others(labels: u8, set: LabelSet) -> LabelSet
-    requires { labels ≤ 128 }
+    requires { labels ≤ MAX_LABELS }
     ensures { (z : ℕ) → z < labels → has result z ≡ not (has set z) }
 {
     let mut other = LabelSet::empty();
@@ -63,7 +64,7 @@ fn others(labels: u8, set: LabelSet) -> LabelSet
 
 // The labels that go up to so many.
 fn with_count(ups: &[LabelSet], count: u8) -> LabelSet
-    requires { length ups.now ≤ 128 }
+    requires { length ups.now ≤ MAX_LABELS }
 {
     let mut labels = LabelSet::empty();
     for label in 0..ups.len() {
@@ -76,7 +77,7 @@ fn with_count(ups: &[LabelSet], count: u8) -> LabelSet
 
 // The labels by how many they go up to, those with few of them first.
 fn few_first(ups: &[LabelSet]) -> ArrayVec<LabelSet, 128>
-    requires { length ups.now ≤ 128 }
+    requires { length ups.now ≤ MAX_LABELS }
 {
     let mut levels = ArrayVec::new();
     for count in 1..129 {

@@ -13,6 +13,7 @@ use Rattle.re_table.specs.declared.branches.Branches.{Branches}
 use Rattle.re_table.specs.declared.prefix_tree.Kind.{Kind}
 use Rattle.re_table.specs.declared.prefix_tree.Kind.TheVariants.{Inner, Leaf}
 use Rattle.re_table.specs.declared.prefix_tree.Node.{Node}
+use Rattle.re_labels.specs.declared.TheConstants.{MAX_LABELS}
 
 module _ (degree : ℕ) (nodes : List Node) (depth : ℕ) (at : Branches) (is : IsBranches degree nodes depth at) (deep : depth < degree) where
   -- a configuration behind its first labels
@@ -28,7 +29,7 @@ module _ (degree : ℕ) (nodes : List Node) (depth : ℕ) (at : Branches) (is : 
       (one, others)
 
   -- a label that comes next is below 128
-  pub ending-narrow : (x : ℕ) (ending : List ℕ) → IsEnding degree nodes depth at (x ∷ ending) → x < 128
+  pub ending-narrow : (x : ℕ) (ending : List ℕ) → IsEnding degree nodes depth at (x ∷ ending) → x < MAX_LABELS
   ending-narrow x ending e =
       let parts = ending-parts x ending e in
       let there = reached degree nodes e.key e.tree e.config e.held (suc depth) (omega arith) in
@@ -79,7 +80,7 @@ module _ (degree : ℕ) (nodes : List Node) (depth : ℕ) (at : Branches) (is : 
       least = λ other ending e. let low = (e.inner deep).1 in let same = (ending-parts other ending e).0 in omega (arith, low, same);
     }
 
-    pub narrow-there : (node_at nodes at.place).label < 128
+    pub narrow-there : (node_at nodes at.place).label < MAX_LABELS
     narrow-there = is.tree.1.narrow at.place (is.within some)
 
   module _ (label : ℕ) (first : IsFirst degree nodes depth at label) where

@@ -14,27 +14,28 @@ use Rattle.re_config.specs.Configs.{IsConfig, image_at, image_of}
 use Rattle.re_table.specs.Constraints.{IsConstraint}
 use Rattle.re_table.specs.PrefixTrees.{held_configs, leaf_configs}
 use Rattle.re_table.specs.declared.prefix_tree.Node.{Node}
+use Rattle.re_labels.specs.declared.TheConstants.{MAX_LABELS}
 
 -- ---- the constraint stays one
-pub IsConstraint-with : (degree : ℕ) (configs new : List (List ℕ)) (config : List ℕ) → IsConstraint 128 (record { degree = degree; configs = configs }) → length config ≡ degree → IsConfig (length config) 128 config → new ≡ with_list configs config
-    → IsConstraint 128 (record { degree = degree; configs = new })
+pub IsConstraint-with : (degree : ℕ) (configs new : List (List ℕ)) (config : List ℕ) → IsConstraint MAX_LABELS (record { degree = degree; configs = configs }) → length config ≡ degree → IsConfig (length config) MAX_LABELS config → new ≡ with_list configs config
+    → IsConstraint MAX_LABELS (record { degree = degree; configs = new })
 IsConstraint-with degree configs new config is e c n =
-    let one : IsConfig degree 128 config = subst (λ d. IsConfig d 128 config) e c in
-    subst (λ l. IsConstraint 128 (record { degree = degree; configs = l })) (sym n) (record {
+    let one : IsConfig degree MAX_LABELS config = subst (λ d. IsConfig d MAX_LABELS config) e c in
+    subst (λ l. IsConstraint MAX_LABELS (record { degree = degree; configs = l })) (sym n) (record {
       least = is.least;
       most = is.most;
-      configs = AllByRecursion-from_In (IsConfig degree 128) (with_list configs config) (λ z i. elim (In-with_list configs config z i) [
-        | inl f ↦ subst (IsConfig degree 128) (sym f) one
-        | inr j ↦ AllByRecursion-In (IsConfig degree 128) configs z is.configs j
+      configs = AllByRecursion-from_In (IsConfig degree MAX_LABELS) (with_list configs config) (λ z i. elim (In-with_list configs config z i) [
+        | inl f ↦ subst (IsConfig degree MAX_LABELS) (sym f) one
+        | inr j ↦ AllByRecursion-In (IsConfig degree MAX_LABELS) configs z is.configs j
       ]);
       ascends = rising-with_list configs config is.ascends;
     })
 
 -- whether it was put in or nothing has changed
-pub IsConstraint-either : (degree : ℕ) (configs now new : List (List ℕ)) (config : List ℕ) (result : Result Bool InsertFault) → IsConstraint 128 (record { degree = degree; configs = configs }) → now ≡ configs
-    → length config ≡ degree → IsConfig (length config) 128 config → OnOk result (new ≡ with_list now config) → OnErr result (new ≡ now) → IsConstraint 128 (record { degree = degree; configs = new })
+pub IsConstraint-either : (degree : ℕ) (configs now new : List (List ℕ)) (config : List ℕ) (result : Result Bool InsertFault) → IsConstraint MAX_LABELS (record { degree = degree; configs = configs }) → now ≡ configs
+    → length config ≡ degree → IsConfig (length config) MAX_LABELS config → OnOk result (new ≡ with_list now config) → OnErr result (new ≡ now) → IsConstraint MAX_LABELS (record { degree = degree; configs = new })
 IsConstraint-either degree configs now new config (Ok b) is same e c ok err = IsConstraint-with degree configs new config is e c (ok ∙ ap (λ l. with_list l config) same)
-IsConstraint-either degree configs now new config (Err f) is same e c ok err = subst (λ l. IsConstraint 128 (record { degree = degree; configs = l })) (sym (err ∙ same)) is
+IsConstraint-either degree configs now new config (Err f) is same e c ok err = subst (λ l. IsConstraint MAX_LABELS (record { degree = degree; configs = l })) (sym (err ∙ same)) is
 
 -- ---- many insertions
 -- one more configuration

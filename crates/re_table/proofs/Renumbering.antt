@@ -23,6 +23,7 @@ use Rattle.re_table.specs.declared.prefix_tree.Kind.TheVariants.{Inner, Leaf}
 use Rattle.re_table.specs.declared.prefix_tree.Node.{Node}
 use Rattle.re_table.specs.PrefixTrees.{IsBelow, IsLink, IsTable, IsTree, begins, bare_root, configs_of, held_configs, leaf_configs, node_at, prefix}
 use Rattle.re_table.specs.Renumbered.{kind_image, node_image}
+use Rattle.re_labels.specs.declared.TheConstants.{MAX_LABELS}
 
 -- ---- rising lists of numbers
 rising-at : (xs : List ℕ) → IsRising (λ x y. x < y) xs → (i j : ℕ) → i < j → j < length xs → get_or xs i 0 < get_or xs j 0
@@ -133,15 +134,15 @@ module _ (images : List ℕ) (rises : IsRising (λ x y. x < y) images) where
 
   -- ---- the tree
   module _ (degree : ℕ) (nodes : List Node) (key : ℕ → List ℕ) (tree : IsTree degree nodes (held_configs nodes) key)
-      (configs : AllByRecursion (IsConfig degree 128) (held_configs nodes)) (known : AllByRecursion (AllByRecursion (λ label. label < length images)) (held_configs nodes)) where
+      (configs : AllByRecursion (IsConfig degree MAX_LABELS) (held_configs nodes)) (known : AllByRecursion (AllByRecursion (λ label. label < length images)) (held_configs nodes)) where
     abbrev pub new : List Node
     new = map (node_image images) nodes
 
     low-config : (c : List ℕ) → In c (held_configs nodes) → Low c
     low-config c i x j = AllByRecursion-In (λ label. label < length images) c x (AllByRecursion-In (AllByRecursion (λ label. label < length images)) (held_configs nodes) c known i) j
 
-    is-config : (c : List ℕ) → In c (held_configs nodes) → IsConfig degree 128 c
-    is-config c i = AllByRecursion-In (IsConfig degree 128) (held_configs nodes) c configs i
+    is-config : (c : List ℕ) → In c (held_configs nodes) → IsConfig degree MAX_LABELS c
+    is-config c i = AllByRecursion-In (IsConfig degree MAX_LABELS) (held_configs nodes) c configs i
 
     image-same : (c : List ℕ) → In c (held_configs nodes) → image_of images c ≡ map (image_at images) c
     image-same c i = sorted_again (map (image_at images) c) (ascending-images c (low-config c i) (is-config c i).ascends)
@@ -236,10 +237,10 @@ module _ (images : List ℕ) (rises : IsRising (λ x y. x < y) images) where
           ap (map (image_at images)) below.1 ∙ sym (prefix-images config degree (omega (arith, below.0))) ∙ ap (λ c. prefix c degree) (sym same),
         )
 
-    pub renumbered-tree : ((x : ℕ) → image_at images x < 128) → IsTree degree new (held_configs new) key-image
+    pub renumbered-tree : ((x : ℕ) → image_at images x < MAX_LABELS) → IsTree degree new (held_configs new) key-image
     renumbered-tree narrow = record {
       root = ap (map (image_at images)) tree.root;
-      narrow = λ q l. subst (λ (n : Node). n.label < 128) (sym (at q (short q l))) (narrow (node_at nodes q).label);
+      narrow = λ q l. subst (λ (n : Node). n.label < MAX_LABELS) (sym (at q (short q l))) (narrow (node_at nodes q).label);
       apart = λ p q l m e. tree.apart p q (short p l) (short q m) (same-images (key p) (key q) (key-low p (short p l)) (key-low q (short q m)) e);
       parent = λ q some l.
           let up = tree.parent q some (short q l) in
@@ -270,7 +271,7 @@ module _ (images : List ℕ) (rises : IsRising (λ x y. x < y) images) where
             (subst (λ n. IsLink new key-image (map (image_at images) (key up.0)) (n + 1) (node_at new (suc q)).next) (sym read)
             (subst (IsLink new key-image (map (image_at images) (key up.0)) (image_at images label + 1)) (sym next) link))
 
-    pub renumbered-table : (most : ℕ) → IsTable degree most nodes → ((x : ℕ) → image_at images x < 128) → IsTable degree most new
+    pub renumbered-table : (most : ℕ) → IsTable degree most nodes → ((x : ℕ) → image_at images x < MAX_LABELS) → IsTable degree most new
     renumbered-table most table narrow =
         let held : length (held_configs new) ≡ length (held_configs nodes) = ap length held-images ∙ length-map' (map (image_at images)) (held_configs nodes) in
         let leaf : length (leaf_configs new) ≡ length (leaf_configs nodes) = ap length (leaves-images nodes) ∙ length-map' (image_of images) (leaf_configs nodes) in
@@ -303,11 +304,11 @@ all-imaged images nodes new same each =
     (λ q l. each q (omega arith) ∙ sym (get_or-map (node_image images) nodes q bare_root bare_root (omega arith)))
 
 -- ---- the whole constraint
-image-low : (images : List ℕ) (x : ℕ) → AllByRecursion (λ image. image < 128) images → image_at images x < 128
+image-low : (images : List ℕ) (x : ℕ) → AllByRecursion (λ image. image < MAX_LABELS) images → image_at images x < MAX_LABELS
 image-low images x all = elim (three_ways x (length images)) [
-  | inl less ↦ AllByRecursion-In (λ image. image < 128) images (get_or images x 0) all (Contains-In (get_or images x 0) images (Contains-get_or images x 0 less))
-  | inr (inl same) ↦ subst (λ n. n < 128) (sym (get_or-past images x (omega arith))) (omega arith)
-  | inr (inr more) ↦ subst (λ n. n < 128) (sym (get_or-past images x (omega arith))) (omega arith)
+  | inl less ↦ AllByRecursion-In (λ image. image < MAX_LABELS) images (get_or images x 0) all (Contains-In (get_or images x 0) images (Contains-get_or images x 0 less))
+  | inr (inl same) ↦ subst (λ n. n < MAX_LABELS) (sym (get_or-past images x (omega arith))) (omega arith)
+  | inr (inr more) ↦ subst (λ n. n < MAX_LABELS) (sym (get_or-past images x (omega arith))) (omega arith)
 ]
   where
     get_or-past : (xs : List ℕ) (i : ℕ) → length xs ≤ i → get_or xs i 0 ≡ 0
@@ -315,15 +316,15 @@ image-low images x all = elim (three_ways x (length images)) [
     get_or-past (x ∷ xs) zero l = absurd (omega arith)
     get_or-past (x ∷ xs) (suc i) l = get_or-past xs i (omega arith)
 
-module _ (images : List ℕ) (degree most : ℕ) (nodes written : List Node) (rises : IsRising (λ x y. x < y) images) (below : AllByRecursion (λ image. image < 128) images)
-    (known : AllByRecursion (AllByRecursion (λ label. label < length images)) (held_configs nodes)) (is : IsConstraint 128 (record { degree = degree; configs = held_configs nodes }))
+module _ (images : List ℕ) (degree most : ℕ) (nodes written : List Node) (rises : IsRising (λ x y. x < y) images) (below : AllByRecursion (λ image. image < MAX_LABELS) images)
+    (known : AllByRecursion (AllByRecursion (λ label. label < length images)) (held_configs nodes)) (is : IsConstraint MAX_LABELS (record { degree = degree; configs = held_configs nodes }))
     (all : written ≡ map (node_image images) nodes) where
   pub renumbered-held : held_configs written ≡ images_of images (record { degree = degree; configs = held_configs nodes })
   renumbered-held = ap held_configs all ∙ ap list_set (leaves-images images rises nodes) ∙ sym (list_set_map (image_of images) (leaf_configs nodes))
 
-  pub renumbered : IsTable degree most nodes → IsTable degree most written × IsConstraint 128 (record { degree = degree; configs = held_configs written })
+  pub renumbered : IsTable degree most nodes → IsTable degree most written × IsConstraint MAX_LABELS (record { degree = degree; configs = held_configs written })
   renumbered table = (
     subst (IsTable degree most) (sym all) (renumbered-table images rises degree nodes table.tree.0 table.tree.1 is.configs known most table (λ x. image-low images x below)),
-    subst (λ l. IsConstraint 128 (record { degree = degree; configs = l })) (sym renumbered-held)
-        (IsConstraint-image images (record { degree = degree; configs = held_configs nodes }) 128 128 is (λ config x i j. image-low images x below)),
+    subst (λ l. IsConstraint MAX_LABELS (record { degree = degree; configs = l })) (sym renumbered-held)
+        (IsConstraint-image images (record { degree = degree; configs = held_configs nodes }) MAX_LABELS MAX_LABELS is (λ config x i j. image-low images x below)),
   )

@@ -12,6 +12,7 @@ use Rattle.re_labels.specs.Sets.{IsLabelSet, first_of, without_label}
 use Rattle.re_table.proofs.Goodness.{Has-has_config, has_config-Has}
 use Rattle.re_table.specs.Constraints.{Constraint, has_config}
 use Rattle.re_table.specs.GoodRows.{is_good}
+use Rattle.re_labels.specs.declared.TheConstants.{MAX_LABELS}
 
 -- ---- one configuration
 pub found-is : (constraint : Constraint) (labels config : List ℕ) (r : Bool) → IsTrue r ↔ Contains constraint.configs config → config ≡ sorted labels → r ≡ has_config constraint labels
@@ -57,7 +58,7 @@ popped-is drawn next popped x pushed rest = rest ∙ ap (λ l. take (length l - 
     front drawn = let e : length (drawn ++ x ∷ []) - 1 ≡ length drawn = omega (arith, length-append drawn (x ∷ [])) in ap (λ n. take n (drawn ++ x ∷ [])) e ∙ take-front x drawn
 
 -- ---- one label more
-module _ (constraint : Constraint) (drawn next first : List ℕ) (others : List (List ℕ)) (label : ℕ) (set : IsLabelSet 128 first)
+module _ (constraint : Constraint) (drawn next first : List ℕ) (others : List (List ℕ)) (label : ℕ) (set : IsLabelSet MAX_LABELS first)
     (found : first_of first ≡ Some label) (pushed : next ≡ drawn ++ label ∷ []) (a : Bool) (here : a ≡ each constraint next others) where
   whole : each constraint drawn (first ∷ others) ≡ (a && each constraint drawn (without_label first label ∷ others))
   whole =

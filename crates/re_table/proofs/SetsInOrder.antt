@@ -20,26 +20,26 @@ use Rattle.re_table.specs.GoodRows.{is_allowed, is_good}
 abbrev pub AreSets : List (List ℕ) → Type 0
 AreSets sets = AllByRecursion (λ set. IsLabelSet MAX_LABELS set × (0 < length set)) sets
 
-pub row_is : (sets : List (List ℕ)) → 2 ≤ length sets → length sets ≤ 6 → AreSets sets → row_of 128 sets ≡ Some (in_order 128 sets)
+pub row_is : (sets : List (List ℕ)) → 2 ≤ length sets → length sets ≤ 6 → AreSets sets → row_of MAX_LABELS sets ≡ Some (in_order MAX_LABELS sets)
 row_is sets two six are =
     sym (row_found sets (sorted (map number sets)) two six (filled-is_full sets (AllByRecursion-weaker _ _ (λ s h. h.1) sets are)) refl)
 
-in_order_moved : (sets : List (List ℕ)) → AreSets sets → Rearranged sets (in_order 128 sets)
-in_order_moved sets are = subst (λ t. Rearranged t (in_order 128 sets)) (row_numbers 128 sets are) (Rearranged-map (set_of 128) (Rearranged-sorted (map number sets)))
+in_order_moved : (sets : List (List ℕ)) → AreSets sets → Rearranged sets (in_order MAX_LABELS sets)
+in_order_moved sets are = subst (λ t. Rearranged t (in_order MAX_LABELS sets)) (row_numbers MAX_LABELS sets are) (Rearranged-map (set_of MAX_LABELS) (Rearranged-sorted (map number sets)))
 
-pub in_order-length : (sets row : List (List ℕ)) → AreSets sets → row ≡ in_order 128 sets → length row ≡ length sets
+pub in_order-length : (sets row : List (List ℕ)) → AreSets sets → row ≡ in_order MAX_LABELS sets → length row ≡ length sets
 in_order-length sets row are e = ap length e ∙ sym (length-Rearranged (in_order_moved sets are))
 
-pub in_order-allowed : (K : Constraint) (sets row : List (List ℕ)) → AreSets sets → row ≡ in_order 128 sets → is_allowed K row ≡ is_allowed K sets
+pub in_order-allowed : (K : Constraint) (sets row : List (List ℕ)) → AreSets sets → row ≡ in_order MAX_LABELS sets → is_allowed K row ≡ is_allowed K sets
 in_order-allowed K sets row are e =
     let moved = in_order_moved sets are in
-    ap (is_allowed K) e ∙ same_tests (is_allowed K (in_order 128 sets)) (is_allowed K sets)
-    (λ h. IsAllowed-is_allowed K sets (IsAllowed-Rearranged K (Rearranged-sym moved) (is_allowed-IsAllowed K (in_order 128 sets) h)))
-    (λ h. IsAllowed-is_allowed K (in_order 128 sets) (IsAllowed-Rearranged K moved (is_allowed-IsAllowed K sets h)))
+    ap (is_allowed K) e ∙ same_tests (is_allowed K (in_order MAX_LABELS sets)) (is_allowed K sets)
+    (λ h. IsAllowed-is_allowed K sets (IsAllowed-Rearranged K (Rearranged-sym moved) (is_allowed-IsAllowed K (in_order MAX_LABELS sets) h)))
+    (λ h. IsAllowed-is_allowed K (in_order MAX_LABELS sets) (IsAllowed-Rearranged K moved (is_allowed-IsAllowed K sets h)))
 
-pub in_order-good : (K : Constraint) (sets row : List (List ℕ)) → AreSets sets → row ≡ in_order 128 sets → is_good K row ≡ is_good K sets
+pub in_order-good : (K : Constraint) (sets row : List (List ℕ)) → AreSets sets → row ≡ in_order MAX_LABELS sets → is_good K row ≡ is_good K sets
 in_order-good K sets row are e =
     let moved = in_order_moved sets are in
-    ap (is_good K) e ∙ same_tests (is_good K (in_order 128 sets)) (is_good K sets)
-    (λ h. IsGood-is_good K sets (IsGood-Rearranged K (Rearranged-sym moved) (is_good-IsGood K (in_order 128 sets) h)))
-    (λ h. IsGood-is_good K (in_order 128 sets) (IsGood-Rearranged K moved (is_good-IsGood K sets h)))
+    ap (is_good K) e ∙ same_tests (is_good K (in_order MAX_LABELS sets)) (is_good K sets)
+    (λ h. IsGood-is_good K sets (IsGood-Rearranged K (Rearranged-sym moved) (is_good-IsGood K (in_order MAX_LABELS sets) h)))
+    (λ h. IsGood-is_good K (in_order MAX_LABELS sets) (IsGood-Rearranged K moved (is_good-IsGood K sets h)))

@@ -11,6 +11,7 @@ use Rattle.re_table.specs.declared.prefix_tree.Kind.TheVariants.{Inner, Leaf}
 use Rattle.re_table.specs.declared.prefix_tree.Node.{Node}
 use Rattle.re_table.specs.PrefixTrees.{IsBelow, IsLink, IsTree, begins, node_at, prefix}
 use Rattle.re_table.specs.TreeGrowth.{IsGap, IsGrown}
+use Rattle.re_labels.specs.declared.TheConstants.{MAX_LABELS}
 
 pub length-prefix : (config : List ℕ) (d : ℕ) → length (prefix config d) ≡ d
 length-prefix config zero = refl
@@ -69,7 +70,7 @@ off_way degree nodes configs key config depth parent before after tree gap (suc 
 
 module _ (degree : ℕ) (nodes new : List Node) (configs more : List (List ℕ)) (key : ℕ → List ℕ) (config : List ℕ) (depth parent before after : ℕ)
     (filled : 0 < length nodes) (tree : IsTree degree nodes configs key) (gap : IsGap nodes key config depth parent before after)
-    (grown : IsGrown nodes new key config degree depth parent before after) (inside : depth < degree) (fits : length config ≡ degree) (low_labels : (j : ℕ) → j < degree → get_or config j 0 < 128)
+    (grown : IsGrown nodes new key config degree depth parent before after) (inside : depth < degree) (fits : length config ≡ degree) (low_labels : (j : ℕ) → j < degree → get_or config j 0 < MAX_LABELS)
     (counts : (labels : List ℕ) → count_by (begins labels) more ≡ count_by (begins labels) configs + cond (begins labels config) 1 0)
     (reached : (c : List ℕ) → Contains configs c → (d : ℕ) → d ≤ degree → (q : ℕ) × (q < length nodes) × (key q ≡ prefix c d)) where
   abbrev after_key : ℕ → List ℕ
@@ -184,10 +185,10 @@ module _ (degree : ℕ) (nodes new : List Node) (configs more : List (List ℕ))
   root_after : after_key 0 ≡ []
   root_after = grown_key-old key (length nodes) config depth 0 filled ∙ tree.root
 
-  narrow_after : (q : ℕ) → q < length new → (node_at new q).label < 128
+  narrow_after : (q : ℕ) → q < length new → (node_at new q).label < MAX_LABELS
   narrow_after q l = elim (split q l) [
-    | inl old ↦ subst (λ x. x < 128) (sym (grown.label q old.0)) (tree.narrow q old.0)
-    | inr is ↦ subst (λ x. x < 128) (sym (grown.new_node q is.0 is.1 is.2 is.3).label) (low_labels is.0 is.2)
+    | inl old ↦ subst (λ x. x < MAX_LABELS) (sym (grown.label q old.0)) (tree.narrow q old.0)
+    | inr is ↦ subst (λ x. x < MAX_LABELS) (sym (grown.new_node q is.0 is.1 is.2 is.3).label) (low_labels is.0 is.2)
   ]
 
   apart_after : (p q : ℕ) → p < length new → q < length new → after_key p ≡ after_key q → p ≡ q

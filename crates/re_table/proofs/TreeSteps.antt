@@ -20,6 +20,7 @@ use Rattle.re_table.specs.declared.prefix_tree.Kind.TheVariants.{Inner, Leaf}
 use Rattle.re_table.specs.declared.prefix_tree.Node.{Node}
 use Rattle.re_table.specs.PrefixTrees.{IsBelow, IsPrefixTree, IsTable, IsTree, bare_root, begins, configs_of, held_configs, leaf_configs, leaves_of, node_at, prefix}
 use Rattle.re_table.specs.TreeGrowth.{IsFound, IsGrown, IsNewNode, linked, new_inner, new_inners, new_leaf, way_nodes, with_first, with_leaves}
+use Rattle.re_labels.specs.declared.TheConstants.{MAX_LABELS}
 
 -- ---- the new nodes in their order
 inner_at : (config : List ℕ) (depth after start count k : ℕ) → k < count → node_at (new_inners config depth after start count) k ≡ new_inner config depth after start k
@@ -352,7 +353,7 @@ count-with_list p (k ∷ ks) c new =
     ]
 
 -- ---- the whole step
-module _ (nodes : List Node) (config way : List ℕ) (depth parent before after : ℕ) (filled : 0 < length nodes) (held_tree : IsPrefixTree (length config) nodes) (found : IsFound nodes config way depth parent before after) (low_labels : (j : ℕ) → j < length config → get_or config j 0 < 128)
+module _ (nodes : List Node) (config way : List ℕ) (depth parent before after : ℕ) (filled : 0 < length nodes) (held_tree : IsPrefixTree (length config) nodes) (found : IsFound nodes config way depth parent before after) (low_labels : (j : ℕ) → j < length config → get_or config j 0 < MAX_LABELS)
     (longer new : List Node) (is_longer : longer ≡ nodes ++ way_nodes config depth after (length nodes)) (same_length : length new ≡ length longer)
     (label : (q : ℕ) → (node_at new q).label ≡ (node_at (linked longer parent before (length nodes)) q).label)
     (next : (q : ℕ) → (node_at new q).next ≡ (node_at (linked longer parent before (length nodes)) q).next)
@@ -442,8 +443,8 @@ pub written_back : (n : ℕ) (new old : List Node) → n ≡ length new → take
 written_back n new old e = ap (λ k. take k (new ++ drop (length new) old)) e ∙ take-append_seam new (drop (length new) old)
 
 -- the labels of a configuration are below the number of labels
-pub low-labels : (config : List ℕ) → IsConfig (length config) 128 config → (j : ℕ) → j < length config → get_or config j 0 < 128
-low-labels config is j l = AllByRecursion-contains (λ x. x < 128) config (get_or config j 0) is.below (Contains-get_or config j 0 l)
+pub low-labels : (config : List ℕ) → IsConfig (length config) MAX_LABELS config → (j : ℕ) → j < length config → get_or config j 0 < MAX_LABELS
+low-labels config is j l = AllByRecursion-contains (λ x. x < MAX_LABELS) config (get_or config j 0) is.below (Contains-get_or config j 0 l)
 
 -- a table with one configuration more
 count-all : {X : Type 0} (xs : List X) → count_by (λ (x : X). true) xs ≡ length xs

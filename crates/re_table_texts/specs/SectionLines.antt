@@ -3,13 +3,14 @@ use Rattle.std.specs.Prelude.{ℕ, nat_le, List, [], ◌∷◌, if◌then◌else
 use Rattle.std.specs.Str.{bytes_eq}
 use Rattle.re_items.specs.Numerals.{number_of}
 use Rattle.re_sections.specs.SectionLines.{is_section, words_of}
+use Rattle.re_table_texts.specs.declared.TheConstants.{MAX_RADIUS}
 use Rattle.re_table_texts.specs.declared.sections.Section.{Section}
 use Rattle.re_table_texts.specs.declared.sections.Section.TheVariants.{Next, Other, Problem, Table}
 
--- a radius is a number from 0 to 64
+-- a radius is a number from 0 to the most there may be
 abbrev pub section_with : Option ℕ → Section
 section_with None = Other
-section_with (Some radius) = if nat_le radius 64 then Table radius else Other
+section_with (Some radius) = if nat_le radius MAX_RADIUS then Table radius else Other
 
 abbrev pub radius_section : List ℕ → Section
 radius_section word = section_with (number_of word)

@@ -3,6 +3,7 @@ ghost use Rattle.re_sections.specs.SectionLines.{words_of};
 ghost use Rattle.re_table_texts.specs.SectionLines.{radius_section, section_named, section_of};
 ghost use Rattle.std.specs.Prelude.{◌≡◌, ◌≤◌, length};
 
+use crate::MAX_RADIUS;
 use re_items::read_number;
 use re_sections::{begins_section, next_word};
 
@@ -30,7 +31,7 @@ fn radius_section(word: &[u8]) -> Section
     let Some(radius) = read_number(word) else {
         return Section::Other;
     };
-    if radius > 64 {
+    if radius > MAX_RADIUS as u32 {
         return Section::Other;
     }
     Section::Table(radius as u8)

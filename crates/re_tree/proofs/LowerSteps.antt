@@ -31,6 +31,7 @@ use Rattle.re_clauses.proofs.StepMeaning.{lower_clauses}
 use Rattle.re_clauses.specs.Clauses.{step_fault}
 use Rattle.re_tree.proofs.Entries.{Becomes, Becomes-at, entries-In, label-all, rows-fit, set-is, sets-all}
 use Rattle.re_tree.specs.Nodes.{entries_of, step_to}
+use Rattle.re_config.specs.declared.TheConstants.{MAX_ROWS}
 
 -- the derived problem with its names is a problem
 pub IsProblem-named_derived : (problem : NamedProblem) → IsProblem (unnamed problem) → IsProblem (unnamed (named_derived (unnamed problem)))
@@ -122,17 +123,17 @@ no_limit true x rest e = let there : Some x ≡ None = e in absurd (cc)
 no_limit false x rest e = refl
 
 -- a derived problem within the limits has few rows
-pub few-rows : (problem : Problem) → step_limit problem ≡ None → length (max_rows problem.passive problem.labels) ≤ 1024
+pub few-rows : (problem : Problem) → step_limit problem ≡ None → length (max_rows problem.passive problem.labels) ≤ MAX_ROWS
 few-rows problem none =
-    let e : ltb 1024 (length (max_rows problem.passive problem.labels)) ≡ false = no_limit (ltb 1024 (length (max_rows problem.passive problem.labels))) Rows _ none in
+    let e : ltb MAX_ROWS (length (max_rows problem.passive problem.labels)) ≡ false = no_limit (ltb MAX_ROWS (length (max_rows problem.passive problem.labels))) Rows _ none in
     grind (arith, nat_tests)
 
 pub lower-fits : (kind : Kind) (problem : NamedProblem) → IsProblem (unnamed problem) → (made : Changed) → IsMerged (named_derived (unnamed problem)) made → is_lower kind ≡ true → step_limit (unnamed problem) ≡ None
     → step_fits kind problem (step_to true problem made) ≡ true
 lower-fits kind problem is made merged lower none =
-    let few : leb (length (max_rows problem.passive (length problem.names))) 1024 ≡ true = (let l = few-rows (unnamed problem) none in grind (arith, nat_tests)) in
-    true-and (is_lower kind && leb (length (max_rows problem.passive (length problem.names))) 1024 && list_all (row_fits problem) (max_rows problem.passive (length problem.names)))
+    let few : leb (length (max_rows problem.passive (length problem.names))) MAX_ROWS ≡ true = (let l = few-rows (unnamed problem) none in grind (arith, nat_tests)) in
+    true-and (is_lower kind && leb (length (max_rows problem.passive (length problem.names))) MAX_ROWS && list_all (row_fits problem) (max_rows problem.passive (length problem.names)))
     (list_all (entry_fits problem made.problem) (entries_of (max_sets problem.passive (length problem.names)) made.images))
-    (true-and (is_lower kind && leb (length (max_rows problem.passive (length problem.names))) 1024) (list_all (row_fits problem) (max_rows problem.passive (length problem.names)))
-    (true-and (is_lower kind) (leb (length (max_rows problem.passive (length problem.names))) 1024) lower few) (rows-fit problem))
+    (true-and (is_lower kind && leb (length (max_rows problem.passive (length problem.names))) MAX_ROWS) (list_all (row_fits problem) (max_rows problem.passive (length problem.names)))
+    (true-and (is_lower kind) (leb (length (max_rows problem.passive (length problem.names))) MAX_ROWS) lower few) (rows-fit problem))
     (lower-entries_fit problem is made merged)

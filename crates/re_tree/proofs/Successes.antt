@@ -27,21 +27,22 @@ use Rattle.re_tree.proofs.Paths.{IsPath, IsPath-all}
 use Rattle.re_tree.specs.Laws.{SuccessLaw}
 use Rattle.re_tree.specs.Nodes.{Node, behind, first_there, is_zero, renaming_to, succeeds, way_back, way_to}
 use Rattle.re_tree.specs.Paths.{bound_of, bound_with, pairs_of}
+use Rattle.re_cert.specs.declared.certificate.TheConstants.{MAX_STEPS}
 
 -- ---- ends
 none-some : {X : Type 0} (o : Option X) → not (is_some o) ≡ true → is_none o ≡ true
 none-some None e = refl
 none-some (Some x) e = e
 
-few-steps : (kind : Kind) (first : NamedProblem) (node : Node) (depth : ℕ) → depth ≤ 64 → IsPath kind first depth node → leb (length node.steps) 64 ≡ true
-few-steps kind first node depth l path = let m = path.long in let n : length node.steps ≤ 64 = omega arith in grind (arith, nat_tests)
+few-steps : (kind : Kind) (first : NamedProblem) (node : Node) (depth : ℕ) → depth ≤ MAX_STEPS → IsPath kind first depth node → leb (length node.steps) MAX_STEPS ≡ true
+few-steps kind first node depth l path = let m = path.long in let n : length node.steps ≤ MAX_STEPS = omega arith in grind (arith, nat_tests)
 
 -- ---- lower and upper bounds
-module _ (first : NamedProblem) (node : Node) (depth : ℕ) (few : depth ≤ 64) where
-  plain-bound : (kind : Kind) → IsPath kind first depth node → (leb (length node.steps) 64 && steps_fit kind first node.steps && one_form node.steps && true) ≡ true
-  plain-bound kind path = true-and (leb (length node.steps) 64 && steps_fit kind first node.steps && one_form node.steps) true
-      (true-and (leb (length node.steps) 64 && steps_fit kind first node.steps) (one_form node.steps)
-      (true-and (leb (length node.steps) 64) (steps_fit kind first node.steps) (few-steps kind first node depth few path) path.fits)
+module _ (first : NamedProblem) (node : Node) (depth : ℕ) (few : depth ≤ MAX_STEPS) where
+  plain-bound : (kind : Kind) → IsPath kind first depth node → (leb (length node.steps) MAX_STEPS && steps_fit kind first node.steps && one_form node.steps && true) ≡ true
+  plain-bound kind path = true-and (leb (length node.steps) MAX_STEPS && steps_fit kind first node.steps && one_form node.steps) true
+      (true-and (leb (length node.steps) MAX_STEPS && steps_fit kind first node.steps) (one_form node.steps)
+      (true-and (leb (length node.steps) MAX_STEPS) (steps_fit kind first node.steps) (few-steps kind first node depth few path) path.fits)
       (or-right (list_all (λ (s : BoundStep). is_by_row s.map) node.steps) (list_all (λ (s : BoundStep). not (is_by_row s.map)) node.steps) path.by_set)) refl
 
   lower-success : IsPath Lower first depth node → succeeds Lower first node ≡ true → (is_bound (bound_of Lower first node) ≡ true) × (bound_fault (bound_of Lower first node) ≡ None)
@@ -136,13 +137,13 @@ way-leads first node way e =
         let two : way.1 ≡ found = ap (λ (p : ℕ × List ℕ). p.1) pair in
         (omega arith, renaming-leads node.problem (behind first node.steps way.0) way.1 (ap (λ k. renaming_to node.problem (behind first node.steps k)) one ∙ h ∙ ap Some (sym two)))
 
-module _ (first : NamedProblem) (node : Node) (depth : ℕ) (few : depth ≤ 64) (path : IsPath Fixed first depth node) where
+module _ (first : NamedProblem) (node : Node) (depth : ℕ) (few : depth ≤ MAX_STEPS) (path : IsPath Fixed first depth node) where
   fixed-way : (number : ℕ) (images : List ℕ) → not (is_zero node.problem) ≡ true → (number < length node.steps) × Leads node.problem (behind first node.steps number) images
       → (is_bound (bound_with Fixed first node (Some (number, images))) ≡ true) × (bound_fault (bound_with Fixed first node (Some (number, images))) ≡ None)
   fixed-way number images apart (l, leads) = (
-    true-and (leb (length node.steps) 64 && steps_fit Fixed first node.steps && one_form node.steps) (renaming_fits bound)
-        (true-and (leb (length node.steps) 64 && steps_fit Fixed first node.steps) (one_form node.steps)
-        (true-and (leb (length node.steps) 64) (steps_fit Fixed first node.steps) (few-steps Fixed first node depth few path) path.fits)
+    true-and (leb (length node.steps) MAX_STEPS && steps_fit Fixed first node.steps && one_form node.steps) (renaming_fits bound)
+        (true-and (leb (length node.steps) MAX_STEPS && steps_fit Fixed first node.steps) (one_form node.steps)
+        (true-and (leb (length node.steps) MAX_STEPS) (steps_fit Fixed first node.steps) (few-steps Fixed first node depth few path) path.fits)
         (or-right (list_all (λ (s : BoundStep). is_by_row s.map) node.steps) (list_all (λ (s : BoundStep). not (is_by_row s.map)) node.steps) path.by_set))
         (true-and (ltb number (length node.steps)) (list_all (pair_fits (last_or first (next_problems node.steps)) target) (pairs_of 0 images)) (true-below number (length node.steps) l) pairs),
     ap (λ o. fault_or o (end_fault bound)) path.valid ∙ (λ i. if not (last i) then Some (fault_at (length node.steps) End) else if not (back i) then Some (fault_at (length node.steps) Back) else None),

@@ -24,6 +24,7 @@ use Rattle.re_strength.proofs.SetsAtPlaces.{all_set, set_there, under_at}
 use Rattle.re_strength.specs.Choosing.{AreGoodChoices}
 use Rattle.re_strength.specs.Sets.{AreSets}
 use Rattle.re_universal.specs.Growing.{IsGrownFrom, IsTried}
+use Rattle.re_labels.specs.declared.TheConstants.{MAX_LABELS}
 
 -- ---- a set with one more label
 added_filled : (i x : ℕ) (r : List (List ℕ)) → AreFilled r → AreFilled (added i x r)
@@ -92,16 +93,16 @@ module _ (constraint : Constraint) (n : ℕ) where
       last_or_before a b k h = grind arith
 
   -- ---- the row at the end
-  module _ (few : n ≤ 128) (t : List (List ℕ)) (good : IsGood constraint t) (sets : AreSets n t) where
-    moved : Rearranged t (in_order 128 t)
-    moved = in_order_moved t (AreSets-more n 128 few t sets)
+  module _ (few : n ≤ MAX_LABELS) (t : List (List ℕ)) (good : IsGood constraint t) (sets : AreSets n t) where
+    moved : Rearranged t (in_order MAX_LABELS t)
+    moved = in_order_moved t (AreSets-more n MAX_LABELS few t sets)
 
-    over : Dominates (in_order 128 t) t
+    over : Dominates (in_order MAX_LABELS t) t
     over = (t, Rearranged-sym moved, IsUnder-refl t)
 
-    grown_row : IsGrown constraint n t → IsMaximal constraint n (in_order 128 t)
+    grown_row : IsGrown constraint n t → IsMaximal constraint n (in_order MAX_LABELS t)
     grown_row grown =
-        let r = in_order 128 t in
+        let r = in_order MAX_LABELS t in
         let row = in_order_row n few constraint.degree t good.count sets in
         record {
           is_row = row;
@@ -116,8 +117,8 @@ module _ (constraint : Constraint) (n : ℕ) where
               not_larger n constraint.degree q r rowq row dom (omega (arith, le, same, other));
         }
 
-    pub grown_maximal : IsGrown constraint n t → (row : List (List ℕ)) → row ≡ in_order 128 t → Contains (max_rows constraint n) row
-    grown_maximal grown row e = subst (Contains (max_rows constraint n)) (sym e) (In-Contains (in_order 128 t) (max_rows constraint n) (IsMaximal-max_rows constraint n (in_order 128 t) (grown_row grown)))
+    pub grown_maximal : IsGrown constraint n t → (row : List (List ℕ)) → row ≡ in_order MAX_LABELS t → Contains (max_rows constraint n) row
+    grown_maximal grown row e = subst (Contains (max_rows constraint n)) (sym e) (In-Contains (in_order MAX_LABELS t) (max_rows constraint n) (IsMaximal-max_rows constraint n (in_order MAX_LABELS t) (grown_row grown)))
 
-    pub grown_dominates : (s : List (List ℕ)) → IsUnder s t → (row : List (List ℕ)) → row ≡ in_order 128 t → Dominates row s
+    pub grown_dominates : (s : List (List ℕ)) → IsUnder s t → (row : List (List ℕ)) → row ≡ in_order MAX_LABELS t → Dominates row s
     grown_dominates s under row e = subst (λ r. Dominates r s) (sym e) (t, Rearranged-sym moved, under)

@@ -8,12 +8,13 @@ use Rattle.re_labels.proofs.Numbers.{IsLabelSet-filter}
 use Rattle.re_labels.specs.Sets.{IsLabelSet}
 use Rattle.re_table.proofs.SaidChoices.{popped-is, rest-lighter}
 use Rattle.re_choice.proofs.+draw.Goals as goal
+use Rattle.re_labels.specs.declared.TheConstants.{MAX_LABELS}
 
 pub draw-requires : goal.draw-requires
 draw-requires t c =
     let back : c.pop.new.self.items ≡ c.args.drawn.now.items = popped-is c.args.drawn.now.items c.push.new.self.items c.pop.new.self.items c.in-Some.label c.push.ensures.items c.pop.ensures.rest in
-    let below = subst (AllByRecursion (λ label. label < 128)) (sym back) c.requires.drawn_below in
-    let rest : IsLabelSet 128 c.remove.result = subst (IsLabelSet 128) (sym c.remove.ensures) (IsLabelSet-filter _ 128 c.args.first c.requires.first_set) in
+    let below = subst (AllByRecursion (λ label. label < MAX_LABELS)) (sym back) c.requires.drawn_below in
+    let rest : IsLabelSet MAX_LABELS c.remove.result = subst (IsLabelSet MAX_LABELS) (sym c.remove.ensures) (IsLabelSet-filter _ MAX_LABELS c.args.first c.requires.first_set) in
     (omega (arith, c.decreases, ap length c.remove.ensures, rest-lighter c.args.first c.args.others.now c.in-Some.label c.requires.first_set.0 (sym c.in-Some.ensures)), (ap (λ l. length l + length c.args.others.now + 1) back ∙ c.requires.degree, (below, (rest, c.requires.other_sets))))
 
 pub returns-then-not-is_begun : goal.returns-then-not-is_begun

@@ -15,6 +15,7 @@ use Rattle.re_strength.proofs.UpSets.{labels_up}
 use Rattle.re_strength.specs.Sets.{AreSets}
 use Rattle.re_strength.specs.Held.{ups_in}
 use Rattle.re_box_search.proofs.walking.cover_box.Goals as goal
+use Rattle.re_labels.specs.declared.TheConstants.{MAX_LABELS}
 
 pub returns-then-has-clause-covered : goal.returns-then-has-clause-covered
 returns-then-has-clause-covered g c =
@@ -34,7 +35,7 @@ returns-then-is_none-clause-covered g c = λ next.
 
 pub has_above-requires-clause-other : goal.has_above-requires-clause-other
 has_above-requires-clause-other g c =
-    (c.up-up.ensures.set.0, AllByRecursion-weaker (λ x. x < c.args.strength.now.labels) (λ x. x < 128) (λ x h. omega (arith, h, c.args.strength.now.few)) c.up-up.result c.up-up.ensures.set.1)
+    (c.up-up.ensures.set.0, AllByRecursion-weaker (λ x. x < c.args.strength.now.labels) (λ x. x < MAX_LABELS) (λ x h. omega (arith, h, c.args.strength.now.few)) c.up-up.result c.up-up.ensures.set.1)
 
 pub returns-then-not-has_above-clause-covered : goal.returns-then-not-has_above-clause-covered
 returns-then-not-has_above-clause-covered g c = λ next.

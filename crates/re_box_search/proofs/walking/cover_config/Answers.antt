@@ -10,13 +10,14 @@ use Rattle.re_strength.proofs.RowsOfSets.{AreSets-filled}
 use Rattle.re_strength.proofs.UpSets.{up_config}
 use Rattle.re_strength.specs.Held.{ups_in}
 use Rattle.re_box_search.proofs.walking.cover_config.Goals as goal
+use Rattle.re_labels.specs.declared.TheConstants.{MAX_LABELS}
 
 pub settle-requires-clause-good : goal.settle-requires-clause-good
 settle-requires-clause-good g c =
     let ups = ups_in c.args.strength.now.ups.items in
     let sets : c.as_slice.result.now ≡ map ups c.args.config.now = c.as_slice.ensures.value ∙ c.up_sets-sets.ensures.sets ∙ ap (map ups) c.labels.ensures.labels in
-    let is : IsConfig c.args.constraint.now.degree 128 c.args.config.now =
-    AllByRecursion-contains (IsConfig c.args.constraint.now.degree 128) c.args.constraint.now.configs c.args.config.now c.degree-degree.ensures.constraint.configs c.requires.config in
+    let is : IsConfig c.args.constraint.now.degree MAX_LABELS c.args.config.now =
+    AllByRecursion-contains (IsConfig c.args.constraint.now.degree MAX_LABELS) c.args.constraint.now.configs c.args.config.now c.degree-degree.ensures.constraint.configs c.requires.config in
     subst (IsGood c.args.constraint.now) (sym sets) (up_config c.args.constraint.now ups c.requires.strong c.args.config.now is.count
     (subst (Contains c.args.constraint.now.configs) (sym (sorted_again c.args.config.now is.ascends)) c.requires.config))
 
@@ -24,8 +25,8 @@ pub settle-requires-clause-sets : goal.settle-requires-clause-sets
 settle-requires-clause-sets g c =
     let ups = ups_in c.args.strength.now.ups.items in
     let sets : c.as_slice.result.now ≡ map ups c.args.config.now = c.as_slice.ensures.value ∙ c.up_sets-sets.ensures.sets ∙ ap (map ups) c.labels.ensures.labels in
-    let is : IsConfig c.args.constraint.now.degree 128 c.args.config.now =
-    AllByRecursion-contains (IsConfig c.args.constraint.now.degree 128) c.args.constraint.now.configs c.args.config.now c.degree-degree.ensures.constraint.configs c.requires.config in
+    let is : IsConfig c.args.constraint.now.degree MAX_LABELS c.args.config.now =
+    AllByRecursion-contains (IsConfig c.args.constraint.now.degree MAX_LABELS) c.args.constraint.now.configs c.args.config.now c.degree-degree.ensures.constraint.configs c.requires.config in
     let good = up_config c.args.constraint.now ups c.requires.strong c.args.config.now is.count
     (subst (Contains c.args.constraint.now.configs) (sym (sorted_again c.args.config.now is.ascends)) c.requires.config) in
     AreSets-filled c.args.strength.now.labels c.as_slice.result.now (subst (AllByRecursion (IsLabelSet c.args.strength.now.labels)) (sym c.as_slice.ensures.value) c.up_sets-sets.ensures.below)

@@ -3,13 +3,14 @@ use Rattle.re_labels.proofs.Tests.{eqb-apart, eqb-same}
 use Rattle.re_changes.proofs.Counted.{kept_in, left_out, length-filter_most}
 use Rattle.re_changes.proofs.changing.all_but.Goals as goal
 use Rattle.re_changes.proofs.changing.all_but.Goals.{then-other-label, else-other-label}
+use Rattle.re_labels.specs.declared.TheConstants.{MAX_LABELS}
 
 pub push-requires : goal.push-requires
 push-requires c = (
   lit< tt,
   (let e = ap length c.loop-other.invariant in
       let most = length-filter_most (λ y. not (eqb y c.args.label)) 0 c.loop-other.other in
-      let few = c.requires in let below = c.loop-other-test.true in let h : length c.loop-other.others.items < 128 = omega (arith, e, most) in h),
+      let few = c.requires in let below = c.loop-other-test.true in let h : length c.loop-other.others.items < MAX_LABELS = omega (arith, e, most) in h),
 )
 
 pub loop-other-preserved : goal.loop-other-preserved

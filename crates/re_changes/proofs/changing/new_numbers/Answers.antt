@@ -3,12 +3,13 @@ use Rattle.re_changes.proofs.Counted.{length-map_counted, pushed}
 use Rattle.re_changes.specs.Changes.{goes_to}
 use Rattle.re_changes.specs.Renumbering.{number_among}
 use Rattle.re_changes.proofs.changing.new_numbers.Goals as goal
+use Rattle.re_labels.specs.declared.TheConstants.{MAX_LABELS}
 
 pub push-requires : goal.push-requires
 push-requires c = (
   lit< tt,
   (let e = ap length c.loop-label.invariant ∙ length-map_counted (λ label. number_among c.args.stay.now (goes_to c.args.change label)) c.loop-label.label in
-      let few = c.requires.labels in let below = c.loop-label-test.true in let h : length c.loop-label.numbers.items < 128 = omega (arith, e) in h),
+      let few = c.requires.labels in let below = c.loop-label-test.true in let h : length c.loop-label.numbers.items < MAX_LABELS = omega (arith, e) in h),
 )
 
 pub loop-label-preserved : goal.loop-label-preserved

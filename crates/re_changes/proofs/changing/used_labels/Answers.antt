@@ -5,13 +5,14 @@ use Rattle.re_problem.specs.NamedProblems.{occurs}
 use Rattle.re_changes.proofs.Counted.{kept_in, left_out, length-filter_most}
 use Rattle.re_changes.proofs.changing.used_labels.Goals as goal
 use Rattle.re_changes.proofs.changing.used_labels.Goals.{then-has, else-has}
+use Rattle.re_labels.specs.declared.TheConstants.{MAX_LABELS}
 
 pub push-requires : goal.push-requires
 push-requires c = (
   lit< tt,
   (let e = ap length c.loop-label.invariant in
       let most = length-filter_most (λ label. occurs c.args.active.now label || occurs c.args.passive.now label) 0 c.loop-label.label in
-      let few = c.requires in let below = c.loop-label-test.true in let h : length c.loop-label.held.items < 128 = omega (arith, e, most) in h),
+      let few = c.requires in let below = c.loop-label-test.true in let h : length c.loop-label.held.items < MAX_LABELS = omega (arith, e, most) in h),
 )
 
 pub loop-label-preserved : goal.loop-label-preserved

@@ -3,10 +3,11 @@ use Rattle.re_config.proofs.LeastLabels.{length-set}
 use Rattle.re_table.proofs.Insertions.{length-with_list_most}
 use Rattle.re_changes.proofs.Numbering.{names-all, names-step}
 use Rattle.re_changes.proofs.renumbering.names_at.Goals as goal
+use Rattle.re_labels.specs.declared.TheConstants.{MAX_LABELS}
 
 pub unreachable-requires : goal.unreachable-requires
 unreachable-requires c =
-    let full : length c.loop-label.kept ≡ 128 = ((rw c.in-Err-TooMany.field-0-is at c.in-Err-TooMany.ensures.many).0 refl).0 in
+    let full : length c.loop-label.kept ≡ MAX_LABELS = ((rw c.in-Err-TooMany.field-0-is at c.in-Err-TooMany.ensures.many).0 refl).0 in
     omega (arith, full, c.loop-label.invariant.few, length-set (length c.args.names.now) c.args.stay.now c.requires, c.len-count.ensures.names.few, c.loop-label-test.true)
 
 pub loop-label-preserved : goal.loop-label-preserved

@@ -6,6 +6,7 @@ use Rattle.re_table.proofs.Insertions.{length-with_list_most}
 use Rattle.re_table.proofs.Walked.{walked-all, walked-more}
 use Rattle.re_changes.proofs.LeftOut.{without-all, without-passed, without-step}
 use Rattle.re_changes.proofs.without.constraint_without.Goals as goal
+use Rattle.re_labels.specs.declared.TheConstants.{MAX_LABELS}
 
 pub unreachable-requires : goal.unreachable-requires
 unreachable-requires c =
@@ -54,5 +55,5 @@ pub returns : goal.returns
 returns c =
     let place = c.loop-config.invariant.0 in
     let so_far = c.loop-config.invariant.1 in
-    without-all c.args.label 128 c.args.constraint.now c.loop-config.rest place c.degree.ensures.constraint
+    without-all c.args.label MAX_LABELS c.args.constraint.now c.loop-config.rest place c.degree.ensures.constraint
     (walked-all c.args.constraint.now.configs place [] (sym so_far.left ∙ c.in-None.ensures.steps.0)) so_far.degree so_far.configs

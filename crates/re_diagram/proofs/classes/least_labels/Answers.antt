@@ -4,13 +4,14 @@ use Rattle.re_changes.proofs.Counted.{kept_in, left_out, length-filter_most}
 use Rattle.re_diagram.specs.Classes.{least_equal, strong_by}
 use Rattle.re_diagram.proofs.classes.least_labels.Goals as goal
 use Rattle.re_diagram.proofs.classes.least_labels.Goals.{then-least_equal-label, else-least_equal-label}
+use Rattle.re_labels.specs.declared.TheConstants.{MAX_LABELS}
 
 pub push-requires : goal.push-requires
 push-requires c = (
   lit< tt,
   (let e = ap length c.loop-label.invariant in
       let most = length-filter_most (λ a. least_equal (strong_by c.args.ups.now) (length c.args.ups.now) a == a) 0 c.loop-label.label in
-      let few = c.requires in let below = c.loop-label-test.true in let h : length c.loop-label.least.items < 128 = omega (arith, e, most) in h),
+      let few = c.requires in let below = c.loop-label-test.true in let h : length c.loop-label.least.items < MAX_LABELS = omega (arith, e, most) in h),
 )
 
 pub loop-label-preserved : goal.loop-label-preserved

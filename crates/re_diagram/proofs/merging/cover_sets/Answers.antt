@@ -4,6 +4,7 @@ use Rattle.re_table.specs.Strength.{up_set}
 use Rattle.re_changes.proofs.Counted.{length-map_counted, pushed}
 use Rattle.re_diagram.proofs.Alike.{read-counted}
 use Rattle.re_diagram.proofs.merging.cover_sets.Goals as goal
+use Rattle.re_labels.specs.declared.TheConstants.{MAX_LABELS}
 
 pub bounds-deref-label : goal.bounds-deref-label
 bounds-deref-label c =
@@ -20,7 +21,7 @@ push-requires c = (
   lit< tt,
   (let e = ap length c.loop-label.invariant ∙ length-map_counted (λ label. meet (up_set c.args.problem.now.active label (length c.args.problem.now.names)) (up_set c.args.problem.now.passive label (length c.args.problem.now.names))) c.loop-label.label in
       let few = c.len-labels.ensures.names.few in let n = c.len-labels.ensures.len in let below = c.loop-label-test.true in
-      let h : length c.loop-label.covers.items < 128 = omega (arith, e) in h),
+      let h : length c.loop-label.covers.items < MAX_LABELS = omega (arith, e) in h),
 )
 
 pub loop-label-preserved : goal.loop-label-preserved

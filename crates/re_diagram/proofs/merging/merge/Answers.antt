@@ -10,6 +10,7 @@ use Rattle.re_diagram.proofs.MergedLabels.{IsLabelSet-unmerged, configs-below, i
 use Rattle.re_diagram.specs.Merging.{Merging, merge_map, unmerged}
 use Rattle.re_changes.specs.Renumbering.{renumbered}
 use Rattle.re_diagram.proofs.merging.merge.Goals as goal
+use Rattle.re_labels.specs.declared.TheConstants.{MAX_LABELS}
 
 pub renumbered-requires-clause-stay : goal.renumbered-requires-clause-stay
 renumbered-requires-clause-stay c =
@@ -38,8 +39,8 @@ pub renumbered-requires-clause-below : goal.renumbered-requires-clause-below
 renumbered-requires-clause-below c =
     let images : c.as_slice-5.result.now ≡ merge_map c.args.problem.now = images-are c.args.problem.now c.as_slice.result.now c.as_slice-2.result.now c.least_labels-stay.result.items c.as_slice-3.result.now c.as_slice-4.result.now c.merge_map-images.result.items c.as_slice-5.result.now
     (c.as_slice.ensures.value ∙ c.cover_sets-covers.ensures) (c.as_slice-2.ensures.value ∙ sym c.as_slice.ensures.value) c.least_labels-stay.ensures c.as_slice-3.ensures.value c.as_slice-4.ensures.value c.merge_map-images.ensures c.as_slice-5.ensures.value in
-    subst (AllByRecursion (λ image. image < 128)) (sym images)
-    (merged-below c.args.problem.now c.names.ensures.problem 128
+    subst (AllByRecursion (λ image. image < MAX_LABELS)) (sym images)
+    (merged-below c.args.problem.now c.names.ensures.problem MAX_LABELS
     (omega (arith, length-set (length c.args.problem.now.names) (unmerged c.args.problem.now) (IsLabelSet-unmerged c.args.problem.now c.names.ensures.problem), c.names.ensures.problem.names.few)))
 
 pub renumbered-requires-clause-built : goal.renumbered-requires-clause-built

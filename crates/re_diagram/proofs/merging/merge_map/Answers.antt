@@ -3,12 +3,13 @@ use Rattle.re_changes.proofs.Counted.{length-map_counted, pushed}
 use Rattle.re_diagram.specs.Classes.{least_equal, strong_by}
 use Rattle.re_changes.specs.Renumbering.{number_among}
 use Rattle.re_diagram.proofs.merging.merge_map.Goals as goal
+use Rattle.re_labels.specs.declared.TheConstants.{MAX_LABELS}
 
 pub push-requires : goal.push-requires
 push-requires c = (
   lit< tt,
   (let e = ap length c.loop-label.invariant ∙ length-map_counted (λ a. number_among c.args.stay.now (least_equal (strong_by c.args.covers.now) (length c.args.covers.now) a)) c.loop-label.label in
-      let few = c.requires.few in let below = c.loop-label-test.true in let h : length c.loop-label.images.items < 128 = omega (arith, e) in h),
+      let few = c.requires.few in let below = c.loop-label-test.true in let h : length c.loop-label.images.items < MAX_LABELS = omega (arith, e) in h),
 )
 
 pub loop-label-preserved : goal.loop-label-preserved

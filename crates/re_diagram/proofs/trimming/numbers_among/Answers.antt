@@ -2,12 +2,13 @@ use Rattle.std.proofs.Common.{◌<◌, ap, arith, length, lit<, ◌∙◌}
 use Rattle.re_changes.proofs.Counted.{length-map_counted, pushed}
 use Rattle.re_changes.specs.Renumbering.{number_among}
 use Rattle.re_diagram.proofs.trimming.numbers_among.Goals as goal
+use Rattle.re_labels.specs.declared.TheConstants.{MAX_LABELS}
 
 pub push-requires : goal.push-requires
 push-requires c = (
   lit< tt,
   (let e = ap length c.loop-label.invariant ∙ length-map_counted (number_among c.args.stay.now) c.loop-label.label in
-      let few = c.requires.labels in let below = c.loop-label-test.true in let h : length c.loop-label.images.items < 128 = omega (arith, e) in h),
+      let few = c.requires.labels in let below = c.loop-label-test.true in let h : length c.loop-label.images.items < MAX_LABELS = omega (arith, e) in h),
 )
 
 pub loop-label-preserved : goal.loop-label-preserved

@@ -11,6 +11,7 @@ use Rattle.re_diagram.proofs.TrimmedProblems.{IsLabelSet-all_but, covered-first,
 use Rattle.re_changes.specs.Renumbering.{number_among, renumbered}
 use Rattle.re_diagram.specs.Trimming.{all_but, named_without}
 use Rattle.re_diagram.proofs.trimming.without.Goals as goal
+use Rattle.re_labels.specs.declared.TheConstants.{MAX_LABELS}
 
 pub constraint_without-requires : goal.constraint_without-requires
 constraint_without-requires c = omega (arith, (covered-first c.args.problem.now c.args.label c.requires).0, c.names.ensures.problem.names.few)
@@ -50,8 +51,8 @@ renumbered-requires-clause-below c =
     let n : c.len-labels.result ≡ length c.args.problem.now.names = c.len-labels.ensures.len ∙ ap length c.names.ensures.names in
     let images : c.as_slice-3.result.now ≡ map (number_among (all_but c.args.label (length c.args.problem.now.names))) (count_from 0 (length c.args.problem.now.names)) =
     c.as_slice-3.ensures.value ∙ c.numbers_among-images.ensures ∙ (λ i. map (number_among ((c.as_slice.ensures.value ∙ c.all_but-stay.ensures ∙ ap (all_but c.args.label) n) i)) (count_from 0 (n i))) in
-    subst (AllByRecursion (λ image. image < 128)) (sym images)
-    (without-below c.args.label (length c.args.problem.now.names) 128 (covered-first c.args.problem.now c.args.label c.requires).0 c.names.ensures.problem.names.few)
+    subst (AllByRecursion (λ image. image < MAX_LABELS)) (sym images)
+    (without-below c.args.label (length c.args.problem.now.names) MAX_LABELS (covered-first c.args.problem.now c.args.label c.requires).0 c.names.ensures.problem.names.few)
 
 pub renumbered-requires-clause-built : goal.renumbered-requires-clause-built
 renumbered-requires-clause-built c =

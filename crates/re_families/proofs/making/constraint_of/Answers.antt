@@ -5,6 +5,7 @@ use Rattle.re_families.specs.Families.{rule, rules_of}
 use Rattle.re_labels.proofs.Membership.{AllByRecursion-weaker}
 use Rattle.re_families.proofs.Listing.{all_kept, config_is, is_config, kept, left, passed, room}
 use Rattle.re_families.proofs.making.constraint_of.Goals as goal
+use Rattle.re_labels.specs.declared.TheConstants.{MAX_LABELS}
 
 pub loop-picks-init : goal.loop-picks-init
 loop-picks-init c = record {
@@ -21,7 +22,7 @@ config_of-config-requires-clause-two c =
 pub config_of-config-requires-clause-below : goal.config_of-config-requires-clause-below
 config_of-config-requires-clause-below c =
     let is = is_config c.args.degree c.args.labels c.loop-picks.yielded c.loop-picks.picks-iterator c.next.new.self c.in-Some.picks c.loop-picks.invariant.all c.in-Some.ensures.steps in
-    subst (AllByRecursion (λ x. x < 128)) (sym c.numbers.ensures) (AllByRecursion-weaker (λ x. x < c.args.labels) (λ x. x < 128) (λ x l. omega (arith, l)) c.in-Some.picks is.below)
+    subst (AllByRecursion (λ x. x < MAX_LABELS)) (sym c.numbers.ensures) (AllByRecursion-weaker (λ x. x < c.args.labels) (λ x. x < MAX_LABELS) (λ x l. omega (arith, l)) c.in-Some.picks is.below)
 
 pub put-requires-clause-degree : goal.put-requires-clause-degree
 put-requires-clause-degree c =

@@ -5,6 +5,7 @@ use Rattle.re_rests.proofs.Visits.{IsOpenedAt, IsPartedAt, narrowed-all, narrowe
 use Rattle.re_rests.specs.Rests.{Completes}
 use Rattle.re_rests.specs.Spans.{tree_of, AreSpans, Fits, IsEnding, IsNarrowed, IsNext, IsVisit, IsWaiting}
 use Rattle.re_rests.proofs.visiting.+visit.Goals as goal
+use Rattle.re_labels.specs.declared.TheConstants.{MAX_LABELS}
 
 is-deep : (l degree d e : ℕ) → d ≡ l → e ≡ degree → (d + 1 ≡ e → ⊥) → l < degree → l + 1 < degree
 is-deep l degree d e same given apart below = strictly (l + 1) degree (omega (arith, below)) (λ h. apart (omega (arith, h, same, given)))
@@ -49,7 +50,7 @@ pub returns-clause-narrowed : goal.returns-clause-narrowed
 returns-clause-narrowed t c =
     let deep : length c.args.beginning.now.items + 1 < (tree_of c.args.constraint.now c.args.nodes.now).degree =
     (let d = c.len-depth.ensures.value in let e = c.degree.ensures.degree in let h = c.if-depth-degree.false in let r = c.requires.depth in is-deep (length c.args.beginning.now.items) (tree_of c.args.constraint.now c.args.nodes.now).degree c.len-depth.result c.degree.result d e h r) in
-    let end : 128 ≤ c.loop-least.least = c.loop-least-test.false in
+    let end : MAX_LABELS ≤ c.loop-least.least = c.loop-least-test.false in
     narrowed-all (tree_of c.args.constraint.now c.args.nodes.now) c.degree.ensures.constraint c.args.beginning.now.items c.loop-least.least c.args.ups.now c.loop-least.ups deep c.loop-least.invariant.narrowed
     (λ label a ending from h done. (let below = rest-below (tree_of c.args.constraint.now c.args.nodes.now) c.degree.ensures.constraint c.args.beginning.now.items label ending a done in omega (arith, below, from, end)))
 
@@ -123,8 +124,8 @@ visit-requires t c =
     (let d = c.len-depth.ensures.value in let e = c.degree.ensures.degree in let h = c.if-depth-degree.false in let r = c.requires.depth in is-deep (length c.args.beginning.now.items) (tree_of c.args.constraint.now c.args.nodes.now).degree c.len-depth.result c.degree.result d e h r) in
     let longer : c.push.new.self.items ≡ c.args.beginning.now.items ++ c.in-Some.label ∷ [] = c.push.ensures.items ∙ ap (λ b. b ++ c.in-Some.label ∷ []) c.loop-least.invariant.same in
     let count : length c.push.new.self.items ≡ length c.args.beginning.now.items + 1 = ap length longer ∙ length-append c.args.beginning.now.items (c.in-Some.label ∷ []) in
-    let low : c.in-Some.label < 128 = c.in-Some.ensures.0 in
-    let few : length c.loop-least.ups ≤ 128 = (let l = c.loop-least.auto.ups in let f = c.requires.few in omega (arith, l, f)) in (
+    let low : c.in-Some.label < MAX_LABELS = c.in-Some.ensures.0 in
+    let few : length c.loop-least.ups ≤ MAX_LABELS = (let l = c.loop-least.auto.ups in let f = c.requires.few in omega (arith, l, f)) in (
       omega (arith, c.decreases, count, deep),
       (
         omega (arith, count, deep),
@@ -154,8 +155,8 @@ loop-least-smaller t c =
       is_opened = c.open-parts.ensures.opened;
     }) in
     let goes : c.loop-least.least ≤ c.in-Some.label = (next-goes (tree_of c.args.constraint.now c.args.nodes.now) c.degree.ensures.constraint c.args.beginning.now.items c.args.bound c.requires.visit.bounded c.loop-least.least c.loop-least.rest c.loop-least.waiting.items c.loop-least.invariant.waiting c.in-Some.label next).0 in
-    let below : c.loop-least.least < 128 = c.loop-least-test.true in
-    let few : c.in-Some.label < 128 = c.in-Some.ensures.0 in
+    let below : c.loop-least.least < MAX_LABELS = c.loop-least-test.true in
+    let few : c.in-Some.label < MAX_LABELS = c.in-Some.ensures.0 in
     omega (arith, goes, below, few)
 
 pub loop-least-preserved : goal.loop-least-preserved
@@ -186,7 +187,7 @@ loop-least-preserved t c =
       fits_after = c.part.ensures.after;
     })) in
     let longer : c.push.new.self.items ≡ c.args.beginning.now.items ++ c.in-Some.label ∷ [] = c.push.ensures.items ∙ ap (λ b. b ++ c.in-Some.label ∷ []) c.loop-least.invariant.same in
-    let few : c.in-Some.label < 128 = c.in-Some.ensures.0 in
+    let few : c.in-Some.label < MAX_LABELS = c.in-Some.ensures.0 in
     record {
       same = popped-is c.args.beginning.now.items c.visit.new.beginning.items c.pop.new.self.items c.in-Some.label (c.visit.ensures.beginning ∙ longer) c.pop.ensures.rest;
       low = omega (arith, few);

@@ -5,12 +5,13 @@ use Rattle.re_rests.proofs.Visits.{candidate-completes, completes-cases, next-co
 use Rattle.re_rests.specs.Rests.{Completes}
 use Rattle.re_rests.specs.Spans.{tree_of}
 use Rattle.re_rests.proofs.visiting.completions.Goals as goal
+use Rattle.re_labels.specs.declared.TheConstants.{MAX_LABELS}
 
 pub labels_of-requires : goal.labels_of-requires
 labels_of-requires c = λ candidate held.
     let low = (candidate-completes (tree_of c.args.constraint.now c.args.nodes.now) c.degree-degree.ensures.constraint c.args.rest.now c.args.bound c.args.main c.args.candidates.now c.requires.visit c.requires.rest candidate held).0 in
     let few = c.requires.bound in
-    let h : candidate.label < 128 = omega (arith, low, few) in h
+    let h : candidate.label < MAX_LABELS = omega (arith, low, few) in h
 
 pub returns : goal.returns
 returns c = λ x. (

@@ -4,6 +4,7 @@ use Rattle.re_rests.proofs.Visits.{next-goes, opened-more, opened-same}
 use Rattle.re_rests.specs.Spans.{tree_of, AreSpans, IsOpened, IsSpan}
 use Rattle.re_rests.specs.declared.visiting.Candidate.{Candidate}
 use Rattle.re_rests.proofs.visiting.open.Goals as goal
+use Rattle.re_labels.specs.declared.TheConstants.{MAX_LABELS}
 
 few-wider : (count bound least label : ℕ) → count ≤ max bound least → least ≤ label → count ≤ max bound (label + 1)
 few-wider count bound least label few le = omega arith
@@ -11,7 +12,7 @@ few-wider count bound least label few le = omega arith
 few-more : (count bound least label : ℕ) → count ≤ max bound least → least ≤ label → bound ≤ label → count + 1 ≤ max bound (label + 1)
 few-more count bound least label few le low = omega arith
 
-few-room : (count bound least label : ℕ) → count ≤ max bound least → least ≤ label → bound ≤ label → label < 128 → count < 128
+few-room : (count bound least label : ℕ) → count ≤ max bound least → least ≤ label → bound ≤ label → label < MAX_LABELS → count < MAX_LABELS
 few-room count bound least label few le low h = omega arith
 
 pub push-requires : goal.push-requires

@@ -6,6 +6,7 @@ use Rattle.re_labels.specs.Lists.{count_from}
 use Rattle.re_labels.specs.Sets.{with_label}
 use Rattle.re_table.proofs.Strengths.{with_label-below}
 use Rattle.re_rests.proofs.visiting.whole_sets.Goals as goal
+use Rattle.re_labels.specs.declared.TheConstants.{MAX_LABELS}
 
 pub loop-label-preserved : goal.loop-label-preserved
 loop-label-preserved c =
@@ -15,7 +16,7 @@ pub push-requires : goal.push-requires
 push-requires c =
     let count : length c.loop-label-2.sets.items ≡ c.loop-label-2._label = ap length c.loop-label-2.invariant ∙ length-map' (λ x. count_from 0 c.args.labels) (count_from 0 c.loop-label-2._label) ∙ length-count_from 0 c.loop-label-2._label in
     let below : c.loop-label-2._label < c.args.labels = c.loop-label-2-test.true in
-    (lit< tt, (let few = c.requires in let h : length c.loop-label-2.sets.items < 128 = omega (arith, count, below, few) in h))
+    (lit< tt, (let few = c.requires in let h : length c.loop-label-2.sets.items < MAX_LABELS = omega (arith, count, below, few) in h))
 
 pub loop-label-2-preserved : goal.loop-label-2-preserved
 loop-label-2-preserved c =

@@ -9,6 +9,7 @@ use Rattle.re_table.specs.PrefixTrees.{IsPrefixTree, held_configs, leaf_configs}
 use Rattle.re_table.specs.TreeGrowth.{IsFound}
 use Rattle.re_table.specs.declared.prefix_tree.Node.{Node}
 use Rattle.re_table.proofs.prefix_tree.put.Goals as goal
+use Rattle.re_table.specs.declared.constraint_table.TheConstants.{MAX_CONFIGURATIONS}
 
 absent : (nodes read : List Node) (config way : List ℕ) (depth parent before after : ℕ) → read ≡ nodes → IsPrefixTree (length config) nodes → IsFound read config way depth parent before after → Contains (held_configs nodes) config → ⊥
 absent nodes read config way depth parent before after same tree found =
@@ -36,7 +37,7 @@ pub returns-clause-table : goal.returns-clause-table
 returns-clause-table c =
     let nodes = c.args.nodes.now.items in
     let count = ap (λ l. length (held_configs l)) c.as_slice-2.ensures.value in
-    IsTable-more (length c.args.config) 1048576 nodes c.grow.new.nodes.items c.args.config c.requires.table c.labels-labels.ensures.six
+    IsTable-more (length c.args.config) MAX_CONFIGURATIONS nodes c.grow.new.nodes.items c.args.config c.requires.table c.labels-labels.ensures.six
     (omega (arith, count, c.leaf_count.ensures, c.if-leaf_count-eq-MAX_CONFIGURATIONS.false, c.requires.table.few))
     (absent nodes c.as_slice.result.now c.args.config c.gap_of.new.way.items c.in-Some.gap.depth c.in-Some.gap.parent c.in-Some.gap.between.before c.in-Some.gap.between.after
     c.as_slice.ensures.value c.requires.table.tree c.in-Some.ensures)

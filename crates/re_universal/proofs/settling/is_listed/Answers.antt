@@ -5,12 +5,13 @@ use Rattle.re_config.specs.Rows.{row_cmp}
 use Rattle.re_strength.proofs.EqualRows.{equal_rows, equal_seen, equal_when, row_cmp-same}
 use Rattle.re_strength.proofs.Walks.{all_walked, always, never, one_more}
 use Rattle.re_universal.proofs.settling.is_listed.Goals as goal
+use Rattle.re_labels.specs.declared.TheConstants.{MAX_LABELS}
 
 pub returns-then-eq : goal.returns-then-eq
 returns-then-eq c =
     let row = c.args.row.now in
     let other = c.other-item.result in
-    let same : row ≡ other = equal_rows 128 row other c.sets-sets.ensures.row.sets c.sets-others.ensures.row.sets (sym c.row_order.ensures ∙ equal_when c.row_order.result (sym c.eq.ensures ∙ c.if-eq.true)) in
+    let same : row ≡ other = equal_rows MAX_LABELS row other c.sets-sets.ensures.row.sets c.sets-others.ensures.row.sets (sym c.row_order.ensures ∙ equal_when c.row_order.result (sym c.eq.ensures ∙ c.if-eq.true)) in
     always (subst (Contains c.args.rows.now) (sym same) (c.loop-other.other-index, c.loop-other-test.true, sym c.other-item.is))
 
 pub loop-other-preserved : goal.loop-other-preserved

@@ -3,11 +3,12 @@ use Rattle.std.specs.Prelude.{Contains, IfOk, IsTrue, ◌↔◌}
 use Rattle.re_table.proofs.Insertions.{IsConstraint-either}
 use Rattle.re_table.specs.PrefixTrees.{IsTable, held_configs}
 use Rattle.re_table.proofs.constraint_table.Constraint.insert.Goals as goal
+use Rattle.re_table.specs.declared.constraint_table.TheConstants.{MAX_CONFIGURATIONS}
 
 pub invariant_of-self-2 : goal.invariant_of-self-2
 invariant_of-self-2 c =
     let degree : length c.args.config ≡ c.self.inside.degree = c.requires ∙ ap (λ s. s.degree) (sym c.self.view_is) in (
-      subst (λ d. IsTable d 1048576 c.put.new.nodes.items) degree c.put.ensures.table,
+      subst (λ d. IsTable d MAX_CONFIGURATIONS c.put.new.nodes.items) degree c.put.ensures.table,
       IsConstraint-either c.self.inside.degree (held_configs c.self.inside.nodes.items) (held_configs c.make_root.new.nodes.items) (held_configs c.put.new.nodes.items) c.args.config c.put.result
           c.self.invariant.1 c.make_root.ensures.held degree c.labels-labels.ensures.config c.put.ensures.held c.put.ensures.err,
     )

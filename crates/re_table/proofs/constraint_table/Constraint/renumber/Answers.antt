@@ -9,6 +9,7 @@ use Rattle.re_table.specs.PrefixTrees.{leaf_configs}
 use Rattle.re_table.specs.Renumbered.{node_image}
 use Rattle.re_table.specs.declared.prefix_tree.Node.{Node}
 use Rattle.re_table.proofs.constraint_table.Constraint.renumber.Goals as goal
+use Rattle.re_table.specs.declared.constraint_table.TheConstants.{MAX_CONFIGURATIONS}
 
 all_written : (images : List ℕ) (len : ℕ) (items read new : List Node) → len ≡ length items → read ≡ items → new ≡ map (node_image images) read → take len (new ++ drop (length new) items) ≡ map (node_image images) items
 all_written images len items read new count same is =
@@ -19,7 +20,7 @@ pub invariant_of-self : goal.invariant_of-self
 invariant_of-self c =
     let items = c.self.inside.nodes.items in
     let P : List ℕ → Type 0 = AllByRecursion (λ label. label < length c.args.images.now) in
-    renumbered c.args.images.now c.self.inside.degree 1048576 items _ c.requires.rises c.requires.below
+    renumbered c.args.images.now c.self.inside.degree MAX_CONFIGURATIONS items _ c.requires.rises c.requires.below
     (subst (AllByRecursion P) (ap (λ s. s.configs) (sym c.self.view_is)) c.requires.known) c.self.invariant.1
     (all_written c.args.images.now _ items c.as_mut_slice.result.now c.renumber_nodes.new.nodes c.self.inside.nodes.ok.0 c.as_mut_slice.ensures.value c.renumber_nodes.ensures)
     c.self.invariant.0
@@ -28,7 +29,7 @@ pub returns-clause-configs : goal.returns-clause-configs
 returns-clause-configs c =
     let items = c.self.inside.nodes.items in
     let P : List ℕ → Type 0 = AllByRecursion (λ label. label < length c.args.images.now) in
-    renumbered-held c.args.images.now c.self.inside.degree 1048576 items _ c.requires.rises c.requires.below
+    renumbered-held c.args.images.now c.self.inside.degree MAX_CONFIGURATIONS items _ c.requires.rises c.requires.below
     (subst (AllByRecursion P) (ap (λ s. s.configs) (sym c.self.view_is)) c.requires.known) c.self.invariant.1
     (all_written c.args.images.now _ items c.as_mut_slice.result.now c.renumber_nodes.new.nodes c.self.inside.nodes.ok.0 c.as_mut_slice.ensures.value c.renumber_nodes.ensures)
     ∙ ap (images_of c.args.images.now) c.self.view_is

@@ -19,145 +19,102 @@ fn read(alloc: Global, text: &[u8]) -> Result<Problem, TextFault> {
     read_problem(alloc, text)
 }
 
-fn have_numbers(sets: &[LabelSet], numbers: &[u128]) -> bool {
-    if sets.len() != numbers.len() {
+// Whether the sets have these numbers, a digit each.
+fn have_numbers(sets: &[LabelSet], digits: &[u8]) -> bool {
+    if sets.len() != digits.len() {
         return false;
     }
-    for (set, number) in sets.iter().zip(numbers) {
-        if set.number() != *number {
+    for (set, digit) in sets.iter().zip(digits) {
+        if set.number() != digit.wrapping_sub(b'0') as u128 {
             return false;
         }
     }
     true
 }
 
-fn have_pairs(rows: &[Row], pairs: &[[u128; 2]]) -> bool {
-    if rows.len() != pairs.len() {
+// Whether the rows are of sets with these numbers, a digit each: so many to a row, one row behind the other.
+fn have_rows(rows: &[Row], digits: &[u8]) -> bool {
+    let mut rest = digits;
+    for row in rows {
+        let count = row.sets().len();
+        if count > rest.len() || !have_numbers(row.sets(), &rest[..count]) {
+            return false;
+        }
+        rest = &rest[count..];
+    }
+    rest.is_empty()
+}
+
+// Whether the labels are these, a digit each.
+fn are_labels(labels: &[u8], digits: &[u8]) -> bool {
+    if labels.len() != digits.len() {
         return false;
     }
-    for (row, pair) in rows.iter().zip(pairs) {
-        if !have_numbers(row.sets(), pair) {
+    for (label, digit) in labels.iter().zip(digits) {
+        if *label != digit.wrapping_sub(b'0') {
             return false;
         }
     }
     true
 }
 
-fn are_pairs(configs: &[Config], pairs: &[[u8; 2]]) -> bool {
-    if configs.len() != pairs.len() {
-        return false;
-    }
-    for (config, pair) in configs.iter().zip(pairs) {
-        if config.labels() != pair.as_slice() {
+// Whether the configurations have these labels, a digit each: so many to a configuration, one behind the other.
+fn have_labels(configs: &[Config], digits: &[u8]) -> bool {
+    let mut rest = digits;
+    for config in configs {
+        let count = config.labels().len();
+        if count > rest.len() || !are_labels(config.labels(), &rest[..count]) {
             return false;
         }
+        rest = &rest[count..];
     }
-    true
+    rest.is_empty()
 }
 
-fn are_threes(configs: &[Config], threes: &[[u8; 3]]) -> bool {
-    if configs.len() != threes.len() {
-        return false;
+// What the definitions give of a problem: the sets, the rows, the active and the passive configurations, a digit each.
+fn is_derived(alloc: Global, text: &[u8], found: [&[u8]; 4]) -> Result<bool, Fail> {
+    let problem = read(alloc, text)?;
+    let labels = problem.names().len();
+    if labels > 6 {
+        return Ok(false);
     }
-    for (config, three) in configs.iter().zip(threes) {
-        if config.labels() != three.as_slice() {
-            return false;
-        }
-    }
-    true
+    let [sets, rows, active, passive] = found;
+    let maximal = maximal_rows_by_definition(alloc, problem.passive(), labels as u8)?;
+    let derived = derived_by_definition(alloc, &problem)?;
+    Ok(
+        have_rows(maximal.as_slice(), rows)
+            && have_numbers(derived.sets.as_slice(), sets)
+            && derived.active_degree == 2
+            && have_labels(derived.active.as_slice(), active)
+            && derived.passive_degree == 3
+            && have_labels(derived.passive.as_slice(), passive),
+    )
 }
 
 // Sets by their numbers, where label i counts 2 to the i.
 #[test]
 fn derives_worked_problems(rt: HostRuntime) -> Result<(), Fail> {
-    for (name, text, sets, rows, active, passive) in [
+    let table: [(&[u8], [&[u8]; 4]); 3] = [
         // labels I, O
-        (
-            "sinkless orientation",
-            SINKLESS,
-            [1, 3].as_slice(),
-            [[1, 3]].as_slice(),
-            [[0, 1]].as_slice(),
-            [[0, 0, 1], [0, 1, 1], [1, 1, 1]].as_slice(),
-        ),
+        (SINKLESS, [b"13", b"13", b"01", b"001011111"]),
         // labels M, O, P
         (
-            "maximal independent set",
             INDEPENDENT,
-            [1, 2, 3, 6].as_slice(),
-            [[1, 6], [2, 3]].as_slice(),
-            [[0, 3], [1, 2]].as_slice(),
-            [
-                [0, 0, 0],
-                [0, 0, 2],
-                [0, 2, 2],
-                [1, 1, 3],
-                [1, 2, 3],
-                [1, 3, 3],
-                [2, 2, 2],
-                [2, 2, 3],
-                [2, 3, 3],
-                [3, 3, 3],
-            ]
-            .as_slice(),
+            [b"1236", b"1623", b"0312", b"000002022113123133222223233333"],
         ),
         // three of the sets with a colour in common
         (
-            "3-colouring",
             COLOURED,
-            [1, 2, 3, 4, 5, 6].as_slice(),
-            [[1, 6], [2, 5], [3, 4]].as_slice(),
-            [[0, 5], [1, 4], [2, 3]].as_slice(),
             [
-                [0, 0, 0],
-                [0, 0, 2],
-                [0, 0, 4],
-                [0, 2, 2],
-                [0, 2, 4],
-                [0, 4, 4],
-                [1, 1, 1],
-                [1, 1, 2],
-                [1, 1, 5],
-                [1, 2, 2],
-                [1, 2, 5],
-                [1, 5, 5],
-                [2, 2, 2],
-                [2, 2, 4],
-                [2, 2, 5],
-                [2, 4, 4],
-                [2, 5, 5],
-                [3, 3, 3],
-                [3, 3, 4],
-                [3, 3, 5],
-                [3, 4, 4],
-                [3, 4, 5],
-                [3, 5, 5],
-                [4, 4, 4],
-                [4, 4, 5],
-                [4, 5, 5],
-                [5, 5, 5],
-            ]
-            .as_slice(),
+                b"123456",
+                b"162534",
+                b"051423",
+                b"000002004022024044111112115122125155222224225244255333334335344345355444445455555",
+            ],
         ),
-    ] {
-        let read = read(rt.alloc(), text);
-        assert!(rt; read.is_ok(), "{name}");
-        if let Ok(problem) = read {
-            let labels = problem.names().len();
-            assert!(rt; labels <= 6);
-            let found_rows = maximal_rows_by_definition(
-                rt.alloc(),
-                problem.passive(),
-                labels as u8,
-            )?;
-            assert!(rt; have_pairs(found_rows.as_slice(), rows), "{name}");
-            let found = derived_by_definition(rt.alloc(), &problem)?;
-            assert!(rt; have_numbers(found.sets.as_slice(), sets), "{name}");
-            assert_eq!(rt; found.active_degree, 2, "{name}");
-            assert!(rt; are_pairs(found.active.as_slice(), active), "{name}");
-            assert_eq!(rt; found.passive_degree, 3, "{name}");
-            assert!(rt; are_threes(found.passive.as_slice(), passive), "{name}");
-        }
+    ];
+    for (text, found) in table {
+        assert!(rt; is_derived(rt.alloc(), text, found)?);
     }
     Ok(())
 }

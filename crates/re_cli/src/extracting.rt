@@ -4,7 +4,7 @@ ghost use Rattle.re_cli.specs.Command.{judges};
 ghost use Rattle.re_cli.specs.Extracting.{algorithm_outcome, extracted_from, extracting_outcome};
 ghost use Rattle.re_cli.specs.Outcome.{status_of};
 ghost use Rattle.re_cli.specs.Output.{outcome_of, within_limit};
-ghost use Rattle.re_cli.specs.Run.{MaySay};
+ghost use Rattle.re_cli.specs.Run.{MaySay, TakesInput};
 ghost use Rattle.re_cli.specs.Tabling.{tabling_outcome};
 ghost use Rattle.re_cli.specs.Working.{done as done_with};
 ghost use Rattle.re_io.specs.Faults.{Rose};
@@ -86,6 +86,7 @@ pub(crate) fn extract<S: Source>(alloc: Global, source: &mut S) -> Result<Output
     ensures emptied { IfOk result (λ _. (bytes : List ℕ) → S.left source.old ≡ Some bytes →
         length bytes ≤ MAX_BYTES → S.left source.new ≡ Some []) }
     ensures fault { IsErrOf result Stop.ReadFault → Rose (S.faults source.old) (S.faults source.new) }
+    ensures within { IsErrOf result Stop.ReadFault → TakesInput (S.left source.old) (S.left source.new) }
     ensures later { S.faults source.old ≤ S.faults source.new }
 {
     let bytes = match read_all(alloc, source) {

@@ -8,7 +8,7 @@ ghost use Rattle.re_problem.specs.Zero.{zero_place};
 ghost use Rattle.re_cli.specs.Command.{IsReading, judges};
 ghost use Rattle.re_cli.specs.Output.{outcome_of, within_limit};
 ghost use Rattle.re_cli.specs.Outcome.{status_of};
-ghost use Rattle.re_cli.specs.Run.{MaySay};
+ghost use Rattle.re_cli.specs.Run.{MaySay, TakesInput};
 ghost use Rattle.re_cli.specs.Reading.{fault_line, fault_outcome, fault_status, fit_outcome, problem_outcome, reading_outcome};
 
 use crate::command::{Command, Reading};
@@ -183,6 +183,7 @@ pub(crate) fn read<S: Source>(
     ensures emptied { IfOk result (λ _. (bytes : List ℕ) → S.left source.old ≡ Some bytes →
         length bytes ≤ MAX_BYTES → S.left source.new ≡ Some []) }
     ensures fault { IsErrOf result Stop.ReadFault → Rose (S.faults source.old) (S.faults source.new) }
+    ensures within { IsErrOf result Stop.ReadFault → TakesInput (S.left source.old) (S.left source.new) }
     ensures later { S.faults source.old ≤ S.faults source.new }
 {
     let bytes = match read_all(alloc, source) {

@@ -5,7 +5,7 @@ ghost use Rattle.re_check.specs.declared.verdict.Verdict.TheVariants.{Accepted};
 ghost use Rattle.re_cli.specs.Command.{judges};
 ghost use Rattle.re_cli.specs.Outcome.{status_of};
 ghost use Rattle.re_cli.specs.Output.{outcome_of, within_limit};
-ghost use Rattle.re_cli.specs.Run.{MaySay};
+ghost use Rattle.re_cli.specs.Run.{MaySay, TakesInput};
 ghost use Rattle.re_cli.specs.Running.{AreNamed, PassiveNodesGet, delivered, node_line, nodes_from, running_outcome, verified};
 ghost use Rattle.re_cli.specs.Working.{done as finished, refused as refused_with};
 ghost use Rattle.re_io.specs.Faults.{Rose};
@@ -185,6 +185,7 @@ pub(crate) fn run_input<S: Source>(alloc: Global, source: &mut S) -> Result<Outp
     ensures emptied { IfOk result (λ _. (bytes : List ℕ) → S.left source.old ≡ Some bytes →
         length bytes ≤ MAX_BYTES → S.left source.new ≡ Some []) }
     ensures fault { IsErrOf result Stop.ReadFault → Rose (S.faults source.old) (S.faults source.new) }
+    ensures within { IsErrOf result Stop.ReadFault → TakesInput (S.left source.old) (S.left source.new) }
     ensures later { S.faults source.old ≤ S.faults source.new }
 {
     let bytes = match read_all(alloc, source) {

@@ -3,7 +3,7 @@ ghost use Rattle.re_algo.specs.Tables.{entries};
 ghost use Rattle.re_cli.specs.Command.{judges};
 ghost use Rattle.re_cli.specs.Outcome.{Outcome, status_of};
 ghost use Rattle.re_cli.specs.Output.{outcome_of, within_limit};
-ghost use Rattle.re_cli.specs.Run.{MaySay};
+ghost use Rattle.re_cli.specs.Run.{MaySay, TakesInput};
 ghost use Rattle.re_cli.specs.Tabling.{active_line, behind_next, behind_step, faster_outcome, or_refusal, same_constraints, same_lists, same_problems, slower_outcome, table_outcome, tabled, tabling_outcome};
 ghost use Rattle.re_cli.specs.Working.{done as done_with, or_limit};
 ghost use Rattle.re_table_texts.specs.PrintedTables.{table_text};
@@ -258,6 +258,7 @@ pub(crate) fn tabulate<S: Source>(
     ensures emptied { IfOk result (λ _. (bytes : List ℕ) → S.left source.old ≡ Some bytes →
         length bytes ≤ MAX_BYTES → S.left source.new ≡ Some []) }
     ensures fault { IsErrOf result Stop.ReadFault → Rose (S.faults source.old) (S.faults source.new) }
+    ensures within { IsErrOf result Stop.ReadFault → TakesInput (S.left source.old) (S.left source.new) }
     ensures later { S.faults source.old ≤ S.faults source.new }
 {
     let bytes = match read_all(alloc, source) {

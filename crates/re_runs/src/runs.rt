@@ -4,6 +4,7 @@ ghost use Rattle.re_net.specs.Nets.{with_message};
 ghost use Rattle.re_net.specs.declared.nets.TheConstants.{MAX_ROUNDS};
 ghost use Rattle.re_runs.specs.RunReading.{AreMessages};
 ghost use Rattle.re_runs.specs.Runs.{Comes, first_illegal, messages_of, standings_of};
+ghost use Rattle.re_views.specs.Trees.{Tree as View};
 ghost use Rattle.std.specs.Prelude.{◌≡◌, ◌≤◌, [], IfOk, None, fold};
 
 use crate::reading::Delivery;
@@ -55,7 +56,10 @@ fn deliver_all(net: &mut Net, deliveries: &[Delivery]) -> Result<Option<u32>, No
 fn standings<R: Rule>(alloc: Global, net: &mut Net, rule: &mut R) -> Result<Vec<Standing>, NoMemory>
     requires degrees { R.degrees rule.old ≡ net.old.tree.degrees }
     requires radius { R.radius rule.old ≡ net.old.bound }
-    ensures { IfOk result (λ all. all.items ≡ standings_of net.old.tree net.old.bound net.old.delivered (R.answer rule.old)) }
+    ensures standings { IfOk result (λ all. all.items ≡ standings_of net.old.tree net.old.bound net.old.delivered (R.answer rule.old)) }
+    ensures rule_degrees { R.degrees rule.new ≡ R.degrees rule.old }
+    ensures rule_radius { R.radius rule.new ≡ R.radius rule.old }
+    ensures rule_answers { (v : View (Unit {0})) → R.answer rule.new v ≡ R.answer rule.old v }
 {
     let mut all = Vec::new(alloc);
     for node in 0..net.tree().len() {
@@ -69,7 +73,8 @@ fn standings<R: Rule>(alloc: Global, net: &mut Net, rule: &mut R) -> Result<Vec<
 /// Makes the deliveries in order on a net of the tree in which nothing is delivered, and asks each node for its output by a rule of the
 /// tree's degrees, whose radius is the bound. `Illegal` comes exactly where some delivery isn't legal behind those before it: the number
 /// of its message is above the round of its node; it is the first one. Else each node has its round by the messages of the list, and the
-/// rule's labels at its surroundings exactly where it is active, its round is the bound and its surroundings are full.
+/// rule's labels at its surroundings exactly where it is active, its round is the bound and its surroundings are full. The
+/// rule's degrees, radius and answers stay.
 ///
 /// The tree is numbered, the bound at most `MAX_ROUNDS`, and each delivery of a message of the tree with a number below the bound. It costs a
 /// delivery of the net for each of them, and an output for each node.
@@ -85,7 +90,10 @@ pub fn run_net<R: Rule>(
     requires messages { AreMessages tree bound deliveries.now }
     requires degrees { R.degrees rule.old ≡ tree.degrees }
     requires radius { R.radius rule.old ≡ bound }
-    ensures { IfOk result (λ run. Comes tree bound deliveries.now (R.answer rule.old) run) }
+    ensures run { IfOk result (λ run. Comes tree bound deliveries.now (R.answer rule.old) run) }
+    ensures rule_degrees { R.degrees rule.new ≡ R.degrees rule.old }
+    ensures rule_radius { R.radius rule.new ≡ R.radius rule.old }
+    ensures rule_answers { (v : View (Unit {0})) → R.answer rule.new v ≡ R.answer rule.old v }
 {
     let mut net = Net::new(alloc, tree, bound)?;
     if let Some(line) = deliver_all(&mut net, deliveries)? {

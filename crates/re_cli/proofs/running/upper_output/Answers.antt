@@ -16,7 +16,7 @@ nodes_output-requires c =
     let text = text_of input in
     let told = subst (λ (run : Run). Comes input.tree (length input.certificate.steps) text.deliveries (algorithm_of input.certificate) run) c.in-Legal.is
     (run_told text input.tree (length c.steps.result.now) c.as_slice.result.now (algorithm_of c.new-rule.result) c.in_ok-line.field-0 refl (ap length c.steps.ensures.steps) c.as_slice.ensures.value
-    (ap algorithm_of c.new-rule.ensures) c.in_ok-line.ensures) in
+    (ap algorithm_of c.new-rule.ensures) c.in_ok-line.ensures.run) in
     let names = c.in_ok-names.ensures ∙ c.names.ensures.names ∙ ap (λ (p : NamedProblem). p.names) c.first.ensures.first in
     subst (λ (l : List Standing). AreNamed c.in_ok-names.names l) (sym (c.as_slice-in-Legal.ensures.value ∙ told.1))
     (subst (λ (n : List (List ℕ)). AreNamed n (standings_of input.tree (length input.certificate.steps) (messages_of text.deliveries) (algorithm_of input.certificate))) (sym names)
@@ -28,7 +28,7 @@ returns c =
     let text = text_of input in
     let told = subst (λ (run : Run). Comes input.tree (length input.certificate.steps) text.deliveries (algorithm_of input.certificate) run) c.in-Legal.is
     (run_told text input.tree (length c.steps.result.now) c.as_slice.result.now (algorithm_of c.new-rule.result) c.in_ok-line.field-0 refl (ap length c.steps.ensures.steps) c.as_slice.ensures.value
-    (ap algorithm_of c.new-rule.ensures) c.in_ok-line.ensures) in
+    (ap algorithm_of c.new-rule.ensures) c.in_ok-line.ensures.run) in
     let names = c.in_ok-names.ensures ∙ c.names.ensures.names ∙ ap (λ (p : NamedProblem). p.names) c.first.ensures.first in
     IfOk-weaker c.nodes_output.result _ _
     (λ output e. e ∙ ((λ k. done (nodes_from (names k) 0 ((c.as_slice-in-Legal.ensures.value ∙ told.1) k))) ∙ (ap done (run_lines text) ∙ sym (ap (delivered text) told.0))))

@@ -27,8 +27,8 @@ loop-node-preserved g c =
           ∙ ap (λ n. map (standing_of c.args.net.now.tree c.args.net.now.bound c.args.net.now.delivered (g.R.Rule.answer c.args.rule.now)) (count_from 0 n)) more;
     }
 
-pub returns : goal.returns
-returns g c =
+pub returns-clause-standings : goal.returns-clause-standings
+returns-clause-standings g c =
     let len = c.len-node-end.ensures.len in
     let past = c.loop-node-test.false in
     let end = c.loop-node.auto.node-end in

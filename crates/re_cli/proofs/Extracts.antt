@@ -57,7 +57,7 @@ unfolding extracting_outcome
 extracting_says bytes = if_read_says (certificate_fault (text_lines bytes)) (certificate_of (text_lines bytes))
 
 -- ---- the word
-check_word : command_of (codes "check" ∷ []) ≡ Some (Streams Check)
+pub check_word : command_of (codes "check" ∷ []) ≡ Some (Streams Check)
 unfolding command_of word_of
 check_word = refl
 
@@ -75,7 +75,7 @@ pub extracts_mean : {E : Type 0} (words : List (List ℕ)) (left : Option (List 
 extracts_mean words left (Ok output) is = λ bytes told check done. absurd (let no : Some Extracts ≡ Some (Streams Check) = is ∙ (ap command_of check ∙ check_word) in cc)
 extracts_mean words left (Err fault) is = tt
 
-same_command : (command other : Command) → ◌≡◌ {A = Option Command} (Some command) (Some other) → command ≡ other
+pub same_command : (command other : Command) → ◌≡◌ {A = Option Command} (Some command) (Some other) → command ≡ other
 same_command command other e = cc
 
 -- the word `extract` names this command alone
@@ -97,14 +97,14 @@ pub printed_yes : (text : List ℕ) (problem : NamedProblem) (table : AnswerTabl
 unfolding tabling_outcome
 printed_yes text problem table read verdict = ap (or_fault Plain) read ∙ ap (λ (v : TableVerdict). or_refusal v (done (codes "yes\n"))) verdict
 
-answer_done : (given : Answer) → status_of given ≡ status.Done → given ≡ answer.Done
+pub answer_done : (given : Answer) → status_of given ≡ status.Done → given ≡ answer.Done
 answer_done answer.Done e = refl
 answer_done answer.No e = absurd (cc)
 answer_done answer.BadWords e = absurd (cc)
 answer_done answer.BadInput e = absurd (cc)
 answer_done answer.Limit e = absurd (cc)
 
-within : (text : List ℕ) (outcome : Outcome) → length text ≤ MAX_BYTES → within_limit (λ bytes. outcome) text ≡ outcome
+pub within : (text : List ℕ) (outcome : Outcome) → length text ≤ MAX_BYTES → within_limit (λ bytes. outcome) text ≡ outcome
 unfolding within_limit
 within text outcome few = go (nat_lt MAX_BYTES (length text)) refl
   where

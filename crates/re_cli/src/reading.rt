@@ -6,6 +6,7 @@ ghost use Rattle.re_problem.specs.NamedProblems.{unnamed};
 ghost use Rattle.re_problem.specs.TextReading.{ReadGives};
 ghost use Rattle.re_problem.specs.Zero.{zero_place};
 ghost use Rattle.re_cli.specs.Command.{IsReading, judges};
+ghost use Rattle.re_cli.specs.Found.{SearchIsAccepted};
 ghost use Rattle.re_cli.specs.Output.{outcome_of, within_limit};
 ghost use Rattle.re_cli.specs.Outcome.{status_of};
 ghost use Rattle.re_cli.specs.Run.{MaySay, TakesInput};
@@ -128,7 +129,8 @@ fn zero_output(alloc: Global, problem: &Problem) -> Result<Output, NoMemory>
 
 fn problem_output(alloc: Global, reading: Reading, problem: &Problem) -> Result<Output, NoMemory>
     requires { IsReading reading }
-    ensures { IfOk result (λ output. outcome_of output ≡ problem_outcome reading problem.now) }
+    ensures output { IfOk result (λ output. outcome_of output ≡ problem_outcome reading problem.now) }
+    ensures accepted { IfOk result (λ output. output.answer ≡ Answer.Done → SearchIsAccepted reading output.text.items) }
 {
     match reading {
         Reading::Read => Ok(Output {
@@ -160,7 +162,8 @@ fn problem_of(alloc: Global, text: Vec<u8>) -> Result<Problem, TextFault>
 fn text_output(alloc: Global, reading: Reading, text: Vec<u8>) -> Result<Output, NoMemory>
     requires within { length text.items ≤ MAX_BYTES }
     requires reading { IsReading reading }
-    ensures { IfOk result (λ output. outcome_of output ≡ reading_outcome reading text.items) }
+    ensures output { IfOk result (λ output. outcome_of output ≡ reading_outcome reading text.items) }
+    ensures accepted { IfOk result (λ output. output.answer ≡ Answer.Done → SearchIsAccepted reading output.text.items) }
 {
     match problem_of(alloc, text) {
         Ok(problem) => problem_output(alloc, reading, &problem),
@@ -182,6 +185,7 @@ pub(crate) fn read<S: Source>(
     ensures says { IfOk result (λ output. MaySay (status_of output.answer) (judges (Command.Reads reading))) }
     ensures emptied { IfOk result (λ _. (bytes : List ℕ) → S.left source.old ≡ Some bytes →
         length bytes ≤ MAX_BYTES → S.left source.new ≡ Some []) }
+    ensures accepted { IfOk result (λ output. output.answer ≡ Answer.Done → SearchIsAccepted reading output.text.items) }
     ensures fault { IsErrOf result Stop.ReadFault → Rose (S.faults source.old) (S.faults source.new) }
     ensures within { IsErrOf result Stop.ReadFault → TakesInput (S.left source.old) (S.left source.new) }
     ensures later { S.faults source.old ≤ S.faults source.new }

@@ -1,10 +1,12 @@
 // The commands that search for a certificate.
 ghost use Rattle.re_cert.specs.declared.certificate.TheConstants.{MAX_STEPS};
+ghost use Rattle.re_cli.specs.Check.{check_outcome};
 ghost use Rattle.re_cli.specs.Command.{least_steps};
+ghost use Rattle.re_cli.specs.Found.{Accepts};
 ghost use Rattle.re_cli.specs.Output.{outcome_of};
 ghost use Rattle.re_cli.specs.Searching.{not_found_line, search_outcome, searched};
 ghost use Rattle.re_cli.specs.Working.{refused as refused_with};
-ghost use Rattle.re_search.specs.Searches.{Answers};
+ghost use Rattle.re_search.specs.Searches.{Answers, FindsSteps, FindsValid};
 ghost use Rattle.std.specs.Prelude.{◌≡◌, ◌≤◌, IfOk};
 
 use crate::output::Output;
@@ -29,7 +31,9 @@ fn find(
     requires least { least_steps kind ≤ steps }
     requires steps { steps ≤ MAX_STEPS }
     requires changes { changes ≤ 8 }
-    ensures { Answers kind steps changes problem.now result }
+    ensures answer { Answers kind steps changes problem.now result }
+    ensures valid { FindsValid kind result }
+    ensures found_steps { FindsSteps kind steps result }
 {
     match kind {
         Kind::Lower => find_lower(alloc, problem, steps, changes),
@@ -50,7 +54,7 @@ fn not_found(alloc: Global, nodes: u32, cut: u32) -> Result<Output, NoMemory>
     Ok(refused(text))
 }
 
-/// The certificate that a search finds, or the counts of its nodes, unless these are too many.
+/// The certificate that a search finds, which `check` accepts, or the counts of its nodes, unless these are too many.
 #[tactic(auto, unfolding(crate::specs::Searching::search_outcome))]
 pub(crate) fn search_output(
     alloc: Global,
@@ -62,7 +66,8 @@ pub(crate) fn search_output(
     requires least { least_steps kind ≤ steps }
     requires steps { steps ≤ MAX_STEPS }
     requires changes { changes ≤ 8 }
-    ensures { IfOk result (λ output. outcome_of output ≡ search_outcome kind steps changes problem.now) }
+    ensures output { IfOk result (λ output. outcome_of output ≡ search_outcome kind steps changes problem.now) }
+    ensures accepted { IfOk result (λ output. output.answer ≡ Answer.Done → Accepts kind steps (check_outcome output.text.items)) }
 {
     match find(alloc, kind, steps, changes, problem) {
         Ok(Search::Found(certificate)) => Ok(done(print_certificate(alloc, &certificate)?)),

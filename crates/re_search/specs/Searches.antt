@@ -1,7 +1,8 @@
 -- What a search for a bound comes to.
-use Rattle.std.specs.Prelude.{◌≡◌, ℕ, nat_lt, List, count_by, find, length, take, if◌then◌else◌, Option, None, Some, Result, Ok, Err}
+use Rattle.std.specs.Prelude.{◌≡◌, ◌≤◌, ℕ, nat_lt, List, count_by, find, length, take, if◌then◌else◌, Option, None, Some, Result, Ok, Err}
 use Rattle.re_problem.specs.NamedProblems.{NamedProblem, unnamed}
 use Rattle.re_cert.specs.declared.certificate.Kind.{Kind}
+use Rattle.re_cert.specs.declared.certificate.Kind.TheVariants.{Fixed, Lower, Upper}
 use Rattle.re_check.specs.Verdicts.{Means, verdict_of}
 use Rattle.re_check.specs.declared.verdict.Verdict.TheVariants.{Accepted}
 use Rattle.re_tree.specs.Nodes.{Node, all_nodes, is_cut, succeeds}
@@ -38,3 +39,14 @@ FindsValid kind result = Unit {0}
 abbrev pub FindsTrue : Kind → NamedProblem → Result Search FindFault → Type 0
 FindsTrue kind first (Ok (Found bound)) = Means (Accepted kind (length bound.steps)) (unnamed first)
 FindsTrue kind first result = Unit {0}
+
+-- how many steps a certificate has that is found where `most` are asked for: at a lower bound exactly so many, else at most so many
+abbrev pub HasSteps : Kind → ℕ → ℕ → Type 0
+HasSteps Lower most steps = steps ≡ most
+HasSteps Upper most steps = steps ≤ most
+HasSteps Fixed most steps = steps ≤ most
+
+-- the certificate that is found has as many steps
+abbrev pub FindsSteps : Kind → ℕ → Result Search FindFault → Type 0
+FindsSteps kind most (Ok (Found bound)) = HasSteps kind most (length bound.steps)
+FindsSteps kind most result = Unit {0}

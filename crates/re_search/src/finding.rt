@@ -1,7 +1,7 @@
 //! Searches for bounds.
 ghost use Rattle.re_cert.specs.Bounds.{is_bound, is_fixed};
 ghost use Rattle.re_cert.specs.declared.certificate.TheConstants.{MAX_STEPS};
-ghost use Rattle.re_search.specs.Searches.{Answers, FindsTrue, FindsValid};
+ghost use Rattle.re_search.specs.Searches.{Answers, FindsSteps, FindsTrue, FindsValid};
 ghost use Rattle.re_search.specs.Walking.{least_depth, node_at};
 ghost use Rattle.re_tree.specs.Nodes.{way_back};
 ghost use Rattle.re_tree.specs.Paths.{bound_of, pairs_of};
@@ -86,6 +86,7 @@ fn search(tree: &Tree, derivations: &mut Derivations, depth: u8) -> Result<Searc
     requires depth { depth ≤ MAX_STEPS }
     ensures answer { Answers tree.now.kind depth tree.now.most tree.now.first.now result }
     ensures valid { FindsValid tree.now.kind result }
+    ensures found_steps { FindsSteps tree.now.kind depth result }
     ensures means { FindsTrue tree.now.kind tree.now.first.now result }
 {
     let _names = tree.first.names();
@@ -128,6 +129,7 @@ pub fn find_lower(
     requires merges { merges ≤ 8 }
     ensures answer { Answers Kind.Lower steps merges first.now result }
     ensures valid { FindsValid Kind.Lower result }
+    ensures found_steps { FindsSteps Kind.Lower steps result }
     ensures means { FindsTrue Kind.Lower first.now result }
 {
     let tree = Tree {
@@ -149,6 +151,7 @@ pub fn find_upper(alloc: Global, first: &Problem, steps: u8, drops: u8) -> Resul
     requires drops { drops ≤ 8 }
     ensures answer { Answers Kind.Upper steps drops first.now result }
     ensures valid { FindsValid Kind.Upper result }
+    ensures found_steps { FindsSteps Kind.Upper steps result }
     ensures means { FindsTrue Kind.Upper first.now result }
 {
     let tree = Tree {
@@ -177,6 +180,7 @@ pub fn find_fixed(
     requires merges { merges ≤ 8 }
     ensures answer { Answers Kind.Fixed steps merges first.now result }
     ensures valid { FindsValid Kind.Fixed result }
+    ensures found_steps { FindsSteps Kind.Fixed steps result }
     ensures means { FindsTrue Kind.Fixed first.now result }
 {
     let tree = Tree {

@@ -3,6 +3,7 @@ use Rattle.re_labels.proofs.Membership.{length-count_from}
 use Rattle.std.specs.List.{AllByRecursion}
 use Rattle.re_problem.specs.NamedProblems.{IsNamedProblem}
 use Rattle.re_cert.specs.Bounds.{BoundStep, next_problems}
+use Rattle.re_search.proofs.FoundSteps.{found_steps}
 use Rattle.re_search.proofs.Findings.{answers-found, answers-none, answers-refused, bound-found, depth-at, depths, finds-true, finds-valid, none_yet, one_tree, tree_of}
 use Rattle.re_search.proofs.Walks.{loop-done, loop-found, loop-passed, loop-refused, walks-cut, walks-nodes}
 use Rattle.re_search.specs.Walking.{Walks, least_depth}
@@ -81,3 +82,7 @@ returns-clause-answer c =
 
 pub walk-requires-clause-short : goal.walk-requires-clause-short
 walk-requires-clause-short c = let same = ap length c.loop-left.invariant.3 in let low = c.loop-left-test.true in let few = c.requires.depth in omega arith
+
+pub returns-in-Ok-clause-found_steps : goal.returns-in-Ok-clause-found_steps
+returns-in-Ok-clause-found_steps c =
+    found_steps c.args.tree.now.kind c.args.depth c.args.tree.now.most c.args.tree.now.first.now c.in-Ok.certificate (returns-in-Ok-clause-answer c)

@@ -15,7 +15,7 @@ use Rattle.re_algo.specs.Tables.{AnswerTable}
 use Rattle.re_algo.specs.Verdicts.{table_verdict}
 use Rattle.re_algo.specs.declared.solving.TableVerdict.{TableVerdict}
 use Rattle.re_algo.specs.declared.solving.TableVerdict.TheVariants.{Yes}
-use Rattle.re_table_texts.specs.TableTexts.{TableText, table_input}
+use Rattle.re_table_texts.specs.TableTexts.{table_input}
 use Rattle.re_table_texts.specs.declared.table_texts.TableForm.TheVariants.{Plain}
 use Rattle.re_upper_tables.specs.UpperTables.{listed_table}
 use Rattle.re_cli.proofs.Said.{fault_says}

@@ -1,8 +1,6 @@
 -- What each command may answer, whatever bytes it reads.
 use Rattle.std.proofs.Common.{◌≡◌, ℕ, zero, suc, ◌+◌, ◌-◌, Bool, true, false, List, Option, Some, None, Result, Ok, Err, refl, sym, ap, ◌∙◌, subst, []}
 use Rattle.std.specs.Prelude.{if◌then◌else◌, codes, nat_lt, length, unwrap_or, IfOk, IsTrue}
-use Rattle.re_cert.specs.Bounds.{Bound}
-use Rattle.re_cert.specs.CertificateTexts.{certificate_fault, certificate_of, text_lines}
 use Rattle.re_check.specs.Verdicts.{verdict_of}
 use Rattle.re_cert.specs.declared.certificate.Kind.TheVariants.{Lower, Upper, Fixed}
 use Rattle.re_check.specs.declared.verdict.Verdict.{Verdict}
@@ -33,7 +31,7 @@ use Rattle.re_search.specs.declared.types.Search.TheVariants.{Found, NotFound}
 use Rattle.re_step.specs.Derivations.{named_derived, step_limit}
 use Rattle.re_step.specs.declared.derivation.StepLimit.{StepLimit}
 use Rattle.re_table.specs.GoodRows.{max_rows}
-use Rattle.re_cli.specs.Check.{judged, verdict_outcome}
+use Rattle.re_cli.specs.Check.{verdict_outcome}
 use Rattle.re_cli.specs.Command.{command_of, is_judging, judges}
 use Rattle.re_cli.specs.Counting.{counted, rounds_outcome}
 use Rattle.re_cli.specs.Making.{behind, making_outcome, one_step_outcome, sizes_text}
@@ -56,7 +54,7 @@ use Rattle.re_table_texts.specs.declared.table_texts.TableForm.TheVariants as fo
 use Rattle.re_cli.specs.Tabling.{behind_next, if_counted, or_fault, or_refusal, same_problems, slower_outcome, tabled, tabling_outcome}
 use Rattle.re_cli.specs.Working.{derived_text, diagram_outcome, done, limit, merge_outcome, or_limit, refused, step_outcome, stepped, trim_outcome, universal_outcome}
 use Rattle.re_cli.specs.declared.command.Command.{Command}
-use Rattle.re_cli.specs.declared.command.Command.TheVariants.{Makes, Maps, Reads, Runs}
+use Rattle.re_cli.specs.declared.command.Command.TheVariants.{Makes, Reads}
 use Rattle.re_cli.specs.declared.command.Making.{Making}
 use Rattle.re_cli.specs.declared.command.Making.TheVariants as making
 use Rattle.re_cli.specs.declared.command.Mapping.{Mapping}

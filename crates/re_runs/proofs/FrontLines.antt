@@ -1,12 +1,6 @@
 -- The certificate at the front of an input, line by line.
-use Rattle.std.proofs.Common.{◌≡◌, ℕ, ◌+◌, ◌-◌, ◌≤◌, Bool, true, false, cond, codes, not, ◌||◌, List, [], ◌∷◌, ◌++◌, get_or, length, length-append, length-take, take-append-drop, Contains, Some, None, Result, Ok, Err, refl, sym, ap, ◌∙◌, subst, arith, append_assoc, append-nil}
-use Rattle.std.specs.List.{AllByRecursion, position_or_len}
-use Rattle.std.proofs.lemmas.Bool.{eq-eqb, eqb-true}
-use Rattle.std.proofs.lemmas.Bool.Decides.{nat_tests}
-use Rattle.std.proofs.lemmas.Grind.{common_steps}
-use Rattle.std.proofs.lemmas.List.{drop_more, get_or-take}
-use Rattle.std.proofs.lemmas.List.Quantifiers.{position-Some}
-use Rattle.std.proofs.lemmas.List.Sums.{fails_before_first}
+use Rattle.std.proofs.Common.{◌≡◌, ℕ, ◌+◌, ◌≤◌, Bool, true, false, cond, codes, not, ◌||◌, List, [], ◌∷◌, ◌++◌, length, length-append, Contains, Some, None, Result, Ok, Err, refl, sym, ap, ◌∙◌, subst, arith, append_assoc, append-nil}
+use Rattle.std.specs.List.{AllByRecursion}
 use Rattle.re_io.specs.LineReading.{IsFirstLine, LineText, line_bytes}
 use Rattle.re_problem.specs.TextReading.{IsRefused}
 use Rattle.re_problem.specs.declared.fault.InputFault.{InputFault}

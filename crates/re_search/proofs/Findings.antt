@@ -1,7 +1,7 @@
 -- What a search comes to, as its walks end.
 use Rattle.re_problem.proofs.NewNumbers.{flat_map_map}
-use Rattle.std.proofs.Common.{◌≡◌, ℕ, zero, suc, ◌+◌, ◌-◌, ◌<◌, ◌≤◌, Bool, true, false, cond, not, ltb, List, [], ◌∷◌, ◌++◌, length, map, flat_map, take, get_or, Option, None, Some, Result, Ok, Err, refl, sym, ap, ◌∙◌, subst, arith, inl, inr, append-nil}
-use Rattle.std.specs.Prelude.{Contains, count_by, find, if◌then◌else◌}
+use Rattle.std.proofs.Common.{◌≡◌, ℕ, zero, suc, ◌+◌, ◌-◌, ◌<◌, ◌≤◌, Bool, true, false, ltb, List, [], ◌∷◌, ◌++◌, length, flat_map, get_or, Option, None, Some, Result, Ok, Err, refl, sym, ap, ◌∙◌, subst, arith, inl, inr}
+use Rattle.std.specs.Prelude.{count_by, if◌then◌else◌}
 use Rattle.std.specs.List.{AllByRecursion}
 use Rattle.std.proofs.lemmas.Bool.Decides.{nat_tests}
 use Rattle.re_labels.proofs.Membership.{In, In-Contains, get_or-count_from}
@@ -20,7 +20,7 @@ use Rattle.re_tree.proofs.Successes.{success_law}
 use Rattle.re_tree.specs.Nodes.{Node, all_nodes, is_cut, preorder, root, succeeds, way_back}
 use Rattle.re_tree.specs.Paths.{bound_of, bound_with}
 use Rattle.re_search.proofs.Judgements.{found-some, full-none, passed-none}
-use Rattle.re_search.specs.Judging.{Judged, judged}
+use Rattle.re_search.specs.Judging.{judged}
 use Rattle.re_search.specs.Judging.Judged.{found, full, passed}
 use Rattle.re_search.specs.Searches.{Answers, FindsTrue, FindsValid, concluded, search_of}
 use Rattle.re_search.specs.Walking.{Walks, judged_on, least_depth, node_at}

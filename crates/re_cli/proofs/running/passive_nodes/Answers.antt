@@ -1,5 +1,3 @@
-use Rattle.std.proofs.Common.{subst}
-use Rattle.re_net.specs.FiniteTrees.{FiniteTree, IsFiniteTree}
 use Rattle.re_runs.specs.RunReading.{text_of}
 use Rattle.re_cli.proofs.RunningLemmas.{passive_nodes_get}
 use Rattle.re_cli.proofs.running.passive_nodes.Goals as goal

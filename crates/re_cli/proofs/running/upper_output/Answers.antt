@@ -1,4 +1,4 @@
-use Rattle.std.proofs.Common.{◌≡◌, ◌∙◌, List, ap, length, refl, subst, sym, ℕ}
+use Rattle.std.proofs.Common.{◌∙◌, List, ap, length, refl, subst, sym, ℕ}
 use Rattle.std.proofs.lemmas.Result.{IfOk-weaker}
 use Rattle.re_problem.specs.NamedProblems.{NamedProblem}
 use Rattle.re_runs.specs.RunReading.{text_of}

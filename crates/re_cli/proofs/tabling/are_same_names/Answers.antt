@@ -1,4 +1,4 @@
-use Rattle.std.proofs.Common.{◌≡◌, ◌<◌, [], ap, arith, length, slice_index_or, sym, ◌∙◌}
+use Rattle.std.proofs.Common.{◌≡◌, [], ap, arith, length, slice_index_or, sym, ◌∙◌}
 use Rattle.std.proofs.lemmas.List.{ext_get_or}
 use Rattle.re_cli.proofs.TablingLemmas.{lists_differ, lists_same, unlike_bytes}
 use Rattle.re_cli.proofs.tabling.are_same_names.Goals as goal

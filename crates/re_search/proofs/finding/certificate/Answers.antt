@@ -1,4 +1,4 @@
-use Rattle.std.proofs.Common.{None, length, map, ap, arith}
+use Rattle.std.proofs.Common.{None, length, ap, arith}
 use Rattle.std.specs.Prelude.{if◌then◌else◌}
 use Rattle.re_cert.specs.Bounds.{is_fixed}
 use Rattle.re_tree.specs.Nodes.{way_back}

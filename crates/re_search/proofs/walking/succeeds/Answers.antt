@@ -1,4 +1,4 @@
-use Rattle.std.proofs.Common.{not, map, sym, ap, arith, ◌∙◌}
+use Rattle.std.proofs.Common.{not, sym, ap, arith, ◌∙◌}
 use Rattle.std.specs.Prelude.{◌&&◌, is_some}
 use Rattle.re_tree.specs.Nodes.{succeeds, way_back}
 use Rattle.re_search.proofs.Walks.{way-found}

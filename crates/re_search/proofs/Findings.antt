@@ -126,7 +126,7 @@ first-told : (kind : Kind) (first : NamedProblem) (node : Node) (o : Option (ℕ
 first-told kind first node None = refl
 first-told kind first node (Some way) = refl
 
-steps-told : (kind : Kind) (first : NamedProblem) (node : Node) (o : Option (ℕ × List ℕ)) → (bound_with kind first node o).steps ≡ node.steps
+pub steps-told : (kind : Kind) (first : NamedProblem) (node : Node) (o : Option (ℕ × List ℕ)) → (bound_with kind first node o).steps ≡ node.steps
 steps-told kind first node None = refl
 steps-told kind first node (Some way) = refl
 

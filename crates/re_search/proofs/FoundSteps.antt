@@ -10,8 +10,10 @@ use Rattle.re_cert.specs.Bounds.{Bound, BoundStep, is_fixed}
 use Rattle.re_cert.specs.declared.certificate.Kind.{Kind}
 use Rattle.re_cert.specs.declared.certificate.Kind.TheVariants.{Fixed, Lower, Upper}
 use Rattle.re_tree.proofs.Paths.{going-left}
+use Rattle.re_tree.proofs.Successes.{found-in}
 use Rattle.re_tree.specs.Nodes.{Node, all_nodes, child, children, goes_on, is_zero, preorder, root, roots, steps_from, succeeds, way_back}
-use Rattle.re_tree.specs.Paths.{bound_of, bound_with}
+use Rattle.re_tree.specs.Paths.{bound_of}
+use Rattle.re_search.proofs.Findings.{steps-told}
 use Rattle.re_search.specs.Searches.{HasSteps, concluded, search_of}
 use Rattle.re_search.specs.declared.types.FindFault.TheVariants.{TooManyNodes}
 use Rattle.re_search.specs.declared.types.Search.TheVariants.{Found, NotFound}
@@ -54,14 +56,12 @@ roots-are Upper depth first start i =
     subst (λ (n : Node). length n.steps + n.left ≤ depth) (sym e) (omega arith)
 
 -- ---- successes
-taken-found : {X : Type 0} (p : X → Bool) (n : ℕ) (xs : List X) (x : X) → find p (take n xs) ≡ Some x → In x xs × (p x ≡ true)
-taken-found p zero xs x e = absurd (cc)
-taken-found p (suc n) [] x e = absurd (cc)
-taken-found {X} p (suc n) (y ∷ xs) x e = go (p y) refl e (taken-found p n xs x)
-  where
-    go : (b : Bool) → p y ≡ b → cond b (Some y) (find p (take n xs)) ≡ Some x → (find p (take n xs) ≡ Some x → In x xs × (p x ≡ true)) → In x (y ∷ xs) × (p x ≡ true)
-    go true f h rest = let same : y ≡ x = cc in (inl (sym same), ap p (sym same) ∙ f)
-    go false f h rest = let two = rest h in (inr two.0, two.1)
+-- what is among the first of a list is in it
+In-taken : {X : Type 0} (n : ℕ) (xs : List X) (x : X) → In x (take n xs) → In x xs
+In-taken zero xs x i = absurd i
+In-taken (suc n) [] x i = absurd i
+In-taken (suc n) (y ∷ xs) x (inl e) = inl e
+In-taken (suc n) (y ∷ xs) x (inr i) = inr (In-taken n xs x i)
 
 -- a success of a lower bound is at the greatest depth
 success-steps : (kind : Kind) (depth whole : ℕ) (first : NamedProblem) (node : Node) → HasSteps kind depth whole → length node.steps + node.left ≡ whole → succeeds kind first node ≡ true → HasSteps kind depth (length node.steps)
@@ -76,10 +76,6 @@ node-steps kind depth most first node i ok =
     let (start, j, h) = In-flat_map_from (λ (start : Node). preorder kind most start.left start) node (roots kind depth first) i in
     success-steps kind depth (length start.steps + start.left) first node (roots-are kind depth first start j) (sum-below kind most start.left (length start.steps + start.left) start node refl h) ok
 
-bound-steps : (kind : Kind) (first : NamedProblem) (node : Node) (way : Option (ℕ × List ℕ)) → (bound_with kind first node way).steps ≡ node.steps
-bound-steps kind first node None = refl
-bound-steps kind first node (Some way) = refl
-
 pub found_steps : (kind : Kind) (depth most : ℕ) (first : NamedProblem) (bound : Bound) → search_of kind depth most first ≡ Ok (Found bound) → HasSteps kind depth (length bound.steps)
 unfolding search_of
 found_steps kind depth most first bound is = go (find (succeeds kind first) (take MAX_NODES (all_nodes kind depth most first))) refl is
@@ -90,8 +86,8 @@ found_steps kind depth most first bound is = go (find (succeeds kind first) (tak
 
     go : (o : Option Node) → find (succeeds kind first) (take MAX_NODES (all_nodes kind depth most first)) ≡ o → concluded kind first (all_nodes kind depth most first) o ≡ Ok (Found bound) → HasSteps kind depth (length bound.steps)
     go (Some node) f e =
-        let here = taken-found (succeeds kind first) MAX_NODES (all_nodes kind depth most first) node f in
+        let here = found-in (succeeds kind first) (take MAX_NODES (all_nodes kind depth most first)) node f in
         let same : bound_of kind first node ≡ bound = cc in
-        let steps : node.steps ≡ bound.steps = sym (bound-steps kind first node (if is_fixed kind then way_back first node else None)) ∙ ap (λ (b : Bound). b.steps) same in
-        subst (λ (s : List BoundStep). HasSteps kind depth (length s)) steps (node-steps kind depth most first node here.0 here.1)
+        let steps : node.steps ≡ bound.steps = sym (steps-told kind first node (if is_fixed kind then way_back first node else None)) ∙ ap (λ (b : Bound). b.steps) same in
+        subst (λ (s : List BoundStep). HasSteps kind depth (length s)) steps (node-steps kind depth most first node (In-taken MAX_NODES (all_nodes kind depth most first) node here.0) here.1)
     go None f e = absurd (none (nat_lt MAX_NODES (length (all_nodes kind depth most first))) _ _ e)

@@ -67,7 +67,7 @@ there-from [] x e = cc
 there-from (None ∷ os) x e = inr (there-from os x e)
 there-from (Some y ∷ os) x e = inl (sym e)
 
-found-in : {X : Type 0} (p : X → Bool) (xs : List X) (x : X) → find p xs ≡ Some x → In x xs × (p x ≡ true)
+pub found-in : {X : Type 0} (p : X → Bool) (xs : List X) (x : X) → find p xs ≡ Some x → In x xs × (p x ≡ true)
 found-in p [] x e = cc
 found-in {X} p (y ∷ xs) x e = go (p y) refl e (found-in p xs x)
   where

@@ -1,13 +1,13 @@
 #!/bin/sh
-# Writes the tests of what the pages show: crates/worked_rows/src/pages.rt from README.md and the tutorial, gallery.rt from the gallery.
-# And crates/fault_rows/src/examples.rt, which damages the files of the examples.
+# Writes the rows of what the pages show, README.md, the tutorial and the gallery, at the end of crates/worked_rows/stdin.
+# And the rows that damage the files of the examples, at the end of crates/fault_rows/stdin.
 #
 #     examples/rows.sh
 #
-# Run it, and then `rt fmt` in crates/worked_rows and crates/fault_rows, whenever a page or a file that it reads has changed. It needs no
-# built program.
+# Run it whenever a page or a file that it reads has changed, and write what it says, the numbers of rows, into the two files stdout.
+# It needs no built program.
 # Taken are the lines `$ re WORDS < FILE` and `$ re WORDS < FILE | re WORDS` of the blocks ```console, also without a file. Lines with other
-# programs are run by session.sh alone. The status follows from the first line of the answer.
+# programs are run by session.sh alone. The exit code follows from the first line of the answer.
 set -eu
 cd "$(dirname "$0")/.."
 
@@ -15,44 +15,32 @@ rows_of() {
     awk '
         function stop(why) { print "rows.sh: " FILENAME ": " why > "/dev/stderr"; failed = 1; exit 1 }
 
-        # A text of a file as it is written in Rattle.
-        function text_of(file,    line, text) {
-            text = ""
-            while ((getline line < file) > 0) {
-                if (line ~ /["\\]/) stop(file " has a quote or a backslash")
-                text = text line "\\n"
-            }
-            close(file)
-            if (text == "") stop("no text in " file)
-            return text
-        }
-
-        # The name of the text of a file.
-        function name_of(file,    name) {
+        # Writes the text of a file under a name, once, and gives the name.
+        function name_of(file,    name, line, lines) {
             name = file
             sub(/.*\//, "", name)
             sub(/\.txt$/, "", name)
-            name = toupper(name)
-            gsub(/[^A-Z0-9]/, "_", name)
             if ((name in file_of) && file_of[name] != file) stop("two files named " name)
             if (!(name in file_of)) {
                 file_of[name] = file
-                texts = texts "\nconst " name ": &str = \"" text_of(file) "\";\n"
+                while ((getline line < file) > 0) { print "<" line; lines++ }
+                close(file)
+                if (!lines) stop("no text in " file)
+                print ":" name "\n"
             }
             return name
         }
 
-        function status_of(answer) {
-            if (answer ~ /^(no|no: .*|not found: .*|refused: .*)\\n/) return "No"
-            if (answer ~ /^limit: /) return "Limit"
-            if (answer ~ /^input: /) return "BadInput"
-            if (answer ~ /^words: /) return "BadWords"
-            return "Done"
+        function code_of(line) {
+            if (line ~ /^(no|no: .*|not found: .*|refused: .*)$/) return 1
+            if (line ~ /^limit: /) return 4
+            if (line ~ /^input: /) return 3
+            if (line ~ /^words: /) return 2
+            return 0
         }
 
-        function end_command(    words, file, answer) {
+        function end_command(    words, file, i, name) {
             if (command == "") return
-            sub(/(\\n)+$/, "\\n", shown)
             words = command
             command = ""
             if (words !~ /^re / || words ~ /\| [^r]/) return
@@ -63,63 +51,50 @@ rows_of() {
             }
             sub(/^re /, "", words)
             sub(/ \| re /, " | ", words)
-            if (words ~ /[<>"\\]/) stop("not understood: " words)
-            answer = "\"" shown "\""
-            if (length(shown) > 30) {
-                if (!(shown in answer_of)) {
-                    answer_of[shown] = "ANSWER_" (++answers)
-                    texts = texts "\nconst " answer_of[shown] ": &str = " answer ";\n"
-                }
-                answer = answer_of[shown]
-            }
-            rows = rows "        (\"" words "\", " (file ? name_of(file) : "\"\"") ", Status::" status_of(shown) ", " answer "),\n"
+            if (words ~ /[<>]/) stop("not understood: " words)
+            if (file) name = name_of(file)
+            print "$" words
+            if (file) print "@1 " name
+            while (shown && answer[shown] == "") shown--
+            for (i = 1; i <= shown; i++) print ">" answer[i]
+            print "=" code_of(answer[1]) "\n"
         }
 
-        function end_section() {
-            if (rows != "") tests = tests "\n#[test]\nfn " section "(rt: HostRuntime) -> Result<(), Fail> {\n    let rows = [\n" rows \
-                "    ];\n    assert_eq!(rt; first_wrong_command(rt.alloc(), &rows)?, None);\n    Ok(())\n}\n"
-            rows = ""
-        }
-
-        !inside && /^## / {
-            end_section()
-            section = tolower($0)
-            gsub(/[^a-z0-9]+/, "_", section)
-            sub(/^_+/, "", section)
-            sub(/_+$/, "", section)
-            next
-        }
+        !inside && /^## / { print "# " substr($0, 4) ".\n"; next }
         /^```/ { end_command(); inside = $0 == "```console"; next }
         !inside { next }
         goes_on { command = command $0; goes_on = /\\$/; next }
-        /^\$ / { end_command(); command = substr($0, 3); goes_on = /\\$/; shown = ""; next }
-        { shown = shown $0 "\\n" }
-        END {
-            if (failed) exit 1
-            end_section()
-            print "// The commands of the pages, and what they print: made by examples/rows.sh."
-            print "use crate::commands::first_wrong_command;\nuse re_cli::Status;\nuse std::test::Fail;"
-            printf "%s%s", texts, tests
-        }
+        /^\$ / { end_command(); command = substr($0, 3); goes_on = /\\$/; shown = 0; next }
+        { answer[++shown] = $0 }
+        END { if (failed) exit 1 }
     ' "$@"
 }
 
-rows_of README.md docs/TUTORIAL.md docs/TUTORIAL-tables.md > crates/worked_rows/src/pages.rt
-rows_of examples/gallery/README.md > crates/worked_rows/src/gallery.rt
+rows=crates/worked_rows/stdin
+made='# == What the pages show: made by examples/rows.sh.'
+written=$(mktemp)
+trap 'rm -f "$written"' EXIT
+awk -v made="$made" '$0 == made { exit } { print }' "$rows" > "$written"
+{
+    echo "$made"
+    echo
+    rows_of README.md docs/TUTORIAL.md docs/TUTORIAL-tables.md
+    rows_of examples/gallery/README.md
+} >> "$written"
+cp "$written" "$rows"
+echo "crates/worked_rows/stdout: rows as they should be: $(grep -c '^[=~!]' "$rows")"
 
 # The files, each with the words that read it, and with how many places apart it is damaged: at each place where it is short.
 # The drawing of a tree is for readers and left out.
 examples_of() {
     find "$@" -name '*.txt' ! -name orientation-run-tree.txt | LC_ALL=C sort | xargs awk '
-        function stop(why) { print "rows.sh: " why > "/dev/stderr"; failed = 1; exit 1 }
-
-        function words_of(text) {
-            if (text ~ /^== certificate/ && text ~ /== tree/) return "run"
-            if (text ~ /^== certificate [12] upper/ && text !~ /== step.*== step/) return "check extract"
-            if (text ~ /^== certificate/) return "check"
-            if (text ~ /^== from/) return "relax rename"
+        function words_of() {
+            if (text ~ /^<== certificate/ && text ~ /== tree/) return "run"
+            if (text ~ /^<== certificate [12] upper/ && text !~ /== step.*== step/) return "check extract"
+            if (text ~ /^<== certificate/) return "check"
+            if (text ~ /^<== from/) return "relax rename"
             if (text ~ /== next/) return "slower"
-            if (text ~ /^== problem/) return "table faster"
+            if (text ~ /^<== problem/) return "table faster"
             return "read"
         }
 
@@ -130,38 +105,31 @@ examples_of() {
             return 1999
         }
 
-        function end_file(    name, words, number) {
-            if (text == "") return
-            name = file
-            sub(/\.txt$/, "", name)
-            sub(/.*\//, "", name)
-            name = toupper(name)
-            gsub(/[^A-Z0-9]/, "_", name)
-            if (name in seen) stop("two files named " name)
-            seen[name]
-            texts = texts "\nconst " name ": &str = \"" text "\";\n"
-            number = split(words_of(text), words, " ")
+        function end_file(    words, number, i) {
+            if (!bytes) return
+            number = split(words_of(), words, " ")
             for (i = 1; i <= number; i++) {
-                if (held++ % 5 == 0) tests++
-                rows[tests] = rows[tests] "        (\"" words[i] "\", " name ", " places_apart() "),\n"
+                print "# " file "\n$" words[i]
+                printf "%s", text
+                print "!damage " places_apart() "\n"
             }
             text = ""
             bytes = 0
         }
 
         FNR == 1 { end_file(); file = FILENAME }
-        /["\\]/ { stop(FILENAME " has a quote or a backslash") }
-        { text = text $0 "\\n"; bytes += length($0) + 1 }
-        END {
-            if (failed) exit 1
-            end_file()
-            print "// The files of the examples, damaged: made by examples/rows.sh."
-            print "use crate::damage::first_wrong_damage;\nuse std::test::Fail;"
-            printf "%s", texts
-            for (i = 1; i <= tests; i++)
-                printf "\n#[test]\nfn damaged_%d(rt: HostRuntime) -> Result<(), Fail> {\n    let rows = [\n%s    ];\n    assert_eq!(rt; first_wrong_damage(rt.alloc(), &rows)?, None);\n    Ok(())\n}\n", i, rows[i]
-        }
+        { text = text "<" $0 "\n"; bytes += length($0) + 1 }
+        END { end_file() }
     '
 }
 
-examples_of examples > crates/fault_rows/src/examples.rt
+rows=crates/fault_rows/stdin
+made='# == The files of the examples, damaged: made by examples/rows.sh.'
+awk -v made="$made" '$0 == made { exit } { print }' "$rows" > "$written"
+{
+    echo "$made"
+    echo
+    examples_of examples
+} >> "$written"
+cp "$written" "$rows"
+echo "crates/fault_rows/stdout: rows as they should be: $(grep -c '^[=~!]' "$rows")"

@@ -51,21 +51,25 @@ fn unfinished_fault(alloc: Global, reader: &mut CertReader, line: &[u8]) -> Text
     }
 }
 
-/// What stands behind the certificate's `== end`, and the number of its first line.
-pub(crate) fn certificate_end(alloc: Global, text: &[u8]) -> Result<(&[u8], u32), TextFault>
-    requires { length text.now ≤ MAX_BYTES }
+// What stands behind the certificate's `== end`, read by a new reader, and the number of its first line.
+fn end_behind<'a>(
+    alloc: Global,
+    reader: &mut CertReader,
+    text: &'a [u8],
+) -> Result<(&'a [u8], u32), TextFault>
+    requires within { length text.now ≤ MAX_BYTES }
+    requires new { Stands reader.old [] }
     ensures ends { IfOk result (λ left. Ends text.now left.0.now left.1) }
     ensures refused { IfErr result (λ fault. IsRefused (run_text text.now) fault) }
 {
-    let mut reader = CertReader::new(alloc);
     let mut rest = text;
     let mut number: u32 = 1;
     'lines: while !rest.is_empty() {
         let (line, behind, ended) = cut_line(rest);
         if !ended {
-            return Err(unfinished_fault(alloc, &mut reader, line));
+            return Err(unfinished_fault(alloc, reader, line));
         }
-        match feed(alloc, &mut reader, line) {
+        match feed(alloc, reader, line) {
             Ok(()) => {}
             Err(fault) => return Err(fault),
         }
@@ -76,4 +80,14 @@ pub(crate) fn certificate_end(alloc: Global, text: &[u8]) -> Result<(&[u8], u32)
         }
     }
     Err(TextFault::Bad(InputFault::EarlyEnd))
+}
+
+/// What stands behind the certificate's `== end`, and the number of its first line.
+pub(crate) fn certificate_end(alloc: Global, text: &[u8]) -> Result<(&[u8], u32), TextFault>
+    requires { length text.now ≤ MAX_BYTES }
+    ensures ends { IfOk result (λ left. Ends text.now left.0.now left.1) }
+    ensures refused { IfErr result (λ fault. IsRefused (run_text text.now) fault) }
+{
+    let mut reader = CertReader::new(alloc);
+    end_behind(alloc, &mut reader, text)
 }

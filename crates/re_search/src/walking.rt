@@ -1,12 +1,12 @@
 //! The walk over a search tree, with one path in memory.
-ghost use Rattle.re_cert.specs.Bounds.{is_lower};
+ghost use Rattle.re_cert.specs.Bounds.{BoundStep, is_lower};
 ghost use Rattle.re_cert.specs.declared.certificate.TheConstants.{MAX_STEPS};
-ghost use Rattle.re_changes.specs.Changes.{changed_times};
-ghost use Rattle.re_problem.specs.NamedProblems.{unnamed};
+ghost use Rattle.re_changes.specs.Changes.{Changed as Outcome, changed_times};
+ghost use Rattle.re_problem.specs.NamedProblems.{NamedProblem, unnamed};
 ghost use Rattle.re_search.specs.Walking.{IsLevel, Visits, Walks, below_made, node_at};
 ghost use Rattle.re_step.specs.Derivations.{derivation};
 ghost use Rattle.re_tree.specs.Nodes.{child, goes_on, is_zero, preorder, steps_from, succeeds};
-ghost use Rattle.std.specs.Prelude.{◌≡◌, ◌≤◌, ◌+◌, ◌++◌, ◌∷◌, ◌&&◌, ◌||◌, [], OnOk, flat_map, length, map, nat_lt, not, suc};
+ghost use Rattle.std.specs.Prelude.{◌≡◌, ◌<◌, ◌≤◌, ℕ, IsTrue, List, true, ◌+◌, ◌++◌, ◌∷◌, ◌&&◌, ◌||◌, [], OnOk, flat_map, length, map, nat_lt, not, suc};
 
 use crate::counting::is_zero;
 use crate::derivations::Derivations;
@@ -15,7 +15,7 @@ use crate::steps::{Level, end_of, has_lower_steps, step_to};
 use crate::types::FindFault;
 use re_cert::{Kind, Step};
 use re_changes::{Changed, changes_of};
-use re_labels::NoMemory;
+use re_labels::{MAX_LABELS, NoMemory};
 use re_problem::Problem;
 use re_step::{Derived, StepFault};
 use std::alloc::Global;
@@ -222,6 +222,9 @@ fn walk_changed(
         return walk_child(tree, derivations, path, left, level, made, count);
     }
     let labels = made.problem().names().len() as u8;
+    if are_passed(tree.kind, left, labels, changes) {
+        return passed(tree.alloc, labels, changes, count);
+    }
     let Ok(all) = changes_of(tree.alloc, has_lower_steps(tree.kind), labels) else {
         return Err(FindFault::NoMemory);
     };
@@ -240,6 +243,49 @@ fn walk_changed(
             changes - 1,
             count,
         ) {
+            Ok(Walked::Passed(next)) => count = next,
+            Ok(Walked::Found) => return Ok(Walked::Found),
+            Err(fault) => return Err(fault),
+        }
+    }
+    Ok(Walked::Passed(count))
+}
+
+// Whether the nodes that so many changes make need no problem: those at the greatest depth of a search for a fixed point, where
+// more labels are left than a way back may have. They are no successes, and have no children.
+fn are_passed(kind: Kind, left: u8, labels: u8, changes: u8) -> bool
+    requires { changes ≤ 8 }
+    ensures { IsTrue result → (kind ≡ Kind.Fixed) × (left ≡ 0) × (8 + changes < labels) }
+{
+    match kind {
+        Kind::Fixed => left == 0 && labels > 8 + changes,
+        Kind::Lower | Kind::Upper => false,
+    }
+}
+
+// Past such nodes, which so many merges make of a problem of so many labels. They are counted, and no problem is made.
+fn passed(alloc: Global, labels: u8, changes: u8, count: Count) -> Result<Walked, FindFault>
+    requires labels { labels ≤ MAX_LABELS }
+    requires many { 8 + changes < labels }
+    ensures { (first : NamedProblem) (most : ℕ) (steps : List BoundStep) (made : Outcome) → length made.problem.names ≡ labels →
+        Walks Kind.Fixed first count (flat_map (below_made Kind.Fixed most 0 (node_at first steps 1)) (changed_times true changes made)) steps steps result }
+{
+    if changes == 0 {
+        if MAX_NODES <= count.nodes {
+            return Err(FindFault::TooManyNodes);
+        }
+        return Ok(Walked::Passed(Count {
+            nodes: count.nodes + 1,
+            cut: count.cut,
+        }));
+    }
+    let Ok(all) = changes_of(alloc, true, labels) else {
+        return Err(FindFault::NoMemory);
+    };
+    let mut count = count;
+    for change in all.as_slice() {
+        let _merge = *change;
+        match passed(alloc, labels - 1, changes - 1, count) {
             Ok(Walked::Passed(next)) => count = next,
             Ok(Walked::Found) => return Ok(Walked::Found),
             Err(fault) => return Err(fault),

@@ -244,7 +244,7 @@ module _ (images : List ℕ) (rises : IsRising (λ x y. x < y) images) where
       apart = λ p q l m e. tree.apart p q (short p l) (short q m) (same-images (key p) (key q) (key-low p (short p l)) (key-low q (short q m)) e);
       parent = λ q some l.
           let up = tree.parent q some (short q l) in
-          (up.0, long up.0 up.1, ap (map (image_at images)) up.2 ∙ ap (λ (n : Node). n.label ∷ key-image up.0) (sym (at q (short q l))));
+          (up.0, long up.0 up.1, ap (map (image_at images)) up.2 ∙ ap (λ (n : Node). n.label ∷ key-image up.0) (sym (at q (short q l))), ap (λ (n : Node). n.parent) (at q (short q l)) ∙ up.3);
       sibling = λ q above l e. sibling-image q above (short q l) e;
       below = λ q l. subst (λ (n : Node). IsBelow degree new (held_configs new) key-image (key-image q) n.kind) (sym (at q (short q l)))
           (below-image q (short q l) (node_at nodes q).kind refl (tree.below q (short q l)));

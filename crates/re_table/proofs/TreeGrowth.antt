@@ -203,17 +203,17 @@ module _ (degree : ℕ) (nodes new : List Node) (configs more : List (List ℕ))
     ]
   ]
 
-  parent_after : (q : ℕ) → 0 < q → q < length new → (p : ℕ) × (p < length new) × (after_key q ≡ (node_at new q).label ∷ after_key p)
+  parent_after : (q : ℕ) → 0 < q → q < length new → (p : ℕ) × (p < length new) × (after_key q ≡ (node_at new q).label ∷ after_key p) × ((node_at new q).parent ≡ p)
   parent_after q some l = elim (split q l) [
     | inl old ↦
         let up = tree.parent q some old.0 in
         let within : up.0 < length new = let longer = grown.longer in let u = up.1 in omega arith in
-        (up.0, within, old.1 ∙ up.2 ∙ ap (λ x. x ∷ key up.0) (sym (grown.label q old.0)) ∙ ap (λ k. (node_at new q).label ∷ k) (sym (grown_key-old key (length nodes) config depth up.0 up.1)))
+        (up.0, within, old.1 ∙ up.2 ∙ ap (λ x. x ∷ key up.0) (sym (grown.label q old.0)) ∙ ap (λ k. (node_at new q).label ∷ k) (sym (grown_key-old key (length nodes) config depth up.0 up.1)), grown.up q old.0 ∙ up.3)
     | inr is ↦ new_parent q is.0 l is.1 is.2 is.3 is.4
   ]
     where
       new_parent : (q j : ℕ) → q < length new → depth ≤ j → j < degree → q + depth ≡ length nodes + j → after_key q ≡ get_or config j 0 ∷ prefix config j
-          → (p : ℕ) × (p < length new) × (after_key q ≡ (node_at new q).label ∷ after_key p)
+          → (p : ℕ) × (p < length new) × (after_key q ≡ (node_at new q).label ∷ after_key p) × ((node_at new q).parent ≡ p)
       new_parent q j l low high at e = elim (three_ways depth j) [
         | inl less ↦ below_top q j l less high at e
         | inr (inl same) ↦
@@ -222,16 +222,17 @@ module _ (degree : ℕ) (nodes new : List Node) (configs more : List (List ℕ))
               within,
               e ∙ ap (λ x. x ∷ prefix config j) (sym (grown.new_node q j low high at).label)
                   ∙ ap (λ k. (node_at new q).label ∷ k) (ap (prefix config) (sym same) ∙ sym gap.on_way ∙ sym (grown_key-old key (length nodes) config depth parent gap.within)),
+              (grown.new_node q j low high at).up_top (sym same),
             )
         | inr (inr more) ↦ absurd (omega arith)
       ]
         where
           below_top : (q j : ℕ) → q < length new → depth < j → j < degree → q + depth ≡ length nodes + j → after_key q ≡ get_or config j 0 ∷ prefix config j
-              → (p : ℕ) × (p < length new) × (after_key q ≡ (node_at new q).label ∷ after_key p)
+              → (p : ℕ) × (p < length new) × (after_key q ≡ (node_at new q).label ∷ after_key p) × ((node_at new q).parent ≡ p)
           below_top q zero l low high at e = absurd (omega arith)
           below_top q (suc j) l low high at e =
               let up = new_place j (omega arith) (omega arith) in
-              (up.0, up.1, e ∙ ap (λ x. x ∷ prefix config (suc j)) (sym (grown.new_node q (suc j) (omega arith) high at).label) ∙ ap (λ k. (node_at new q).label ∷ k) (sym up.3))
+              (up.0, up.1, e ∙ ap (λ x. x ∷ prefix config (suc j)) (sym (grown.new_node q (suc j) (omega arith) high at).label) ∙ ap (λ k. (node_at new q).label ∷ k) (sym up.3), (let above = (grown.new_node q (suc j) (omega arith) high at).up low in let place = up.2 in omega arith))
 
   sibling_after : (q : ℕ) (above : List ℕ) → q < length new → after_key q ≡ (node_at new q).label ∷ above → IsLink new after_key above ((node_at new q).label + 1) (node_at new q).next
   sibling_after q above l e = elim (split q l) [

@@ -23,39 +23,39 @@ use Rattle.re_table.specs.TreeGrowth.{IsFound, IsGrown, IsNewNode, linked, new_i
 use Rattle.re_labels.specs.declared.TheConstants.{MAX_LABELS}
 
 -- ---- the new nodes in their order
-inner_at : (config : List ℕ) (depth after start count k : ℕ) → k < count → node_at (new_inners config depth after start count) k ≡ new_inner config depth after start k
-inner_at config depth after start zero k l = absurd (omega arith)
-inner_at config depth after start (suc count) k l = elim (three_ways k count) [
+inner_at : (config : List ℕ) (depth parent after start count k : ℕ) → k < count → node_at (new_inners config depth parent after start count) k ≡ new_inner config depth parent after start k
+inner_at config depth parent after start zero k l = absurd (omega arith)
+inner_at config depth parent after start (suc count) k l = elim (three_ways k count) [
   | inl less ↦
-      let within : k < length (new_inners config depth after start count) = subst (λ n. k < n) (sym (length-new_inners config depth after start count)) less in
-      get_or_append_left (new_inners config depth after start count) (new_inner config depth after start count ∷ []) bare_root k within ∙ inner_at config depth after start count k less
+      let within : k < length (new_inners config depth parent after start count) = subst (λ n. k < n) (sym (length-new_inners config depth parent after start count)) less in
+      get_or_append_left (new_inners config depth parent after start count) (new_inner config depth parent after start count ∷ []) bare_root k within ∙ inner_at config depth parent after start count k less
   | inr (inl same) ↦
-      (λ i. node_at (new_inners config depth after start count ++ new_inner config depth after start count ∷ []) ((same ∙ sym (length-new_inners config depth after start count)) i))
-      ∙ get_or-append_seam (new_inners config depth after start count) (new_inner config depth after start count) [] bare_root ∙ ap (new_inner config depth after start) (sym same)
+      (λ i. node_at (new_inners config depth parent after start count ++ new_inner config depth parent after start count ∷ []) ((same ∙ sym (length-new_inners config depth parent after start count)) i))
+      ∙ get_or-append_seam (new_inners config depth parent after start count) (new_inner config depth parent after start count) [] bare_root ∙ ap (new_inner config depth parent after start) (sym same)
   | inr (inr more) ↦ absurd (omega arith)
 ]
 
-module _ (config : List ℕ) (depth after start : ℕ) (inside : depth < length config) where
-  pub length-way_nodes : length (way_nodes config depth after start) + depth ≡ length config
+module _ (config : List ℕ) (depth parent after start : ℕ) (inside : depth < length config) where
+  pub length-way_nodes : length (way_nodes config depth parent after start) + depth ≡ length config
   length-way_nodes =
-      let inners = length-new_inners config depth after start (length config - depth - 1) in
-      let whole = length-append (new_inners config depth after start (length config - depth - 1)) (new_leaf config depth after (length config - depth - 1) ∷ []) in
+      let inners = length-new_inners config depth parent after start (length config - depth - 1) in
+      let whole = length-append (new_inners config depth parent after start (length config - depth - 1)) (new_leaf config depth parent after start (length config - depth - 1) ∷ []) in
       omega arith
 
-  way_inner : (k : ℕ) → depth + k + 1 < length config → node_at (way_nodes config depth after start) k ≡ new_inner config depth after start k
+  way_inner : (k : ℕ) → depth + k + 1 < length config → node_at (way_nodes config depth parent after start) k ≡ new_inner config depth parent after start k
   way_inner k l =
-      let inners = length-new_inners config depth after start (length config - depth - 1) in
-      get_or_append_left (new_inners config depth after start (length config - depth - 1)) (new_leaf config depth after (length config - depth - 1) ∷ []) bare_root k (omega arith)
-      ∙ inner_at config depth after start (length config - depth - 1) k (omega arith)
+      let inners = length-new_inners config depth parent after start (length config - depth - 1) in
+      get_or_append_left (new_inners config depth parent after start (length config - depth - 1)) (new_leaf config depth parent after start (length config - depth - 1) ∷ []) bare_root k (omega arith)
+      ∙ inner_at config depth parent after start (length config - depth - 1) k (omega arith)
 
-  way_leaf : (k : ℕ) → depth + k + 1 ≡ length config → node_at (way_nodes config depth after start) k ≡ new_leaf config depth after k
+  way_leaf : (k : ℕ) → depth + k + 1 ≡ length config → node_at (way_nodes config depth parent after start) k ≡ new_leaf config depth parent after start k
   way_leaf k e =
       let last : length config - depth - 1 ≡ k = omega arith in
-      let inners = length-new_inners config depth after start (length config - depth - 1) in
-      let at : k ≡ length (new_inners config depth after start (length config - depth - 1)) = omega arith in
-      ap (node_at (way_nodes config depth after start)) at
-      ∙ get_or-append_seam (new_inners config depth after start (length config - depth - 1)) (new_leaf config depth after (length config - depth - 1)) [] bare_root
-      ∙ ap (new_leaf config depth after) last
+      let inners = length-new_inners config depth parent after start (length config - depth - 1) in
+      let at : k ≡ length (new_inners config depth parent after start (length config - depth - 1)) = omega arith in
+      ap (node_at (way_nodes config depth parent after start)) at
+      ∙ get_or-append_seam (new_inners config depth parent after start (length config - depth - 1)) (new_leaf config depth parent after start (length config - depth - 1)) [] bare_root
+      ∙ ap (new_leaf config depth parent after start) last
 
 -- ---- the link
 module _ (nodes : List Node) (parent before start : ℕ) (parent_within : parent < length nodes) (before_within : before < length nodes) where
@@ -106,6 +106,18 @@ module _ (nodes : List Node) (parent before start : ℕ) (parent_within : parent
     | inr some ↦ elim (by_place before q) [
       | inl same ↦ ap (λ (n : Node). n.label) (behind_same some q same) ∙ ap (λ p. (node_at nodes p).label) (sym same)
       | inr apart ↦ ap (λ (n : Node). n.label) (behind_other some q apart)
+    ]
+  ]
+
+  pub linked-parent : (q : ℕ) → (node_at (linked nodes parent before start) q).parent ≡ (node_at nodes q).parent
+  linked-parent q = elim by_before [
+    | inl none ↦ elim (by_place parent q) [
+      | inl same ↦ ap (λ (n : Node). n.parent) (first_same none q same) ∙ ap (λ p. (node_at nodes p).parent) (sym same)
+      | inr apart ↦ ap (λ (n : Node). n.parent) (first_other none q apart)
+    ]
+    | inr some ↦ elim (by_place before q) [
+      | inl same ↦ ap (λ (n : Node). n.parent) (behind_same some q same) ∙ ap (λ p. (node_at nodes p).parent) (sym same)
+      | inr apart ↦ ap (λ (n : Node). n.parent) (behind_other some q apart)
     ]
   ]
 
@@ -197,31 +209,35 @@ module _ (nodes : List Node) (config way : List ℕ) (depth parent before after 
       let within = (on_way i held.1).0 in
       omega arith)
 
-  module _ (longer new : List Node) (is_longer : longer ≡ nodes ++ way_nodes config depth after (length nodes))
+  module _ (longer new : List Node) (is_longer : longer ≡ nodes ++ way_nodes config depth parent after (length nodes))
       (same_length : length new ≡ length longer)
       (label : (q : ℕ) → (node_at new q).label ≡ (node_at (linked longer parent before (length nodes)) q).label)
       (next : (q : ℕ) → (node_at new q).next ≡ (node_at (linked longer parent before (length nodes)) q).next)
+      (up : (q : ℕ) → (node_at new q).parent ≡ (node_at (linked longer parent before (length nodes)) q).parent)
       (kind : (q : ℕ) → (node_at new q).kind ≡ with_leaves (node_at (linked longer parent before (length nodes)) q).kind (count_by (λ p. p == q) way)) where
     length_longer : length longer + depth ≡ length nodes + length config
-    length_longer = let e = ap length is_longer ∙ length-append nodes (way_nodes config depth after (length nodes)) in let f = length-way_nodes config depth after (length nodes) found.inside in omega arith
+    length_longer = let e = ap length is_longer ∙ length-append nodes (way_nodes config depth parent after (length nodes)) in let f = length-way_nodes config depth parent after (length nodes) found.inside in omega arith
 
     parent_within : parent < length longer
-    parent_within = let e = ap length is_longer ∙ length-append nodes (way_nodes config depth after (length nodes)) in let p = found.parent_within in omega arith
+    parent_within = let e = ap length is_longer ∙ length-append nodes (way_nodes config depth parent after (length nodes)) in let p = found.parent_within in omega arith
 
     before_within : before < length longer
-    before_within = let e = ap length is_longer ∙ length-append nodes (way_nodes config depth after (length nodes)) in let p = found.before_within in omega arith
+    before_within = let e = ap length is_longer ∙ length-append nodes (way_nodes config depth parent after (length nodes)) in let p = found.before_within in omega arith
 
     old_node : (q : ℕ) → q < length nodes → node_at longer q ≡ node_at nodes q
-    old_node q l = ap (λ n. node_at n q) is_longer ∙ get_or_append_left nodes (way_nodes config depth after (length nodes)) bare_root q l
+    old_node q l = ap (λ n. node_at n q) is_longer ∙ get_or_append_left nodes (way_nodes config depth parent after (length nodes)) bare_root q l
 
-    way_node : (q j : ℕ) → depth ≤ j → q + depth ≡ length nodes + j → node_at longer q ≡ node_at (way_nodes config depth after (length nodes)) (j - depth)
+    way_node : (q j : ℕ) → depth ≤ j → q + depth ≡ length nodes + j → node_at longer q ≡ node_at (way_nodes config depth parent after (length nodes)) (j - depth)
     way_node q j low at =
         let place : q ≡ length nodes + (j - depth) = omega arith in
-        (λ i. node_at (is_longer i) (place i)) ∙ get_or-append-add nodes (way_nodes config depth after (length nodes)) (j - depth) bare_root
+        (λ i. node_at (is_longer i) (place i)) ∙ get_or-append-add nodes (way_nodes config depth parent after (length nodes)) (j - depth) bare_root
 
     -- a new node is neither linked nor counted
     new_label : (q : ℕ) → (node_at new q).label ≡ (node_at longer q).label
     new_label q = label q ∙ linked-label longer parent before (length nodes) parent_within before_within q
+
+    new_up : (q : ℕ) → (node_at new q).parent ≡ (node_at longer q).parent
+    new_up q = up q ∙ linked-parent longer parent before (length nodes) parent_within before_within q
 
     new_next : (q : ℕ) → length nodes ≤ q → (node_at new q).next ≡ (node_at longer q).next
     new_next q l = next q ∙ linked-next longer parent before (length nodes) parent_within before_within q (λ some e. let b = found.before_within in omega arith)
@@ -237,6 +253,7 @@ module _ (nodes : List Node) (config way : List ℕ) (depth parent before after 
       label = λ q l. new_label q ∙ ap (λ (n : Node). n.label) (old_node q l);
       linked = λ some. next before ∙ linked-next_at longer parent before (length nodes) parent_within before_within some;
       next = λ q l apart. next q ∙ linked-next longer parent before (length nodes) parent_within before_within q apart ∙ ap (λ (n : Node). n.next) (old_node q l);
+      up = λ q l. new_up q ∙ ap (λ (n : Node). n.parent) (old_node q l);
       inner = λ q first leaves l is.
           let was : (node_at longer q).kind ≡ Inner first leaves = ap (λ (n : Node). n.kind) (old_node q l) ∙ is in
           elim (by_link longer parent before (length nodes) parent_within before_within q) [
@@ -264,28 +281,32 @@ module _ (nodes : List Node) (config way : List ℕ) (depth parent before after 
       new_node = λ q j low high at. is_new q j low high at;
     }
       where
-        is_new : (q j : ℕ) → depth ≤ j → j < length config → q + depth ≡ length nodes + j → IsNewNode config (length config) depth after q j (node_at new q)
+        is_new : (q j : ℕ) → depth ≤ j → j < length config → q + depth ≡ length nodes + j → IsNewNode config (length config) depth parent after q j (node_at new q)
         is_new q j low high at =
             let place = way_node q j low at in
             let above : length nodes ≤ q = omega arith in
             let level : depth + (j - depth) ≡ j = omega arith in
             elim (three_ways (suc j) (length config)) [
               | inl less ↦
-                  let node : node_at longer q ≡ new_inner config depth after (length nodes) (j - depth) = place ∙ way_inner config depth after (length nodes) found.inside (j - depth) (omega arith) in
+                  let node : node_at longer q ≡ new_inner config depth parent after (length nodes) (j - depth) = place ∙ way_inner config depth parent after (length nodes) found.inside (j - depth) (omega arith) in
                   let number : length nodes + (j - depth) + 1 ≡ q + 1 = omega arith in
                   record {
                     label = new_label q ∙ ap (λ (n : Node). n.label) node ∙ ap (λ i. get_or config i 0) level;
                     top = λ same. new_next q above ∙ ap (λ (n : Node). n.next) node ∙ top_next (j - depth) (omega arith);
                     alone = λ more. new_next q above ∙ ap (λ (n : Node). n.next) node ∙ more_next (j - depth) (omega arith);
+                    up_top = λ same. new_up q ∙ ap (λ (n : Node). n.parent) node ∙ top_up (j - depth) (omega arith);
+                    up = λ more. ap (λ p. p + 1) (new_up q ∙ ap (λ (n : Node). n.parent) node ∙ more_up (j - depth) (omega arith)) ∙ omega arith;
                     inner = λ more. new_kind q above ∙ ap (λ (n : Node). n.kind) node ∙ ap (λ f. Inner f 1) number;
                     leaf = λ last. absurd (omega arith);
                   }
               | inr (inl same) ↦
-                  let node : node_at longer q ≡ new_leaf config depth after (j - depth) = place ∙ way_leaf config depth after (length nodes) found.inside (j - depth) (omega arith) in
+                  let node : node_at longer q ≡ new_leaf config depth parent after (length nodes) (j - depth) = place ∙ way_leaf config depth parent after (length nodes) found.inside (j - depth) (omega arith) in
                   record {
                     label = new_label q ∙ ap (λ (n : Node). n.label) node ∙ ap (λ i. get_or config i 0) level;
                     top = λ same. new_next q above ∙ ap (λ (n : Node). n.next) node ∙ top_next (j - depth) (omega arith);
                     alone = λ more. new_next q above ∙ ap (λ (n : Node). n.next) node ∙ more_next (j - depth) (omega arith);
+                    up_top = λ same. new_up q ∙ ap (λ (n : Node). n.parent) node ∙ top_up (j - depth) (omega arith);
+                    up = λ more. ap (λ p. p + 1) (new_up q ∙ ap (λ (n : Node). n.parent) node ∙ more_up (j - depth) (omega arith)) ∙ omega arith;
                     inner = λ more. absurd (omega arith);
                     leaf = λ last. new_kind q above ∙ ap (λ (n : Node). n.kind) node;
                   }
@@ -295,6 +316,12 @@ module _ (nodes : List Node) (config way : List ℕ) (depth parent before after 
             top_next : (k : ℕ) → k ≡ 0 → cond (eqb k 0) after 0 ≡ after
             top_next k e = ap (λ b. cond b after 0) (ap (λ n. eqb n 0) e ∙ eqb-same 0)
 
+            top_up : (k : ℕ) → k ≡ 0 → cond (eqb k 0) parent (length nodes + k - 1) ≡ parent
+            top_up k e = ap (λ b. cond b parent (length nodes + k - 1)) (ap (λ n. eqb n 0) e ∙ eqb-same 0)
+
+            more_up : (k : ℕ) → 0 < k → cond (eqb k 0) parent (length nodes + k - 1) ≡ length nodes + k - 1
+            more_up k l = ap (λ b. cond b parent (length nodes + k - 1)) (eqb-apart k 0 (λ e. omega arith))
+
             more_next : (k : ℕ) → 0 < k → cond (eqb k 0) after 0 ≡ 0
             more_next k l = ap (λ b. cond b after 0) (eqb-apart k 0 (λ e. omega arith))
 
@@ -303,15 +330,15 @@ leaf_configs-append : (xs ys : List Node) → leaf_configs (xs ++ ys) ≡ leaf_c
 leaf_configs-append [] ys = refl
 leaf_configs-append (x ∷ xs) ys = ap (λ l. configs_of x.kind ++ l) (leaf_configs-append xs ys) ∙ sym (append_assoc (configs_of x.kind) (leaf_configs xs) (leaf_configs ys))
 
-leaf_configs-inners : (config : List ℕ) (depth after start k : ℕ) → leaf_configs (new_inners config depth after start k) ≡ []
-leaf_configs-inners config depth after start zero = refl
-leaf_configs-inners config depth after start (suc k) =
-    leaf_configs-append (new_inners config depth after start k) (new_inner config depth after start k ∷ []) ∙ ap (λ l. l ++ []) (leaf_configs-inners config depth after start k)
+leaf_configs-inners : (config : List ℕ) (depth parent after start k : ℕ) → leaf_configs (new_inners config depth parent after start k) ≡ []
+leaf_configs-inners config depth parent after start zero = refl
+leaf_configs-inners config depth parent after start (suc k) =
+    leaf_configs-append (new_inners config depth parent after start k) (new_inner config depth parent after start k ∷ []) ∙ ap (λ l. l ++ []) (leaf_configs-inners config depth parent after start k)
 
-pub leaf_configs-way : (config : List ℕ) (depth after start : ℕ) → leaf_configs (way_nodes config depth after start) ≡ config ∷ []
-leaf_configs-way config depth after start =
-    leaf_configs-append (new_inners config depth after start (length config - depth - 1)) (new_leaf config depth after (length config - depth - 1) ∷ [])
-    ∙ ap (λ l. l ++ config ∷ []) (leaf_configs-inners config depth after start (length config - depth - 1))
+pub leaf_configs-way : (config : List ℕ) (depth parent after start : ℕ) → leaf_configs (way_nodes config depth parent after start) ≡ config ∷ []
+leaf_configs-way config depth parent after start =
+    leaf_configs-append (new_inners config depth parent after start (length config - depth - 1)) (new_leaf config depth parent after start (length config - depth - 1) ∷ [])
+    ∙ ap (λ l. l ++ config ∷ []) (leaf_configs-inners config depth parent after start (length config - depth - 1))
 
 leaf_configs-alike : (xs ys : List Node) → length xs ≡ length ys → ((q : ℕ) → configs_of (node_at xs q).kind ≡ configs_of (node_at ys q).kind) → leaf_configs xs ≡ leaf_configs ys
 leaf_configs-alike [] [] e same = refl
@@ -354,20 +381,21 @@ count-with_list p (k ∷ ks) c new =
 
 -- ---- the whole step
 module _ (nodes : List Node) (config way : List ℕ) (depth parent before after : ℕ) (filled : 0 < length nodes) (held_tree : IsPrefixTree (length config) nodes) (found : IsFound nodes config way depth parent before after) (low_labels : (j : ℕ) → j < length config → get_or config j 0 < MAX_LABELS)
-    (longer new : List Node) (is_longer : longer ≡ nodes ++ way_nodes config depth after (length nodes)) (same_length : length new ≡ length longer)
+    (longer new : List Node) (is_longer : longer ≡ nodes ++ way_nodes config depth parent after (length nodes)) (same_length : length new ≡ length longer)
     (label : (q : ℕ) → (node_at new q).label ≡ (node_at (linked longer parent before (length nodes)) q).label)
     (next : (q : ℕ) → (node_at new q).next ≡ (node_at (linked longer parent before (length nodes)) q).next)
+    (up : (q : ℕ) → (node_at new q).parent ≡ (node_at (linked longer parent before (length nodes)) q).parent)
     (kind : (q : ℕ) → (node_at new q).kind ≡ with_leaves (node_at (linked longer parent before (length nodes)) q).kind (count_by (λ p. p == q) way)) where
   is_new : Contains (held_configs nodes) config → ⊥
   is_new = gap-new (length config) nodes held_tree.0 held_tree.1 config depth parent before after found.inside (found.gap held_tree.0 held_tree.1)
 
   pub leaves-written : leaf_configs new ≡ leaf_configs nodes ++ config ∷ []
   leaves-written =
-      let e = ap length is_longer ∙ length-append nodes (way_nodes config depth after (length nodes)) in
+      let e = ap length is_longer ∙ length-append nodes (way_nodes config depth parent after (length nodes)) in
       let p = found.parent_within in
       let b = found.before_within in
       leaf_configs-written longer new way parent before (length nodes) (omega arith) (omega arith) same_length kind ∙ ap leaf_configs is_longer
-      ∙ leaf_configs-append nodes (way_nodes config depth after (length nodes)) ∙ ap (λ l. leaf_configs nodes ++ l) (leaf_configs-way config depth after (length nodes))
+      ∙ leaf_configs-append nodes (way_nodes config depth parent after (length nodes)) ∙ ap (λ l. leaf_configs nodes ++ l) (leaf_configs-way config depth parent after (length nodes))
 
   pub held-written : held_configs new ≡ with_list (held_configs nodes) config
   held-written = ap list_set leaves-written ∙ list_set_push (leaf_configs nodes) config
@@ -378,7 +406,7 @@ module _ (nodes : List Node) (config way : List ℕ) (depth parent before after 
       let tree = held_tree.1 in
       let gap = found.gap key tree in
       let grown = IsGrown-written nodes config way depth parent before after found key tree
-      (off_way (length config) nodes (held_configs nodes) key config depth parent before after tree gap) longer new is_longer same_length label next kind in (
+      (off_way (length config) nodes (held_configs nodes) key config depth parent before after tree gap) longer new is_longer same_length label next up kind in (
         grown_key key (length nodes) config depth,
         IsTree-grown (length config) nodes new (held_configs nodes) (held_configs new) key config depth parent before after filled tree gap grown found.inside refl low_labels
             (λ labels. ap (count_by (begins labels)) held-written ∙ count-with_list (begins labels) (held_configs nodes) config (λ i. is_new (In-Contains config (held_configs nodes) i)))
@@ -398,7 +426,7 @@ module _ (degree : ℕ) (nodes : List Node) (configs : List (List ℕ)) (key : �
       by_kind (Inner first leaves) below = let most = count_by-le-length (begins (key q)) configs in let e = below.2 in omega arith
       by_kind (Leaf config) below = omega arith
 
-  pub leaves_most-linked : (longer : List Node) (config : List ℕ) (depth parent before after : ℕ) → depth < length config → parent < length nodes → before < length nodes → longer ≡ nodes ++ way_nodes config depth after (length nodes)
+  pub leaves_most-linked : (longer : List Node) (config : List ℕ) (depth parent before after : ℕ) → depth < length config → parent < length nodes → before < length nodes → longer ≡ nodes ++ way_nodes config depth parent after (length nodes)
       → (q : ℕ) → leaves_of (node_at (linked longer parent before (length nodes)) q).kind ≤ length configs + 1
   leaves_most-linked longer config depth parent before after inside parent_within before_within is q =
       elim (by_link longer parent before (length nodes) parent_in before_in q) [
@@ -406,8 +434,8 @@ module _ (degree : ℕ) (nodes : List Node) (configs : List (List ℕ)) (key : �
         | inr apart ↦ subst (λ n. n ≤ length configs + 1) (sym (ap leaves_of (linked-kind longer parent before (length nodes) parent_in before_in q apart))) (before_link q)
       ]
     where
-      whole : length longer ≡ length nodes + length (way_nodes config depth after (length nodes))
-      whole = ap length is ∙ length-append nodes (way_nodes config depth after (length nodes))
+      whole : length longer ≡ length nodes + length (way_nodes config depth parent after (length nodes))
+      whole = ap length is ∙ length-append nodes (way_nodes config depth parent after (length nodes))
 
       parent_in : parent < length longer
       parent_in = let e = whole in omega arith
@@ -418,25 +446,25 @@ module _ (degree : ℕ) (nodes : List Node) (configs : List (List ℕ)) (key : �
       before_link : (q : ℕ) → leaves_of (node_at longer q).kind ≤ length configs + 1
       before_link q = elim (three_ways q (length nodes)) [
         | inl less ↦
-            subst (λ (n : Node). leaves_of n.kind ≤ length configs + 1) (sym (ap (λ l. node_at l q) is ∙ get_or_append_left nodes (way_nodes config depth after (length nodes)) bare_root q less)) (leaves_most q less)
+            subst (λ (n : Node). leaves_of n.kind ≤ length configs + 1) (sym (ap (λ l. node_at l q) is ∙ get_or_append_left nodes (way_nodes config depth parent after (length nodes)) bare_root q less)) (leaves_most q less)
         | inr (inl same) ↦ on_way q (omega arith)
         | inr (inr more) ↦ on_way q (omega arith)
       ]
         where
           on_way : (q : ℕ) → length nodes ≤ q → leaves_of (node_at longer q).kind ≤ length configs + 1
           on_way q above = elim (three_ways (depth + (q - length nodes) + 1) (length config)) [
-            | inl less ↦ subst (λ n. n ≤ length configs + 1) (sym (ap (λ (n : Node). leaves_of n.kind) (there ∙ way_inner config depth after (length nodes) inside (q - length nodes) less))) (omega arith)
-            | inr (inl same) ↦ subst (λ n. n ≤ length configs + 1) (sym (ap (λ (n : Node). leaves_of n.kind) (there ∙ way_leaf config depth after (length nodes) inside (q - length nodes) same))) (omega arith)
+            | inl less ↦ subst (λ n. n ≤ length configs + 1) (sym (ap (λ (n : Node). leaves_of n.kind) (there ∙ way_inner config depth parent after (length nodes) inside (q - length nodes) less))) (omega arith)
+            | inr (inl same) ↦ subst (λ n. n ≤ length configs + 1) (sym (ap (λ (n : Node). leaves_of n.kind) (there ∙ way_leaf config depth parent after (length nodes) inside (q - length nodes) same))) (omega arith)
             | inr (inr more) ↦
                 let e = whole in
-                let f = length-way_nodes config depth after (length nodes) inside in
+                let f = length-way_nodes config depth parent after (length nodes) inside in
                 subst (λ n. n ≤ length configs + 1) (sym (ap (λ (n : Node). leaves_of n.kind) (get_or_past longer q bare_root (omega arith)))) (omega arith)
           ]
             where
-              there : node_at longer q ≡ node_at (way_nodes config depth after (length nodes)) (q - length nodes)
+              there : node_at longer q ≡ node_at (way_nodes config depth parent after (length nodes)) (q - length nodes)
               there =
                   let place : q ≡ length nodes + (q - length nodes) = omega arith in
-                  (λ i. node_at (is i) (place i)) ∙ get_or-append-add nodes (way_nodes config depth after (length nodes)) (q - length nodes) bare_root
+                  (λ i. node_at (is i) (place i)) ∙ get_or-append-add nodes (way_nodes config depth parent after (length nodes)) (q - length nodes) bare_root
 
 -- what a slice of the whole vector wrote is the vector
 pub written_back : (n : ℕ) (new old : List Node) → n ≡ length new → take n (new ++ drop (length new) old) ≡ new

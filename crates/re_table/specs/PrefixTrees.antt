@@ -33,7 +33,7 @@ held_configs nodes = list_set (leaf_configs nodes)
 
 -- the root before it has children
 abbrev pub bare_root : Node
-bare_root = record { label = 0; next = 0; kind = Inner 0 0 }
+bare_root = record { label = 0; next = 0; parent = 0; kind = Inner 0 0 }
 
 -- the node at a place
 abbrev pub node_at : List Node → ℕ → Node
@@ -65,7 +65,7 @@ pub record IsTree (degree : ℕ) (nodes : List Node) (configs : List (List ℕ))
   pub root : key 0 ≡ []
   pub narrow : (q : ℕ) → q < length nodes → (node_at nodes q).label < MAX_LABELS
   pub apart : (p q : ℕ) → p < length nodes → q < length nodes → key p ≡ key q → p ≡ q
-  pub parent : (q : ℕ) → 0 < q → q < length nodes → (p : ℕ) × (p < length nodes) × (key q ≡ (node_at nodes q).label ∷ key p)
+  pub parent : (q : ℕ) → 0 < q → q < length nodes → (p : ℕ) × (p < length nodes) × (key q ≡ (node_at nodes q).label ∷ key p) × ((node_at nodes q).parent ≡ p)
   pub sibling : (q : ℕ) (above : List ℕ) → q < length nodes → key q ≡ (node_at nodes q).label ∷ above → IsLink nodes key above ((node_at nodes q).label + 1) (node_at nodes q).next
   pub below : (q : ℕ) → q < length nodes → IsBelow degree nodes configs key (key q) (node_at nodes q).kind
   pub filled : (q : ℕ) → 0 < q → q < length nodes → 0 < count_by (begins (key q)) configs

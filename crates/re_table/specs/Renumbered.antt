@@ -12,4 +12,4 @@ kind_image images (Leaf config) = Leaf (image_of images config)
 
 -- the node with the image of its label
 abbrev pub node_image : List ℕ → Node → Node
-node_image images node = record { label = image_at images node.label; next = node.next; kind = kind_image images node.kind }
+node_image images node = record { label = image_at images node.label; next = node.next; parent = node.parent; kind = kind_image images node.kind }

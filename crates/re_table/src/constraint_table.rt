@@ -1,21 +1,22 @@
 //! A constraint: its configurations as the leaves of a prefix tree.
 ghost use Rattle.re_labels.specs.Lists.{IsBefore, IsRising, place_of};
 ghost use Rattle.re_labels.specs.ListSets.{list_set, with_list};
+ghost use Rattle.re_labels.specs.Sets.{has};
 ghost use Rattle.re_config.specs.Configs.{image_of};
 ghost use Rattle.std.specs.List.Sorted.{IsPermutation};
 ghost use Rattle.re_table.specs.Constraints.{IsConstraint, images_of};
 ghost use Rattle.re_table.specs.GoodRows.{is_allowed};
 ghost use Rattle.re_table.specs.PrefixTrees.{IsPrefixTree, held_configs};
-ghost use Rattle.std.specs.List.{AllByRecursion};
-ghost use Rattle.std.specs.Prelude.{◌≡◌, ◌≤◌, ◌<◌, ◌↔◌, [], length, slice_index_or, OnErr, OnOk, MatchResult, IsSome, IsTrue, IfOk, IfSome, insert, map, Contains};
+ghost use Rattle.std.specs.List.{AllByRecursion, list_any};
+ghost use Rattle.std.specs.Prelude.{◌≡◌, ◌≤◌, ◌<◌, ◌↔◌, ℕ, [], length, slice_index_or, OnErr, OnOk, MatchResult, IsSome, IsTrue, IfOk, IfSome, insert, map, Contains};
 
 use crate::configurations::{Configurations, walk_of};
 use crate::prefix_tree::{
-    Node, copied, draws_from, images_in_order, is_held, leaf_at, leaf_count, make_root, put,
-    renumber_nodes,
+    Node, Trail, copied, draws_from, is_held, labels_of, leaf_at, leaf_count, leaf_images,
+    make_root, put, renumber_nodes,
 };
 use re_config::{Config, Row};
-use re_labels::{MAX_LABELS, NoMemory};
+use re_labels::{LabelSet, MAX_LABELS, NoMemory};
 use std::alloc::Global;
 use std::marker::Model;
 
@@ -38,6 +39,7 @@ pub enum InsertFault {
 pub struct Constraint {
     degree: u8,
     nodes: Vec<Node>,
+    trail: Trail,
 }
 
 impl Model for Constraint {
@@ -86,6 +88,7 @@ impl Constraint {
         Constraint {
             degree,
             nodes: Vec::new(alloc),
+            trail: Trail::default(),
         }
     }
 
@@ -95,6 +98,13 @@ impl Constraint {
         ensures constraint { IsConstraint MAX_LABELS self.now }
     {
         self.degree
+    }
+
+    /// The labels that stand in its configurations. It passes each node of the tree once.
+    pub fn labels(&self) -> LabelSet
+        ensures { (label : ℕ) → has result label ≡ list_any (λ config. has config label) self.now.configs }
+    {
+        labels_of(self.nodes.as_slice())
     }
 
     /// How many configurations it has.
@@ -139,7 +149,16 @@ impl Constraint {
     pub fn contains(&self, config: &Config) -> bool
         ensures { IsTrue result ↔ Contains self.now.configs config.now }
     {
-        config.labels().len() == self.degree as usize && is_held(self.nodes.as_slice(), config)
+        self.contains_near(config, &mut Trail::default())
+    }
+
+    /// The same. The trail, which is left by an earlier call, says where to look first: where configurations are looked up one after
+    /// another that are alike, most of them are found without a walk along siblings.
+    pub fn contains_near(&self, config: &Config, trail: &mut Trail) -> bool
+        ensures { IsTrue result ↔ Contains self.now.configs config.now }
+    {
+        config.labels().len() == self.degree as usize
+            && is_held(self.nodes.as_slice(), config, trail)
     }
 
     /// One more configuration, which counts once; the answer says whether it is new. A configuration
@@ -159,7 +178,7 @@ impl Constraint {
         if let Err(_) = make_root(&mut self.nodes, self.degree) {
             return Err(InsertFault::NoMemory);
         }
-        put(&mut self.nodes, config)
+        put(&mut self.nodes, config, &mut self.trail)
     }
 
     /// The same constraint in memory of its own.
@@ -173,6 +192,7 @@ impl Constraint {
         Ok(Constraint {
             degree: self.degree,
             nodes,
+            trail: self.trail,
         })
     }
 
@@ -186,7 +206,7 @@ impl Constraint {
         ensures configs { IfOk result (λ constraint. constraint.configs ≡ images_of images.now self.now) }
     {
         let alloc = *self.nodes.allocator();
-        let all = images_in_order(alloc, self.nodes.as_slice(), images)?;
+        let all = leaf_images(alloc, self.nodes.as_slice(), images)?;
         collected(alloc, self.degree, all.as_slice())
     }
 

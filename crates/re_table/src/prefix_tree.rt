@@ -3,14 +3,14 @@ ghost use Rattle.re_table.specs.PrefixTrees.{IsInnerPlace, IsLink, IsPrefixTree,
 ghost use Rattle.re_table.specs.TreeGrowth.{IsFound, linked, way_nodes, with_first, with_leaves};
 ghost use Rattle.re_config.specs.Configs.{image_at, image_of};
 ghost use Rattle.re_labels.specs.ListSets.{with_list};
-ghost use Rattle.re_labels.specs.Sets.{IsLabelSet};
+ghost use Rattle.re_labels.specs.Sets.{IsLabelSet, has};
 ghost use Rattle.re_table.specs.Fitting.{Completes, CompletesFrom, IsOpen};
-ghost use Rattle.std.specs.List.{AllByRecursion, remove};
+ghost use Rattle.std.specs.List.{AllByRecursion, list_any, remove};
 ghost use Rattle.std.specs.List.Sorted.{IsPermutation};
 ghost use Rattle.std.specs.Vec.{vec_capacity, vec_len};
 ghost use Rattle.re_table.specs.Renumbered.{node_image};
-ghost use Rattle.re_table.specs.TreeWalks.{IsMissing, precedes};
-ghost use Rattle.std.specs.Prelude.{◌≡◌, ◌<◌, ◌≤◌, ◌+◌, ◌^◌, ◌==◌, ◌∷◌, ◌++◌, [], ℕ, Contains, List, IfOk, IsTrue, MatchOption, MatchResult, OnErr, OnOk, ◌↔◌, count_by, map, length, slice_index_or};
+ghost use Rattle.re_table.specs.TreeWalks.{IsMissing, IsWalked, precedes};
+ghost use Rattle.std.specs.Prelude.{◌≡◌, ◌<◌, ◌≤◌, ◌+◌, ◌^◌, ◌==◌, ◌∷◌, ◌++◌, [], ℕ, Contains, List, IfOk, IsTrue, MatchOption, MatchResult, OnErr, OnOk, ◌↔◌, true, count_by, map, length, slice_index_or};
 
 use crate::{InsertFault, MAX_CONFIGURATIONS};
 use arrayvec::ArrayVec;
@@ -25,13 +25,37 @@ pub enum Kind {
     Leaf(Config),
 }
 
-/// A node: the label on its way down, and the place of its next sibling, which has a higher label. The root lies at
-/// place 0, and no node names it, so 0 stands where there is no sibling or no child.
+/// A node: the label on its way down, the place of its next sibling, which has a higher label, and that of its parent. The root
+/// lies at place 0, and no node names it as a sibling or a child, so 0 stands where there is none.
 #[derive(Drop)]
 pub struct Node {
     pub(crate) label: u8,
     pub(crate) next: u32,
+    pub(crate) parent: u32,
     pub(crate) kind: Kind,
+}
+
+/// Where the last way down a tree went: a place below the root for each label. It says where a walk along siblings may begin, and
+/// makes it short where ways are alike. Nothing is asked of it: it may be of another tree, or of none.
+#[derive(Clone, Copy, Debug, Default)]
+pub struct Trail {
+    places: [usize; 6],
+}
+
+impl Trail {
+    // The place at this depth.
+    fn at(&self, depth: usize) -> usize
+        requires { depth < 6 }
+    {
+        self.places[depth]
+    }
+
+    // The place at this depth is this one then.
+    fn note(&mut self, depth: usize, place: usize)
+        requires { depth < 6 }
+    {
+        self.places[depth] = place;
+    }
 }
 
 /// The place of the first child, or 0.
@@ -60,16 +84,56 @@ pub struct Between {
     after: usize,
 }
 
-/// The child with this label, or where it is missing.
-fn child_of(nodes: &[Node], parent: usize, label: u8) -> Result<usize, Between>
+// Where a walk along the children of the parent to this label begins: behind the node nearby, if that is a child with a lower
+// label, and else at the first child.
+fn start_of(nodes: &[Node], parent: usize, label: u8, near: usize) -> Between
+    requires { IsInnerPlace nodes.now parent }
+    ensures before { result.before < length nodes.now }
+    ensures after { result.after < length nodes.now }
+    ensures walked { (degree : ℕ) (key : ℕ → List ℕ) → IsTree degree nodes.now (held_configs nodes.now) key → length (key parent) < degree → IsWalked nodes.now key (key parent) label result.before result.after }
+{
+    if near != 0 && near < nodes.len() {
+        let node = &nodes[near];
+        if node.parent as usize == parent && node.label < label {
+            return Between {
+                before: near,
+                after: node.next as usize,
+            };
+        }
+    }
+    Between {
+        before: 0,
+        after: first_of(&nodes[parent].kind) as usize,
+    }
+}
+
+// Whether the node nearby is the child with this label.
+fn is_child(nodes: &[Node], parent: usize, label: u8, near: usize) -> bool
+    ensures { result ≡ true → (near < length nodes.now) × (0 < near) × ((node_at nodes.now near).parent ≡ parent) × ((node_at nodes.now near).label ≡ label) }
+{
+    if near == 0 {
+        return false;
+    }
+    match nodes.get(near) {
+        Some(node) => node.parent as usize == parent && node.label == label,
+        None => false,
+    }
+}
+
+/// The child with this label, or where it is missing. It may be nearby.
+fn child_of(nodes: &[Node], parent: usize, label: u8, near: usize) -> Result<usize, Between>
     requires { IsInnerPlace nodes.now parent }
     ensures { MatchResult result
         (λ place. (place < length nodes.now) × ((degree : ℕ) (key : ℕ → List ℕ) → IsTree degree nodes.now (held_configs nodes.now) key → length (key parent) < degree → key place ≡ label ∷ key parent))
         (λ between. (between.before < length nodes.now) × (between.after < length nodes.now)
         × ((degree : ℕ) (key : ℕ → List ℕ) → IsTree degree nodes.now (held_configs nodes.now) key → length (key parent) < degree → IsMissing nodes.now key (key parent) label between.before between.after)) }
 {
-    let mut before = 0;
-    let mut at = first_of(&nodes[parent].kind) as usize;
+    if is_child(nodes, parent, label, near) {
+        return Ok(near);
+    }
+    let start = start_of(nodes, parent, label, near);
+    let mut before = start.before;
+    let mut at = start.after;
     while at != 0 {
         let here = nodes[at].label;
         if here == label {
@@ -92,8 +156,14 @@ pub struct Gap {
     between: Between,
 }
 
-/// Goes down the way of the configuration and notes the inner places on it. None where it leads to a leaf.
-pub fn gap_of(nodes: &[Node], config: &Config, way: &mut ArrayVec<usize, 6>) -> Option<Gap>
+/// Goes down the way of the configuration and notes the inner places on it. None where it leads to a leaf. The trail says where
+/// to look first, and is the way then, as far as it went.
+pub fn gap_of(
+    nodes: &[Node],
+    config: &Config,
+    trail: &mut Trail,
+    way: &mut ArrayVec<usize, 6>,
+) -> Option<Gap>
     requires tree { IsPrefixTree (length config.now) nodes.now }
     requires filled { 0 < length nodes.now }
     requires empty { way.old.items ≡ [] }
@@ -105,8 +175,9 @@ pub fn gap_of(nodes: &[Node], config: &Config, way: &mut ArrayVec<usize, 6>) -> 
     let mut place = 0;
     for depth in 0..labels.len() {
         way.push(place);
-        match child_of(nodes, place, labels[depth]) {
+        match child_of(nodes, place, labels[depth], trail.at(depth)) {
             Ok(child) => {
+                trail.note(depth, child);
                 place = child;
             }
             Err(between) => {
@@ -134,15 +205,17 @@ fn push_node(nodes: &mut Vec<Node>, node: Node)
 }
 
 /// The new nodes on the way from a gap to a leaf with the configuration; the topmost is a sibling before `after`.
-fn add_way(nodes: &mut Vec<Node>, config: Config, depth: usize, after: usize)
+fn add_way(nodes: &mut Vec<Node>, config: Config, depth: usize, parent: usize, after: usize)
     requires inside { depth < length config }
     requires room { vec_len nodes.old + length config ≤ vec_capacity nodes.old }
     requires few { vec_len nodes.old + length config < 2 ^ 32 }
+    requires parent { parent < vec_len nodes.old }
     requires after { after < vec_len nodes.old }
-    ensures { nodes.new.items ≡ nodes.old.items ++ way_nodes config depth after (length nodes.old.items) }
+    ensures { nodes.new.items ≡ nodes.old.items ++ way_nodes config depth parent after (length nodes.old.items) }
 {
     let last = config.labels().len() - 1;
     let mut next = after as u32;
+    let mut above = parent as u32;
     for level in depth..last {
         let label = config.labels()[level];
         let first = nodes.len() as u32 + 1;
@@ -151,9 +224,11 @@ fn add_way(nodes: &mut Vec<Node>, config: Config, depth: usize, after: usize)
             Node {
                 label,
                 next,
+                parent: above,
                 kind: Kind::Inner { first, leaves: 1 },
             },
         );
+        above = first - 1;
         next = 0;
     }
     let label = config.labels()[last];
@@ -162,6 +237,7 @@ fn add_way(nodes: &mut Vec<Node>, config: Config, depth: usize, after: usize)
         Node {
             label,
             next,
+            parent: above,
             kind: Kind::Leaf(config),
         },
     );
@@ -204,6 +280,7 @@ fn count_way(nodes: &mut [Node], way: &[usize])
     requires fits { (q : ℕ) → leaves_of (node_at nodes.old q).kind + length way.now < 2 ^ 32 }
     ensures label { (q : ℕ) → (node_at nodes.new q).label ≡ (node_at nodes.old q).label }
     ensures next { (q : ℕ) → (node_at nodes.new q).next ≡ (node_at nodes.old q).next }
+    ensures parent { (q : ℕ) → (node_at nodes.new q).parent ≡ (node_at nodes.old q).parent }
     ensures kind { (q : ℕ) → (node_at nodes.new q).kind ≡ with_leaves (node_at nodes.old q).kind (count_by (λ p. p == q) way.now) }
 {
     for place in way {
@@ -225,7 +302,7 @@ fn grow(nodes: &mut Vec<Node>, config: Config, gap: Gap, way: &[usize])
 {
     let _labels = config.labels();
     let start = nodes.len() as u32;
-    add_way(nodes, config, gap.depth, gap.between.after);
+    add_way(nodes, config, gap.depth, gap.parent, gap.between.after);
     link(nodes.as_mut_slice(), gap.parent, gap.between.before, start);
     count_way(nodes.as_mut_slice(), way);
 }
@@ -280,6 +357,18 @@ pub fn leaf_count(nodes: &[Node]) -> usize
     }
 }
 
+/// The labels of the configurations, which are those of the nodes below the root.
+pub fn labels_of(nodes: &[Node]) -> LabelSet
+    requires { (degree : ℕ) × IsPrefixTree degree nodes.now }
+    ensures { (label : ℕ) → has result label ≡ list_any (λ config. has config label) (held_configs nodes.now) }
+{
+    let mut labels = LabelSet::empty();
+    for place in 1..nodes.len() {
+        labels = labels.insert(nodes[place].label);
+    }
+    labels
+}
+
 /// The root, where there is no node yet, with room for a whole way below it.
 pub fn make_root(nodes: &mut Vec<Node>, degree: u8) -> Result<(), NoMemory>
     requires degree { 0 < degree }
@@ -296,6 +385,7 @@ pub fn make_root(nodes: &mut Vec<Node>, degree: u8) -> Result<(), NoMemory>
             Node {
                 label: 0,
                 next: 0,
+                parent: 0,
                 kind: Kind::Inner {
                     first: 0,
                     leaves: 0,
@@ -306,8 +396,20 @@ pub fn make_root(nodes: &mut Vec<Node>, degree: u8) -> Result<(), NoMemory>
     Ok(())
 }
 
-/// Puts the configuration in. It makes room for the whole way first, so that want of memory changes nothing.
-pub fn put(nodes: &mut Vec<Node>, config: Config) -> Result<bool, InsertFault>
+// The trail of a way that goes on with new nodes, which lie from this place on.
+fn note_new(trail: &mut Trail, depth: usize, labels: usize, start: usize)
+    requires { labels ≤ 6 }
+{
+    let mut place = start;
+    for level in depth..labels {
+        trail.note(level, place);
+        place = place.wrapping_add(1);
+    }
+}
+
+/// Puts the configuration in. It makes room for the whole way first, so that want of memory changes nothing. The trail is its way
+/// then.
+pub fn put(nodes: &mut Vec<Node>, config: Config, trail: &mut Trail) -> Result<bool, InsertFault>
     requires table { IsTable (length config) MAX_CONFIGURATIONS nodes.old.items }
     requires filled { 0 < length nodes.old.items }
     ensures table { IsTable (length config) MAX_CONFIGURATIONS nodes.new.items }
@@ -318,7 +420,7 @@ pub fn put(nodes: &mut Vec<Node>, config: Config) -> Result<bool, InsertFault>
 {
     let labels = config.labels().len();
     let mut way = ArrayVec::new();
-    let gap = match gap_of(nodes.as_slice(), &config, &mut way) {
+    let gap = match gap_of(nodes.as_slice(), &config, trail, &mut way) {
         None => return Ok(false),
         Some(gap) => gap,
     };
@@ -328,6 +430,7 @@ pub fn put(nodes: &mut Vec<Node>, config: Config) -> Result<bool, InsertFault>
     if let Err(_) = nodes.reserve(labels) {
         return Err(InsertFault::NoMemory);
     }
+    note_new(trail, gap.depth, labels, nodes.len());
     grow(nodes, config, gap, way.as_slice());
     Ok(true)
 }
@@ -346,12 +449,13 @@ pub fn copied(node: &Node) -> Node
     Node {
         label: node.label,
         next: node.next,
+        parent: node.parent,
         kind,
     }
 }
 
-/// Whether the configuration is at a leaf.
-pub fn is_held(nodes: &[Node], config: &Config) -> bool
+/// Whether the configuration is at a leaf. The trail says where to look first, and is its way then, as far as it went.
+pub fn is_held(nodes: &[Node], config: &Config, trail: &mut Trail) -> bool
     requires { IsPrefixTree (length config.now) nodes.now }
     ensures { IsTrue result ↔ Contains (held_configs nodes.now) config.now }
 {
@@ -359,7 +463,7 @@ pub fn is_held(nodes: &[Node], config: &Config) -> bool
         return false;
     }
     let mut way = ArrayVec::new();
-    match gap_of(nodes, config, &mut way) {
+    match gap_of(nodes, config, trail, &mut way) {
         None => true,
         Some(_) => false,
     }
@@ -398,12 +502,17 @@ pub fn renumber_nodes(nodes: &mut [Node], images: &[u8])
     }
 }
 
-/// The images of the configurations, in ascending order.
-pub fn images_in_order(
-    alloc: Global,
-    nodes: &[Node],
-    images: &[u8],
-) -> Result<Vec<Config>, NoMemory>
+// Whether the last one comes after the first one.
+fn is_rising(all: &[Config]) -> bool {
+    match all {
+        [first, .., last] => first < last,
+        _ => false,
+    }
+}
+
+/// The images of the configurations in the order of their leaves, turned where that rises: so most come before those in front of
+/// them, and stand in the first place of their siblings when they are put into a tree one after another.
+pub fn leaf_images(alloc: Global, nodes: &[Node], images: &[u8]) -> Result<Vec<Config>, NoMemory>
     requires known { AllByRecursion (AllByRecursion (λ label. label < length images.now)) (leaf_configs nodes.now) }
     requires below { AllByRecursion (λ image. image < MAX_LABELS) images.now }
     ensures { IfOk result (λ all. IsPermutation (map (image_of images.now) (leaf_configs nodes.now)) all.items) }
@@ -414,7 +523,9 @@ pub fn images_in_order(
             all.push(config.image(images))?;
         }
     }
-    all.sort()?;
+    if is_rising(all.as_slice()) {
+        all.as_mut_slice().reverse();
+    }
     Ok(all)
 }
 

@@ -1,11 +1,12 @@
 use Rattle.re_tree.proofs.Paths.{going-left}
-use Rattle.std.proofs.Common.{◌≡◌, ◌+◌, ◌-◌, ◌<◌, ◌≤◌, ◌++◌, ◌∷◌, [], Ok, Err, suc, flat_map, take, length, get_or, refl, ap, ◌∙◌, subst, arith, rules, length-append}
+use Rattle.std.proofs.Common.{◌≡◌, ◌+◌, ◌-◌, ◌<◌, ◌≤◌, ◌++◌, ◌∷◌, [], Ok, Err, suc, flat_map, take, length, get_or, refl, sym, ap, ◌∙◌, subst, arith, rules, length-append}
 use Rattle.re_labels.proofs.Membership.{length-count_from, length-map'}
 use Rattle.re_labels.specs.Lists.{count_from}
 use Rattle.re_problem.specs.NamedProblems.{NamedProblem}
 use Rattle.re_cert.specs.Bounds.{is_lower}
 use Rattle.re_changes.specs.Changes.{Changed, all_changes, unchanged}
 use Rattle.re_changes.specs.declared.change.Change.TheVariants.{Merge}
+use Rattle.re_search.proofs.PassedOver.{passed-are}
 use Rattle.re_search.proofs.PathSteps.{truncated}
 use Rattle.re_search.proofs.Walks.{all_of_changes, all_of_counts, child-found, child-passed, child-refused, counted-at, is-change, level-along, loop-done, loop-found, loop-passed, loop-refused, of_change, of_count, one_change, one_count, same-at, start_at, start-images, step-is, visit-cut, visit-inner, visit-leaf, visit-success, visited, walks-cut, walks-nodes}
 use Rattle.re_tree.specs.Nodes.{preorder}
@@ -67,6 +68,13 @@ walk_changed-walk_changed-requires t c = (
     ),
   ),
 )
+
+pub walk_changed-returns-then-are_passed : goal.walk_changed-returns-then-are_passed
+walk_changed-returns-then-are_passed t c =
+    let are = c.are_passed.ensures c.if-are_passed.true in
+    let size = c.len-labels.ensures.len ∙ ap length (c.names.ensures.names ∙ ap (λ (p : NamedProblem). p.names) c.problem.ensures) in
+    passed-are c.args.tree.now.kind c.args.tree.now.first.now c.args.tree.now.most c.args.left c.args.changes c.args.path.now.items c.args.made.now c.args.count c.passed.result are.0 are.1
+    (c.passed.ensures c.args.tree.now.first.now c.args.tree.now.most c.args.path.now.items c.args.made.now (sym size))
 
 pub walk_changed-returns-in-Ok-Found : goal.walk_changed-returns-in-Ok-Found
 walk_changed-returns-in-Ok-Found t c =

@@ -1,0 +1,14 @@
+pub mod Added
+pub mod Beginning
+pub mod Bounds
+pub mod Dispatch
+pub mod Drawing
+pub mod Ends
+pub mod Found
+pub mod Giving
+pub mod Holding
+pub mod Loops
+pub mod Maps
+pub mod Occurring
+pub mod Rows
+pub mod Uppers

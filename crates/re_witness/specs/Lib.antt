@@ -1,0 +1,4 @@
+pub mod BadChoice
+pub mod Finding
+pub mod Laws
+pub mod Witnesses

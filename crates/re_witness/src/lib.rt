@@ -1,0 +1,46 @@
+//! Witnesses: what shows that a certificate is refused.
+#![tactic(auto)]
+
+mod bad_choice;
+mod end_witness;
+mod finding;
+mod map_witness;
+mod row_witness;
+mod upper_witness;
+mod witness;
+
+ghost use Rattle.re_witness.specs.Laws.{BackWitnessLaw, EndWitnessLaw, LabelWitnessLaw, MapWitnessLaw, RowWitnessLaw, UpperWitnessLaw};
+
+pub use bad_choice::first_bad_choice;
+pub use finding::{Refutation, why_refused};
+pub use witness::{PortSets, Witness};
+
+/// Where rows aren't the maximal rows, what is found shows it.
+pub fn row_witness_law()
+    ensures { RowWitnessLaw }
+{}
+
+/// Where a map of a lower step fails a clause, what is found shows it.
+pub fn map_witness_law()
+    ensures { MapWitnessLaw }
+{}
+
+/// Where entries don't have the labels of the next problem, what is found shows it.
+pub fn label_witness_law()
+    ensures { LabelWitnessLaw }
+{}
+
+/// Where the sets of the entries fail a clause of an upper step, what is found shows it.
+pub fn upper_witness_law()
+    ensures { UpperWitnessLaw }
+{}
+
+/// Where the last problem isn't as END asks, what is found shows it.
+pub fn end_witness_law()
+    ensures { EndWitnessLaw }
+{}
+
+/// Where a renaming doesn't go back, what is found shows it.
+pub fn back_witness_law()
+    ensures { BackWitnessLaw }
+{}

@@ -13,19 +13,20 @@ use Rattle.re_config.specs.Rows.{IsRow}
 use Rattle.re_problem.specs.NamedProblems.{IsNamedProblem, NamedProblem, unnamed}
 use Rattle.re_cert.specs.Bounds.{Bound, BoundStep, is_bound, is_fixed, last_problem, one_form, pair_fits, problem_at, renaming_fits, step_fits, steps_fit}
 use Rattle.re_cert.specs.declared.certificate.Kind.{Kind}
-use Rattle.re_clauses.specs.Clauses.{step_fault}
+use Rattle.re_clauses.specs.Clauses.{step_clauses, step_fault}
 use Rattle.re_clauses.specs.declared.clause.Clause.{Clause}
 use Rattle.re_clauses.specs.declared.clause.Clause.TheVariants.{Back, End, L1, L2, L3, L4, L5, U1, U2, U3, U4}
 use Rattle.re_check.specs.Verdicts.{bound_fault, verdict_of, verdict_with, end_fault, ends_well, fault_at, fault_or, goes_back, meets_back, meets_end, steps_fault}
 use Rattle.re_check.specs.declared.verdict.ClauseFault.{ClauseFault}
 use Rattle.re_check.specs.declared.verdict.Verdict.{Verdict}
 use Rattle.re_check.specs.declared.verdict.Verdict.TheVariants.{Accepted, Refused}
-use Rattle.re_witness.proofs.Dispatch.{fault-fails, step-shown}
+use Rattle.re_witness.proofs.Dispatch.{fault-among, fault-fails, step-shown}
 use Rattle.re_witness.proofs.Ends.{back_witness_law, end_witness_law}
+use Rattle.re_witness.proofs.Giving.{gives-also}
 use Rattle.re_witness.proofs.Holding.{first_below}
 use Rattle.re_witness.specs.Finding.{back_witness, bound_refutation, end_witness, fault_named, refutation_at, refutation_for, refuted, step_refutation, step_witness, steps_refutation}
 use Rattle.re_witness.specs.Laws.{Gives}
-use Rattle.re_witness.specs.Witnesses.{IsShown, IsSoundStep, ShowsInSteps, ShowsStep}
+use Rattle.re_witness.specs.Witnesses.{IsShown, IsSoundStep, ShowsBack, ShowsEnd, ShowsInSteps, ShowsStep}
 use Rattle.re_witness.specs.declared.finding.Refutation.{Refutation}
 use Rattle.re_witness.specs.declared.witness.Witness.{Witness}
 
@@ -35,23 +36,23 @@ Finds Shows fault found = (option_map fault_named found ≡ fault) × IfSome fou
 
 -- ---- the steps
 -- a step has a fault of a clause of steps
-final : (before : NamedProblem) (s : BoundStep) (c : Clause) → step_fault before s ≡ Some c → (c ≡ End → ⊥) × (c ≡ Back → ⊥)
+pub final : (before : NamedProblem) (s : BoundStep) (c : Clause) → step_fault before s ≡ Some c → (c ≡ End → ⊥) × (c ≡ Back → ⊥)
 final before s c e = (λ same. true≢false (fault-fails before s End (e ∙ ap Some same)), λ same. true≢false (fault-fails before s Back (e ∙ ap Some same)))
 
 step_finds : (kind : Kind) (before : NamedProblem) (number : ℕ) (s : BoundStep) → IsNamedProblem before → IsSoundStep s → step_fits kind before s ≡ true
-    → Finds (λ k c w. (k ≡ number) × ShowsStep before s c w) (option_map (fault_at number) (step_fault before s)) (step_refutation before number s)
+    → Finds (λ k c w. (k ≡ number) × Contains (step_clauses s) c × ShowsStep before s c w) (option_map (fault_at number) (step_fault before s)) (step_refutation before number s)
 step_finds kind before number s named sound fits = go (step_fault before s) refl
   where
     Shows : ℕ → Clause → Witness → Type 0
-    Shows k c w = (k ≡ number) × ShowsStep before s c w
+    Shows k c w = (k ≡ number) × Contains (step_clauses s) c × ShowsStep before s c w
 
-    with_witness : (c : Clause) (o : Option Witness) → Gives o (ShowsStep before s c) → Finds Shows (Some (fault_at number c)) (option_map (refuted number c) o)
-    with_witness c None h = absurd h
-    with_witness c (Some w) h = (refl, (refl, h))
+    with_witness : (c : Clause) (o : Option Witness) → Contains (step_clauses s) c → Gives o (ShowsStep before s c) → Finds Shows (Some (fault_at number c)) (option_map (refuted number c) o)
+    with_witness c None among h = absurd h
+    with_witness c (Some w) among h = (refl, (refl, among, h))
 
     go : (o : Option Clause) → step_fault before s ≡ o → Finds Shows (option_map (fault_at number) o) (option_and_then (λ clause. option_map (refuted number clause) (step_witness before s clause)) o)
     go None e = (refl, tt)
-    go (Some c) e = with_witness c (step_witness before s c) (step-shown kind before s c named sound.next (λ row held. AllByRecursion-contains (λ row. IsRow (length row) MAX_LABELS row) s.rows row sound.rows held) fits e)
+    go (Some c) e = with_witness c (step_witness before s c) (fault-among before s c e) (step-shown kind before s c named sound.next (λ row held. AllByRecursion-contains (λ row. IsRow (length row) MAX_LABELS row) s.rows row sound.rows held) fits e)
 
 steps_find : (kind : Kind) (before : NamedProblem) (number : ℕ) (steps : List BoundStep) → IsNamedProblem before → AllByRecursion IsSoundStep steps → steps_fit kind before steps ≡ true
     → Finds (ShowsInSteps before number steps) (steps_fault before number steps) (steps_refutation before number steps)
@@ -64,14 +65,14 @@ steps_find kind before number (s ∷ steps) named sound fits =
     later None h = tt
     later (Some r) h = inr h
 
-    go : (here : Option Refutation) (fault : Option ClauseFault) → Finds (λ k c w. (k ≡ number) × ShowsStep before s c w) fault here
+    go : (here : Option Refutation) (fault : Option ClauseFault) → Finds (λ k c w. (k ≡ number) × Contains (step_clauses s) c × ShowsStep before s c w) fault here
         → Finds (ShowsInSteps s.next (suc number) steps) (steps_fault s.next (suc number) steps) (steps_refutation s.next (suc number) steps)
         → Finds (ShowsInSteps before number (s ∷ steps)) (fault_or fault (steps_fault s.next (suc number) steps)) (option_or here (steps_refutation s.next (suc number) steps))
     go None fault h k = (k.0 ∙ ap (λ f. fault_or f (steps_fault s.next (suc number) steps)) h.0, later (steps_refutation s.next (suc number) steps) k.1)
     go (Some r) fault h k = (ap (λ f. fault_or f (steps_fault s.next (suc number) steps)) h.0, inl h.1)
 
 -- the clause of a fault of the steps is one of steps
-steps_clause : (before : NamedProblem) (number : ℕ) (steps : List BoundStep) (fault : ClauseFault) → steps_fault before number steps ≡ Some fault → (fault.clause ≡ End → ⊥) × (fault.clause ≡ Back → ⊥)
+pub steps_clause : (before : NamedProblem) (number : ℕ) (steps : List BoundStep) (fault : ClauseFault) → steps_fault before number steps ≡ Some fault → (fault.clause ≡ End → ⊥) × (fault.clause ≡ Back → ⊥)
 steps_clause before number [] fault e = absurd (cc)
 steps_clause before number (s ∷ steps) fault e = go (step_fault before s) refl (steps_clause s.next (suc number) steps fault) e
   where
@@ -84,7 +85,7 @@ steps_clause before number (s ∷ steps) fault e = go (step_fault before s) refl
         (λ is. neither.0 (ap (λ (f : ClauseFault). f.clause) same ∙ is), λ is. neither.1 (ap (λ (f : ClauseFault). f.clause) same ∙ is))
 
 -- ---- a certificate
-fits_back : (bound : Bound) → is_bound bound ≡ true → list_all (pair_fits (last_problem bound) (problem_at bound bound.back)) bound.renaming ≡ true
+pub fits_back : (bound : Bound) → is_bound bound ≡ true → list_all (pair_fits (last_problem bound) (problem_at bound bound.back)) bound.renaming ≡ true
 fits_back bound is = go (is_fixed bound.kind) (and-true _ (renaming_fits bound) is).1
   where
     go : (b : Bool) → (if b then nat_lt bound.back (length bound.steps) && list_all (pair_fits (last_problem bound) (problem_at bound bound.back)) bound.renaming else bound.back == 0 && is_nil bound.renaming) ≡ true
@@ -110,7 +111,7 @@ fits_steps bound is =
     (and-true (nat_le (length bound.steps) MAX_STEPS && steps_fit bound.kind bound.first bound.steps && one_form bound.steps) (renaming_fits bound) is).0).0).1
 
 -- a clause of steps is sought at the steps
-at_steps : (bound : Bound) (n : ℕ) (c : Clause) → (c ≡ End → ⊥) → (c ≡ Back → ⊥) → refutation_at bound n c ≡ steps_refutation bound.first 1 bound.steps
+pub at_steps : (bound : Bound) (n : ℕ) (c : Clause) → (c ≡ End → ⊥) → (c ≡ Back → ⊥) → refutation_at bound n c ≡ steps_refutation bound.first 1 bound.steps
 at_steps bound n L1 h k = refl
 at_steps bound n L2 h k = refl
 at_steps bound n L3 h k = refl
@@ -157,17 +158,20 @@ bound_shown bound is named sound = whole (go (steps_fault bound.first 1 bound.st
     n : ℕ
     n = length bound.steps
 
-    at_back : (b : Bool) → goes_back (last_problem bound) (problem_at bound bound.back) bound.renaming ≡ b → (f : Bool) → Finds (IsShown bound) (if f && not b then Some (fault_at n Back) else None) (refutation_for bound (if f && not b then Some (fault_at n Back) else None))
-    at_back b e false = (refl, tt)
-    at_back true e true = (refl, tt)
-    at_back false e true =
+    at_back : (b : Bool) → goes_back (last_problem bound) (problem_at bound bound.back) bound.renaming ≡ b → (f : Bool) → is_fixed bound.kind ≡ f → Finds (IsShown bound) (if f && not b then Some (fault_at n Back) else None) (refutation_for bound (if f && not b then Some (fault_at n Back) else None))
+    at_back b e false fixed = (refl, tt)
+    at_back true e true fixed = (refl, tt)
+    at_back false e true fixed =
         found_end bound n Back (back_witness (last_problem bound) (problem_at bound bound.back) bound.renaming)
-        (back_witness_law (last_problem bound) (problem_at bound bound.back) bound.renaming (first_below (last_problem bound) (problem_at bound bound.back) bound.renaming (fits_back bound is)) e)
+        (gives-also (back_witness (last_problem bound) (problem_at bound bound.back) bound.renaming) (ShowsBack (last_problem bound) (problem_at bound bound.back) bound.renaming) (IsShown bound n Back) (λ w h. (refl, fixed, h))
+        (back_witness_law (last_problem bound) (problem_at bound bound.back) bound.renaming (first_below (last_problem bound) (problem_at bound bound.back) bound.renaming (fits_back bound is)) e))
 
     at_end : (b : Bool) → ends_well bound.kind (last_problem bound) ≡ b
         → let fault : Option ClauseFault = (if not b then Some (fault_at n End) else if is_fixed bound.kind && not (meets_back bound) then Some (fault_at n Back) else None) in Finds (IsShown bound) fault (refutation_for bound fault)
-    at_end false e = found_end bound n End (end_witness bound.kind (last_problem bound)) (end_witness_law bound.kind (last_problem bound) e)
-    at_end true e = at_back (meets_back bound) refl (is_fixed bound.kind)
+    at_end false e =
+        found_end bound n End (end_witness bound.kind (last_problem bound))
+        (gives-also (end_witness bound.kind (last_problem bound)) (ShowsEnd bound.kind (unnamed (last_problem bound))) (IsShown bound n End) (λ w h. (refl, h)) (end_witness_law bound.kind (last_problem bound) e))
+    at_end true e = at_back (meets_back bound) refl (is_fixed bound.kind) refl
 
     go : (o : Option ClauseFault) → steps_fault bound.first 1 bound.steps ≡ o → Finds (ShowsInSteps bound.first 1 bound.steps) (steps_fault bound.first 1 bound.steps) (steps_refutation bound.first 1 bound.steps)
         → Finds (IsShown bound) (fault_or o (end_fault bound)) (refutation_for bound (fault_or o (end_fault bound)))

@@ -5,7 +5,7 @@ use Rattle.std.specs.List.{AllByRecursion, list_all}
 use Rattle.std.specs.Str.{bytes_eq}
 use Rattle.std.proofs.lemmas.Bool.Decides.{nat_tests}
 use Rattle.std.proofs.lemmas.Slice.Eq.{bytes_eq-Decides}
-use Rattle.re_labels.proofs.Membership.{AllByRecursion-weaker, Contains-In, all-In}
+use Rattle.re_labels.proofs.Membership.{AllByRecursion-weaker, Contains-In, In-Contains, all-In}
 use Rattle.re_labels.proofs.Tests.{and-true, eqb-same, eqb-true, true-and}
 use Rattle.re_labels.specs.Lists.{count_from}
 use Rattle.re_labels.specs.Sets.{IsLabelSet}
@@ -54,6 +54,10 @@ not-false false e = absurd (true≢false e)
 -- what is found fails its test
 pub fault-fails : (before : NamedProblem) (s : BoundStep) (c : Clause) → step_fault before s ≡ Some c → meets before s c ≡ false
 fault-fails before s c e = not-true (meets before s c) (found_passes (λ clause. not (meets before s clause)) (step_clauses s) c (sym e)).0
+
+-- and is one of the step's clauses
+pub fault-among : (before : NamedProblem) (s : BoundStep) (c : Clause) → step_fault before s ≡ Some c → Contains (step_clauses s) c
+fault-among before s c e = In-Contains c (step_clauses s) (found_passes (λ clause. not (meets before s clause)) (step_clauses s) c (sym e)).1
 
 -- ---- what holds before a clause
 module _ (before : NamedProblem) (s : BoundStep) where
@@ -110,13 +114,21 @@ rows-degree before (row ∷ rows) e =
     let inner = and-true (eqb (length row) before.passive.degree) (list_all (list_all (is_label before)) row) both.0 in
     (eqb-true (length row) before.passive.degree inner.0, rows-degree before rows both.1)
 
-labels-below : (n most : ℕ) (xs : List ℕ) → n ≤ most → list_all (λ x. nat_lt x n) xs ≡ true → AllByRecursion (λ x. x < most) xs
+pub labels-below : (n most : ℕ) (xs : List ℕ) → n ≤ most → list_all (λ x. nat_lt x n) xs ≡ true → AllByRecursion (λ x. x < most) xs
 labels-below n most [] few e = tt
 labels-below n most (x ∷ xs) few e =
     let both = and-true (nat_lt x n) (list_all (λ x. nat_lt x n) xs) e in
     let passes : nat_lt x n ≡ true = both.0 in
     let l : x < n = grind (arith, nat_tests) in
     (omega (arith, l, few), labels-below n most xs few both.1)
+
+-- the labels of the sets of a row that fits are labels of the problem
+pub row-sets : (before : NamedProblem) (row : List (List ℕ)) → row_fits before row ≡ true → AllByRecursion (AllByRecursion (λ x. x < length before.names)) row
+row-sets before row fits = go row (and-true (eqb (length row) before.passive.degree) (list_all (list_all (is_label before)) row) fits).1
+  where
+    go : (row : List (List ℕ)) → list_all (list_all (is_label before)) row ≡ true → AllByRecursion (AllByRecursion (λ x. x < length before.names)) row
+    go [] e = tt
+    go (set ∷ row) e = let both = and-true (list_all (is_label before) set) (list_all (list_all (is_label before)) row) e in (labels-below (length before.names) (length before.names) set (omega arith) both.0, go row both.1)
 
 pub map-below : (before next : NamedProblem) (m : LowerMap) → length next.names ≤ MAX_LABELS → map_fits before next m ≡ true → AreBelow m
 map-below before next (by_set entries) few e = go entries e
@@ -260,10 +272,15 @@ pub rows-fit : (kind : Kind) (before : NamedProblem) (s : BoundStep) → step_fi
 rows-fit kind before s fits =
     (and-true (kind_fits kind s && nat_le (length s.rows) MAX_ROWS) (list_all (row_fits before) s.rows) (and-true (kind_fits kind s && nat_le (length s.rows) MAX_ROWS && list_all (row_fits before) s.rows) (map_fits before s.next s.map) fits).0).1
 
+pub rows-few : (kind : Kind) (before : NamedProblem) (s : BoundStep) → step_fits kind before s ≡ true → length s.rows ≤ MAX_ROWS
+rows-few kind before s fits =
+    let few : nat_le (length s.rows) MAX_ROWS ≡ true = (and-true (kind_fits kind s) (nat_le (length s.rows) MAX_ROWS) (and-true (kind_fits kind s && nat_le (length s.rows) MAX_ROWS) (list_all (row_fits before) s.rows) (and-true (kind_fits kind s && nat_le (length s.rows) MAX_ROWS && list_all (row_fits before) s.rows) (map_fits before s.next s.map) fits).0).0).1 in
+    grind (arith, nat_tests)
+
 pub map-fits : (kind : Kind) (before : NamedProblem) (s : BoundStep) → step_fits kind before s ≡ true → map_fits before s.next s.map ≡ true
 map-fits kind before s fits = (and-true (kind_fits kind s && nat_le (length s.rows) MAX_ROWS && list_all (row_fits before) s.rows) (map_fits before s.next s.map) fits).1
 
-entries-fit : (before next : NamedProblem) (m : LowerMap) → map_fits before next m ≡ true → list_all (entry_fits before next) (entries_in m) ≡ true
+pub entries-fit : (before next : NamedProblem) (m : LowerMap) → map_fits before next m ≡ true → list_all (entry_fits before next) (entries_in m) ≡ true
 entries-fit before next (by_set entries) e = e
 entries-fit before next (by_row images) e = refl
 
@@ -331,21 +348,27 @@ step-shown kind before s c named next rows fits fault = by_side s.lower refl c f
 pub below-names : (n : ℕ) (constraint : Constraint) → IsConstraint n constraint → AllByRecursion (AllByRecursion (λ label. label < n)) constraint.configs
 below-names n constraint is = AllByRecursion-weaker (IsConfig constraint.degree n) (AllByRecursion (λ label. label < n)) (λ config (c : IsConfig constraint.degree n config). c.below) constraint.configs is.configs
 
+-- where the images of the rows are the first fault, the entries have the sets of the rows
+pub sets-at : (before : NamedProblem) (s : BoundStep) → step_fault before s ≡ Some L4 → (entries : List SetEntry) → s.map ≡ by_set entries → HasRowSets s.rows entries
+sets-at before s fault entries is = go s.lower refl
+  where
+    go : (b : Bool) → s.lower ≡ b → HasRowSets s.rows entries
+    go true low =
+        let (maximal, sets) = before-L4 before s low fault in
+        let n = length before.names in
+        let rows_are : s.rows ≡ max_rows before.passive n = (rows-Decides s.rows (max_rows before.passive n)).0 maximal in
+        let met : have_row_sets before s.rows entries ≡ true = subst (λ (k : LowerMap). maps_sets before s.rows k ≡ true) is sets in
+        let sets_are : entry_sets entries ≡ sets_in n s.rows = (lists-Decides (entry_sets entries) (sets_in n s.rows)).0 met in
+        subst (λ (r : List (List (List ℕ))). HasRowSets r entries) (sym rows_are) ((row_sets_law before.passive n entries).1 (sets_are ∙ ap (sets_in n) rows_are))
+    go false up = absurd (not-lower before s L4 (upper-first before s up L4 fault) (λ a. cc) (λ a. cc) (λ a. cc) (λ a. cc))
+
 -- what the calls for each clause ask
 module _ (kind : Kind) (before next : NamedProblem) (rows : List (List (List ℕ))) (m : LowerMap) where
   abbrev lower_step : BoundStep
   lower_step = record { lower = true; next = next; rows = rows; map = m }
 
   pub few-rows : step_fits kind before (record { lower = true; next = next; rows = rows; map = m }) ≡ true → length rows ≤ MAX_ROWS
-  few-rows fits =
-      let few : nat_le (length rows) MAX_ROWS ≡ true = (and-true (kind_fits kind lower_step) (nat_le (length rows) MAX_ROWS) (and-true (kind_fits kind lower_step && nat_le (length rows) MAX_ROWS) (list_all (row_fits before) rows) (and-true (kind_fits kind lower_step && nat_le (length rows) MAX_ROWS && list_all (row_fits before) rows) (map_fits before next m) fits).0).0).1 in
-      grind (arith, nat_tests)
+  few-rows = rows-few kind before lower_step
 
   pub sets-before : step_fault before (record { lower = true; next = next; rows = rows; map = m }) ≡ Some L4 → (entries : List SetEntry) → m ≡ by_set entries → HasRowSets rows entries
-  sets-before fault entries is =
-      let (maximal, sets) = before-L4 before lower_step refl fault in
-      let n = length before.names in
-      let rows_are : rows ≡ max_rows before.passive n = (rows-Decides rows (max_rows before.passive n)).0 maximal in
-      let met : have_row_sets before rows entries ≡ true = subst (λ (k : LowerMap). maps_sets before rows k ≡ true) is sets in
-      let sets_are : entry_sets entries ≡ sets_in n rows = (lists-Decides (entry_sets entries) (sets_in n rows)).0 met in
-      subst (λ (r : List (List (List ℕ))). HasRowSets r entries) (sym rows_are) ((row_sets_law before.passive n entries).1 (sets_are ∙ ap (sets_in n) rows_are))
+  sets-before = sets-at before lower_step

@@ -40,14 +40,14 @@ use Rattle.re_witness.specs.declared.witness.Witness.{Witness}
 use Rattle.re_witness.specs.declared.witness.Witness.TheVariants.{Fit, MissingPair, NoActive, NoFit, PairOrder, Renaming}
 
 -- ---- END
-fit_shown : (last : Problem) → IsSome (zero_place last) → Gives (fit_witness last) (ShowsEnd last)
-fit_shown last some = go (zero_place last) refl some
+fit_shown : (kind : Kind) (last : Problem) → is_lower kind ≡ true → IsSome (zero_place last) → Gives (fit_witness last) (ShowsEnd kind last)
+fit_shown kind last low some = go (zero_place last) refl some
   where
-    go : (o : Option ℕ) → zero_place last ≡ o → IsSome o → Gives (option_map (fit_at last.active) o) (ShowsEnd last)
+    go : (o : Option ℕ) → zero_place last ≡ o → IsSome o → Gives (option_map (fit_at last.active) o) (ShowsEnd kind last)
     go None e some = absurd (true≢false (sym some))
     go (Some k) e some =
         let found = position-Some (shows_zero last.passive) last.active.configs k [] e in
-        (read-held last.active.configs k [] found.0, (law last (slice_index_or last.active.configs k [])).0.0 found.1)
+        (low, read-held last.active.configs k [] found.0, (law last (slice_index_or last.active.configs k [])).0.0 found.1)
 
 -- labels drawn from a configuration are choices from as many times its set
 drawn-choice : (config drawn : List ℕ) (p : ℕ) → length drawn ≡ p → AllByRecursion (Contains config) drawn → IsChoice drawn (replicate p (support_of config))
@@ -66,19 +66,19 @@ choice-drawn config (x ∷ drawn) (suc p) h =
     let (count, all) = choice-drawn config drawn p h.1 in
     (ap suc count, (has-IsIn config x (sym (has-support_of config x) ∙ IsIn-has (support_of config) x h.0), all))
 
-no_fit_shown : (last : Problem) → (Zero last → ⊥) → Gives (no_fit_witness last) (ShowsEnd last)
-no_fit_shown last isnt = go last.active.configs refl
+no_fit_shown : (kind : Kind) (last : Problem) → is_lower kind ≡ false → (Zero last → ⊥) → Gives (no_fit_witness last) (ShowsEnd kind last)
+no_fit_shown kind last up isnt = go last.active.configs refl
   where
-    go : (configs : List (List ℕ)) → configs ≡ last.active.configs → Gives (no_fit_of last.passive configs) (ShowsEnd last)
-    go [] e = sym e
+    go : (configs : List (List ℕ)) → configs ≡ last.active.configs → Gives (no_fit_of last.passive configs) (ShowsEnd kind last)
+    go [] e = (up, sym e)
     go (config ∷ configs) e =
         let sets = replicate last.passive.degree (support_of config) in
-        gives-at_last (no_fit last.passive config) (ShowsEnd last)
+        gives-at_last (no_fit last.passive config) (ShowsEnd kind last)
         (λ w g.
         let (labels, found, same) = map-some (NoFit config) (first_bad last.passive sets) w g in
         let (chosen, bad) = bad_shown last.passive sets labels found in
         let (count, all) = choice-drawn config labels last.passive.degree chosen in
-        subst (ShowsEnd last) same (isnt, subst (λ cs. IsAt cs 0 config) e (omega arith, refl), count, all, bad))
+        subst (ShowsEnd kind last) same (up, isnt, subst (λ cs. IsAt cs 0 config) e (omega arith, refl), count, all, bad))
         (λ none.
         let each = none_bad last.passive sets (map-none (NoFit config) (first_bad last.passive sets) none) in
         isnt (config, subst (λ cs. Contains cs config) e (0, omega arith, refl), λ drawn count all. each drawn (drawn-choice config drawn last.passive.degree count all)))
@@ -92,14 +92,14 @@ some-is_some None e s = true≢false (sym s)
 some-is_some (Some x) e s = true≢false e
 
 pub end_witness_law : EndWitnessLaw
-end_witness_law kind last fails = go (is_lower kind) fails
+end_witness_law kind last fails = go (is_lower kind) refl fails
   where
     problem : Problem
     problem = unnamed last
 
-    go : (b : Bool) → (if b then is_none (zero_place problem) else is_some (zero_place problem)) ≡ false → Gives (if b then fit_witness problem else no_fit_witness problem) (ShowsEnd problem)
-    go true e = fit_shown problem (is_none-some (zero_place problem) e)
-    go false e = no_fit_shown problem (λ zero. some-is_some (zero_place problem) e ((law problem []).1.1 zero))
+    go : (b : Bool) → is_lower kind ≡ b → (if b then is_none (zero_place problem) else is_some (zero_place problem)) ≡ false → Gives (if b then fit_witness problem else no_fit_witness problem) (ShowsEnd kind problem)
+    go true low e = fit_shown kind problem low (is_none-some (zero_place problem) e)
+    go false up e = no_fit_shown kind problem up (λ zero. some-is_some (zero_place problem) e ((law problem []).1.1 zero))
 
 -- ---- BACK
 module _ (last target : NamedProblem) (pairs : List (ℕ × ℕ)) (below : AllByRecursion (λ (pair : ℕ × ℕ). pair.0 < length last.names) pairs) where

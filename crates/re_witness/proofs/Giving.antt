@@ -16,6 +16,10 @@ pub gives-at_last : {W : Type 0} (a : Option W) (P : W → Type 0) → ((w : W) 
 gives-at_last None P here never = never refl
 gives-at_last (Some w) P here never = here w refl
 
+pub gives-also : {W : Type 0} (a : Option W) (P Q : W → Type 0) → ((w : W) → P w → Q w) → Gives a P → Gives a Q
+gives-also None P Q more h = h
+gives-also (Some w) P Q more h = more w h
+
 pub map-none : {V W : Type 0} (f : V → W) (o : Option V) → option_map f o ≡ None → o ≡ None
 map-none f None e = refl
 map-none f (Some v) e = absurd (cc)

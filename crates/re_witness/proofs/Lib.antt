@@ -9,6 +9,8 @@ pub mod Giving
 pub mod Holding
 pub mod Loops
 pub mod Maps
+pub mod Naming
 pub mod Occurring
+pub mod Refuting
 pub mod Rows
 pub mod Uppers

@@ -1,19 +1,22 @@
 -- Where a clause fails, something is found, and it shows that the clause fails.
-use Rattle.std.specs.Prelude.{◌≡◌, ◌<◌, ◌≤◌, ℕ, false, List, length, map, Contains, Option, None, Some}
+use Rattle.std.specs.Prelude.{◌≡◌, ◌<◌, ◌≤◌, ℕ, true, false, List, length, map, Contains, Option, None, Some}
 use Rattle.std.specs.List.{AllByRecursion}
 use Rattle.re_config.specs.Rows.{IsChoice, IsRow}
 use Rattle.re_labels.specs.declared.TheConstants.{MAX_LABELS}
 use Rattle.re_table.specs.Constraints.{Constraint, Has, IsConstraint}
 use Rattle.re_table.specs.GoodRows.{max_rows}
-use Rattle.re_problem.specs.NamedProblems.{NamedProblem, unnamed}
+use Rattle.re_problem.specs.NamedProblems.{IsNamedProblem, NamedProblem, unnamed}
 use Rattle.re_problem.specs.Steps.{LowerMap, SetEntry}
 use Rattle.re_problem.specs.Steps.LowerMap.{by_row, by_set}
-use Rattle.re_check.specs.Verdicts.{ends_well, goes_back}
+use Rattle.re_cert.specs.Bounds.{Bound, is_bound, next_problems}
+use Rattle.re_check.specs.Verdicts.{bound_fault, ends_well, goes_back}
+use Rattle.re_clauses.specs.declared.clause.Clause.{Clause}
+use Rattle.re_witness.specs.declared.witness.Witness.{Witness}
 use Rattle.re_cert.specs.declared.certificate.Kind.{Kind}
 use Rattle.re_entries.specs.LabelsOver.{labels_over}
 use Rattle.re_entries.specs.StepClauses.{HasAllowedImages, HasGoodImages, HasNextLabels, HasRowSets, KeepsImages, KeepsRows}
 use Rattle.re_witness.specs.Finding.{back_witness, bad_witness, end_witness, image_witness, label_witness, lost_witness, map_entries, row_witness, set_witness, shut_witness}
-use Rattle.re_witness.specs.Witnesses.{ShowsBack, ShowsBad, ShowsChoice, ShowsEnd, ShowsImage, ShowsLabels, ShowsRows, ShowsSets, ShowsShut}
+use Rattle.re_witness.specs.Witnesses.{IsShown, ShowsBack, ShowsBad, ShowsChoice, ShowsEnd, ShowsImage, ShowsLabels, ShowsRows, ShowsSets, ShowsShut}
 
 -- there is one, and it is so
 abbrev pub Gives : {W : Type 0} → Option W → (W → Type 0) → Type 0
@@ -56,8 +59,13 @@ UpperWitnessLaw = (n : ℕ) (before next : Constraint) (entries : List SetEntry)
 
 -- END, BACK
 abbrev pub EndWitnessLaw : Type 0
-EndWitnessLaw = (kind : Kind) (last : NamedProblem) → ends_well kind last ≡ false → Gives (end_witness kind last) (ShowsEnd (unnamed last))
+EndWitnessLaw = (kind : Kind) (last : NamedProblem) → ends_well kind last ≡ false → Gives (end_witness kind last) (ShowsEnd kind (unnamed last))
 
 abbrev pub BackWitnessLaw : Type 0
 BackWitnessLaw = (last target : NamedProblem) (pairs : List (ℕ × ℕ)) → AllByRecursion (λ (pair : ℕ × ℕ). pair.0 < length last.names) pairs
     → goes_back last target pairs ≡ false → Gives (back_witness last target pairs) (ShowsBack last target pairs)
+
+-- whatever shows that a clause of a certificate fails refutes it
+abbrev pub RefutesLaw : Type 0
+RefutesLaw = (bound : Bound) (number : ℕ) (clause : Clause) (witness : Witness) → is_bound bound ≡ true → IsNamedProblem bound.first → AllByRecursion IsNamedProblem (next_problems bound.steps)
+    → IsShown bound number clause witness → bound_fault bound ≡ None → ⊥

@@ -1,5 +1,5 @@
 -- What it means that a witness shows that a clause fails: a plain fact against it.
-use Rattle.std.specs.Prelude.{◌≡◌, ◌<◌, ◌+◌, ℕ, suc, List, [], ◌∷◌, length, map, Contains, slice_index_or, ◌⊎◌}
+use Rattle.std.specs.Prelude.{◌≡◌, ◌<◌, ◌+◌, ℕ, suc, true, false, List, [], ◌∷◌, length, map, Contains, slice_index_or, ◌⊎◌}
 use Rattle.std.specs.List.{AllByRecursion, AllZip}
 use Rattle.std.specs.declared.cmp.Ordering.TheVariants.{Less}
 use Rattle.re_labels.specs.Sets.{IsIn, number}
@@ -17,8 +17,10 @@ use Rattle.re_problem.specs.Steps.LowerMap.{by_row, by_set}
 use Rattle.re_problem.specs.Zero.{ShowsZero, Zero}
 use Rattle.re_maps.specs.Verdicts.{renaming_verdict}
 use Rattle.re_maps.specs.declared.verdict.MapVerdict.TheVariants.{Yes}
-use Rattle.re_cert.specs.Bounds.{Bound, BoundStep, entries_in, last_problem, problem_at}
+use Rattle.re_cert.specs.Bounds.{Bound, BoundStep, entries_in, is_fixed, is_lower, last_problem, problem_at}
+use Rattle.re_cert.specs.declared.certificate.Kind.{Kind}
 use Rattle.re_entries.specs.StepClauses.{OccursInRows}
+use Rattle.re_clauses.specs.Clauses.{step_clauses}
 use Rattle.re_clauses.specs.declared.clause.Clause.{Clause}
 use Rattle.re_clauses.specs.declared.clause.Clause.TheVariants.{L1, L2, L3, L4, L5, U1, U2, U3, U4, End, Back}
 use Rattle.re_witness.specs.Finding.{firsts, labels_of, seconds}
@@ -102,13 +104,13 @@ ShowsStep before s U4 witness = ShowsShut before.active s.next.passive (entries_
 ShowsStep before s clause witness = ⊥
 
 -- ---- the end
--- END: a fit in a lower bound, and none in an upper one, with labels of the first active configuration that are no passive one
-abbrev pub ShowsEnd : Problem → Witness → Type 0
-ShowsEnd last (Fit config) = Contains last.active.configs config × ShowsZero last.passive config
-ShowsEnd last NoActive = last.active.configs ≡ []
-ShowsEnd last (NoFit config labels) =
-    (Zero last → ⊥) × IsAt last.active.configs 0 config × (length labels ≡ last.passive.degree) × AllByRecursion (Contains config) labels × (Has last.passive labels → ⊥)
-ShowsEnd last witness = ⊥
+-- END: a fit in a lower bound or a fixed point, and none in an upper bound, with labels of the first active configuration that are no passive one
+abbrev pub ShowsEnd : Kind → Problem → Witness → Type 0
+ShowsEnd kind last (Fit config) = (is_lower kind ≡ true) × Contains last.active.configs config × ShowsZero last.passive config
+ShowsEnd kind last NoActive = (is_lower kind ≡ false) × (last.active.configs ≡ [])
+ShowsEnd kind last (NoFit config labels) =
+    (is_lower kind ≡ false) × (Zero last → ⊥) × IsAt last.active.configs 0 config × (length labels ≡ last.passive.degree) × AllByRecursion (Contains config) labels × (Has last.passive labels → ⊥)
+ShowsEnd kind last witness = ⊥
 
 -- BACK: pairs whose first labels don't ascend, a label that no pair has, or the first violation of the renaming
 abbrev pub ShowsBack : NamedProblem → NamedProblem → List (ℕ × ℕ) → Witness → Type 0
@@ -123,13 +125,13 @@ pub record IsSoundStep (s : BoundStep) : Type 0 where
   pub rows : AllByRecursion (λ row. IsRow (length row) MAX_LABELS row) s.rows
   pub next : IsNamedProblem s.next
 
--- the witness shows that the clause fails at the step of this number, where steps from this problem are numbered from here on
+-- the witness shows that the clause, one of the step's, fails at the step of this number, where steps from this problem are numbered from here on
 abbrev pub ShowsInSteps : NamedProblem → ℕ → List BoundStep → ℕ → Clause → Witness → Type 0
 ShowsInSteps before from [] number clause witness = ⊥
-ShowsInSteps before from (s ∷ steps) number clause witness = ((number ≡ from) × ShowsStep before s clause witness) ⊎ ShowsInSteps s.next (suc from) steps number clause witness
+ShowsInSteps before from (s ∷ steps) number clause witness = ((number ≡ from) × Contains (step_clauses s) clause × ShowsStep before s clause witness) ⊎ ShowsInSteps s.next (suc from) steps number clause witness
 
 -- the witness shows that the clause fails at the step of this number, or behind the steps
 abbrev pub IsShown : Bound → ℕ → Clause → Witness → Type 0
-IsShown bound number End witness = ShowsEnd (unnamed (last_problem bound)) witness
-IsShown bound number Back witness = ShowsBack (last_problem bound) (problem_at bound bound.back) bound.renaming witness
+IsShown bound number End witness = (number ≡ length bound.steps) × ShowsEnd bound.kind (unnamed (last_problem bound)) witness
+IsShown bound number Back witness = (number ≡ length bound.steps) × (is_fixed bound.kind ≡ true) × ShowsBack (last_problem bound) (problem_at bound bound.back) bound.renaming witness
 IsShown bound number clause witness = ShowsInSteps bound.first 1 bound.steps number clause witness

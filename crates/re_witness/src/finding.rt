@@ -6,6 +6,7 @@ ghost use Rattle.re_clauses.specs.Clauses.{step_fault};
 ghost use Rattle.re_entries.specs.StepClauses.{HasNextLabels, HasRowSets};
 ghost use Rattle.re_problem.specs.Steps.LowerMap.{by_set};
 ghost use Rattle.re_witness.specs.Finding.{AreBelow, back_witness, bad_witness, bound_refutation, fault_named, image_witness, lost_witness, refutation_at, refuted, row_witness, shut_witness, step_refutation, step_witness, steps_refutation};
+ghost use Rattle.re_witness.specs.Standing.{IsNamed, standing};
 ghost use Rattle.re_witness.specs.Witnesses.{IsShown, IsSoundStep};
 ghost use Rattle.re_problem.specs.Steps.{SetEntry};
 ghost use Rattle.std.specs.List.{AllByRecursion, list_all};
@@ -277,6 +278,7 @@ pub fn why_refused(alloc: Global, certificate: &Certificate) -> Result<Option<Re
     ensures first { IfOk result (λ found. found ≡ bound_refutation certificate.now) }
     ensures fault { IfOk result (λ found. option_map fault_named found ≡ bound_fault certificate.now) }
     ensures shown { IfOk result (λ found. IfSome found (λ r. IsShown certificate.now r.step r.clause r.witness)) }
+    ensures named { IfOk result (λ found. IfSome found (λ r. IsNamed (standing certificate.now r.step r.clause) r.witness)) }
 {
     let _first = certificate.first().names();
     are_sound(certificate.steps());

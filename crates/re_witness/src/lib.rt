@@ -9,7 +9,7 @@ mod row_witness;
 mod upper_witness;
 mod witness;
 
-ghost use Rattle.re_witness.specs.Laws.{BackWitnessLaw, EndWitnessLaw, LabelWitnessLaw, MapWitnessLaw, RowWitnessLaw, UpperWitnessLaw};
+ghost use Rattle.re_witness.specs.Laws.{BackWitnessLaw, EndWitnessLaw, LabelWitnessLaw, MapWitnessLaw, RefutesLaw, RowWitnessLaw, UpperWitnessLaw};
 
 pub use bad_choice::first_bad_choice;
 pub use finding::{Refutation, why_refused};
@@ -43,4 +43,9 @@ pub fn end_witness_law()
 /// Where a renaming doesn't go back, what is found shows it.
 pub fn back_witness_law()
     ensures { BackWitnessLaw }
+{}
+
+/// Whatever shows that a clause of a certificate fails refutes the certificate, whoever found it.
+pub fn refutes_law()
+    ensures { RefutesLaw }
 {}

@@ -13,18 +13,12 @@ use Rattle.re_maps.specs.declared.verdict.MapVerdict.TheVariants.{Active, Count,
 use Rattle.re_cert.specs.Bounds.{Bound, last_problem, problem_at}
 use Rattle.re_clauses.specs.declared.clause.Clause.{Clause}
 use Rattle.re_clauses.specs.declared.clause.Clause.TheVariants.{End, Back}
+use Rattle.re_witness.specs.Standing.{Standing, standing}
 use Rattle.re_witness.specs.declared.finding.Refutation.{Refutation}
 use Rattle.re_witness.specs.declared.witness.Witness.{Witness}
 use Rattle.re_witness.specs.declared.witness.Witness.TheVariants.{Degrees, BadRow, Extends, RowOrder, ManyRows, MissingRow, SetOrder, MissingSet, ForeignSet, ImageCount, LostRow, LostChoice, LabelOrder, MissingLabel, EmptySet, BadSets, ShutSets, Fit, NoActive, NoFit, PairOrder, MissingPair, Renaming}
 
--- where a witness stands: the names before and behind a step, and the numbers of the two problems
-pub record Standing : Type 0 where
-  pub before : List (List ℕ)
-  pub next : List (List ℕ)
-  pub number_before : ℕ
-  pub number_next : ℕ
-
--- the labels have names; each label of a witness has one
+-- the labels have names
 abbrev pub are_named : List (List ℕ) → List ℕ → Bool
 are_named names labels = list_all (λ label. nat_lt label (length names)) labels
 
@@ -162,12 +156,6 @@ witness_text at (NoFit config labels) = no_fit_text at.before config labels
 witness_text at (PairOrder place) = order_text (codes "pairs ") place
 witness_text at (MissingPair label) = label_after at.before (codes "no pair has the label ") label
 witness_text at (Renaming verdict) = renaming_text at.before at.number_next verdict
-
--- where the witness of a clause stands
-abbrev pub standing : Bound → ℕ → Clause → Standing
-standing bound number End = record { before = (last_problem bound).names; next = (last_problem bound).names; number_before = number; number_next = number }
-standing bound number Back = record { before = (last_problem bound).names; next = (problem_at bound bound.back).names; number_before = number; number_next = bound.back }
-standing bound number clause = record { before = (problem_at bound (number - 1)).names; next = (problem_at bound number).names; number_before = number - 1; number_next = number }
 
 -- the line that shows why a certificate is refused; nothing where it is accepted
 abbrev pub refutation_line : Bound → Option Refutation → List ℕ

@@ -1,7 +1,8 @@
 //! The lines that show why certificates are refused.
 ghost use Rattle.re_cert.specs.Bounds.{last_problem, problem_at};
 ghost use Rattle.re_witness.specs.Witnesses.{IsShown};
-ghost use Rattle.re_witness_text.specs.WitnessTexts.{refutation_line, standing, witness_text};
+ghost use Rattle.re_witness.specs.Standing.{standing};
+ghost use Rattle.re_witness_text.specs.WitnessTexts.{refutation_line, witness_text};
 ghost use Rattle.std.specs.Prelude.{◌≡◌, ◌≤◌, ◌-◌, ◌++◌, OnOk, Some, codes, length};
 
 use crate::lines::push_witness;

@@ -18,24 +18,23 @@ use Rattle.re_algo.specs.declared.solving.TableVerdict.TheVariants.{Yes}
 use Rattle.re_table_texts.specs.TableTexts.{table_input}
 use Rattle.re_table_texts.specs.declared.table_texts.TableForm.TheVariants.{Plain}
 use Rattle.re_upper_tables.specs.UpperTables.{listed_table}
-use Rattle.re_cli.proofs.Said.{fault_says}
+use Rattle.re_frame.proofs.Said.{fault_says}
 use Rattle.re_cli.specs.Command.{command_of, word_of}
 use Rattle.re_cli.specs.Extracting.{algorithm_outcome, extracted_from, extracting_outcome, if_read}
 use Rattle.re_cli.specs.Meaning.{DoneMeans}
-use Rattle.re_cli.specs.Outcome.{Outcome, status_of}
-use Rattle.re_cli.specs.Output.{command_outcome, expected, outcome_of, too_long, within_limit}
-use Rattle.re_cli.specs.Run.{MaySay}
+use Rattle.re_frame.specs.Outcomes.{Outcome, done, outcome_of, status_of, too_long, within_limit}
+use Rattle.re_cli.specs.Output.{command_outcome, expected}
+use Rattle.re_frame.specs.Runs.{MaySay}
 use Rattle.re_cli.specs.SaysYes.{TableSaysYes}
 use Rattle.re_cli.specs.Tabling.{or_fault, or_refusal, tabling_outcome}
-use Rattle.re_cli.specs.Working.{done}
 use Rattle.re_cli.specs.declared.command.Command.{Command}
 use Rattle.re_cli.specs.declared.command.Command.TheVariants.{Extracts, Streams, Tables}
 use Rattle.re_cli.specs.declared.command.Streaming.TheVariants.{Check}
-use Rattle.re_cli.specs.declared.output.Output.{Output}
-use Rattle.re_cli.specs.declared.status.Answer.{Answer}
-use Rattle.re_cli.specs.declared.status.Answer.TheVariants as answer
-use Rattle.re_cli.specs.declared.status.Status.{Status}
-use Rattle.re_cli.specs.declared.status.Status.TheVariants as status
+use Rattle.re_frame.specs.declared.output.Output.{Output}
+use Rattle.re_frame.specs.declared.status.Answer.{Answer}
+use Rattle.re_frame.specs.declared.status.Answer.TheVariants as answer
+use Rattle.re_frame.specs.declared.status.Status.{Status}
+use Rattle.re_frame.specs.declared.status.Status.TheVariants as status
 
 -- ---- what it may answer
 algorithm_says : (problem : NamedProblem) (found : Option AnswerTable) → MaySay (algorithm_outcome problem found).status true

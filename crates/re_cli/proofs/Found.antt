@@ -9,19 +9,19 @@ use Rattle.re_check.specs.Verdicts.{verdict_of}
 use Rattle.re_check.specs.declared.verdict.Verdict.TheVariants.{Accepted}
 use Rattle.re_search.specs.Searches.{HasSteps}
 use Rattle.re_cli.proofs.Extracts.{answer_done, check_word, same_command, within}
-use Rattle.re_cli.specs.Check.{check_outcome, judged, verdict_outcome}
+use Rattle.re_frame.specs.Check.{check_outcome, judged, verdict_outcome}
 use Rattle.re_cli.specs.Command.{command_of}
 use Rattle.re_cli.specs.Found.{Accepts, FoundIsAccepted, SearchIsAccepted}
-use Rattle.re_cli.specs.Outcome.{Outcome, status_of}
-use Rattle.re_cli.specs.Output.{command_outcome, expected, outcome_of, streaming_outcome, within_limit}
+use Rattle.re_frame.specs.Outcomes.{Outcome, outcome_of, status_of, within_limit}
+use Rattle.re_cli.specs.Output.{command_outcome, expected, streaming_outcome}
 use Rattle.re_cli.specs.Reading.{reading_outcome}
 use Rattle.re_cli.specs.declared.command.Command.{Command}
 use Rattle.re_cli.specs.declared.command.Command.TheVariants.{Reads}
 use Rattle.re_cli.specs.declared.command.Reading.{Reading}
 use Rattle.re_cli.specs.declared.command.Reading.TheVariants.{Search}
-use Rattle.re_cli.specs.declared.output.Output.{Output}
-use Rattle.re_cli.specs.declared.status.Answer.TheVariants as answer
-use Rattle.re_cli.specs.declared.status.Status.{Status}
+use Rattle.re_frame.specs.declared.output.Output.{Output}
+use Rattle.re_frame.specs.declared.status.Answer.TheVariants as answer
+use Rattle.re_frame.specs.declared.status.Status.{Status}
 
 -- ---- other commands
 -- only the words of a search name a search

@@ -18,7 +18,6 @@ use Rattle.re_problem.specs.NamedProblems.{NamedProblem, unnamed}
 use Rattle.re_problem.specs.ProblemTexts.{first_fault, lines_of, problem_of}
 use Rattle.re_problem.specs.Zero.{zero_place}
 use Rattle.re_problem.specs.declared.fault.InputFault.{InputFault}
-use Rattle.re_problem.specs.declared.fault.InputFault.TheVariants as input
 use Rattle.re_runs.specs.RunTexts.{RunText, run_text}
 use Rattle.re_runs.specs.Runs.{first_illegal}
 use Rattle.re_search.specs.Counting.{rounds_of}
@@ -31,15 +30,16 @@ use Rattle.re_search.specs.declared.types.Search.TheVariants.{Found, NotFound}
 use Rattle.re_step.specs.Derivations.{named_derived, step_limit}
 use Rattle.re_step.specs.declared.derivation.StepLimit.{StepLimit}
 use Rattle.re_table.specs.GoodRows.{max_rows}
-use Rattle.re_cli.specs.Check.{verdict_outcome}
+use Rattle.re_frame.specs.Check.{verdict_outcome}
 use Rattle.re_cli.specs.Command.{command_of, is_judging, judges}
 use Rattle.re_cli.specs.Counting.{counted, rounds_outcome}
 use Rattle.re_cli.specs.Making.{behind, making_outcome, one_step_outcome, sizes_text}
 use Rattle.re_cli.specs.Mapping.{kind_of, map_outcome, mapped, mapping_outcome, text_verdict}
-use Rattle.re_cli.specs.Outcome.{Outcome, status_of}
-use Rattle.re_cli.specs.Output.{bad_words, outcome_of}
-use Rattle.re_cli.specs.Reading.{fault_status, fit_outcome, problem_outcome, read_outcome, reading_outcome}
-use Rattle.re_cli.specs.Run.{MaySay, Says}
+use Rattle.re_frame.specs.Outcomes.{Outcome, done, limit, outcome_of, refused, status_of}
+use Rattle.re_cli.specs.Output.{bad_words}
+use Rattle.re_cli.specs.Reading.{fit_outcome, problem_outcome, read_outcome, reading_outcome}
+use Rattle.re_cli.specs.Run.{Says}
+use Rattle.re_frame.specs.Runs.{MaySay}
 use Rattle.re_cli.specs.Running.{delivered, running_outcome, verified, written}
 use Rattle.re_cli.specs.Searching.{search_outcome, searched}
 use Rattle.re_algo.specs.Constructions.{faster_table, slower_table}
@@ -52,7 +52,8 @@ use Rattle.re_table_texts.specs.TableTexts.{TableText, table_input}
 use Rattle.re_table_texts.specs.declared.table_texts.TableForm.{TableForm}
 use Rattle.re_table_texts.specs.declared.table_texts.TableForm.TheVariants as form
 use Rattle.re_cli.specs.Tabling.{behind_next, if_counted, or_fault, or_refusal, same_problems, slower_outcome, tabled, tabling_outcome}
-use Rattle.re_cli.specs.Working.{derived_text, diagram_outcome, done, limit, merge_outcome, or_limit, refused, step_outcome, stepped, trim_outcome, universal_outcome}
+use Rattle.re_cli.specs.Working.{derived_text, diagram_outcome, merge_outcome, step_outcome, stepped, trim_outcome, universal_outcome}
+use Rattle.re_frame.specs.StepLimits.{or_limit}
 use Rattle.re_cli.specs.declared.command.Command.{Command}
 use Rattle.re_cli.specs.declared.command.Command.TheVariants.{Makes, Reads}
 use Rattle.re_cli.specs.declared.command.Making.{Making}
@@ -60,39 +61,15 @@ use Rattle.re_cli.specs.declared.command.Making.TheVariants as making
 use Rattle.re_cli.specs.declared.command.Mapping.{Mapping}
 use Rattle.re_cli.specs.declared.command.Reading.{Reading}
 use Rattle.re_cli.specs.declared.command.Reading.TheVariants as reading
-use Rattle.re_cli.specs.declared.output.Output.{Output}
-use Rattle.re_cli.specs.declared.status.Status.{Status}
-use Rattle.re_cli.specs.declared.status.Status.TheVariants.{BadWords, No}
-
-pub said : (output : Output) (outcome : Outcome) (judging : Bool) → outcome_of output ≡ outcome → MaySay outcome.status judging → MaySay (status_of output.answer) judging
-said output outcome judging is says = subst (λ (o : Outcome). MaySay o.status judging) (sym is) says
-
-pub fault_says : (fault : InputFault) (judging : Bool) → MaySay (fault_status fault) judging
-fault_says (input.BadByte at) judging = tt
-fault_says (input.BadItem line) judging = tt
-fault_says (input.WrongDegree line) judging = tt
-fault_says (input.MissingBlock line) judging = tt
-fault_says (input.ExtraBlock line) judging = tt
-fault_says (input.DegreeOutOfRange degree) judging = tt
-fault_says (input.TooManyLabels line) judging = tt
-fault_says (input.TooManyConfigurations line) judging = tt
-fault_says (input.BadSection line) judging = tt
-fault_says (input.BadEntry line) judging = tt
-fault_says (input.BadBack line) judging = tt
-fault_says (input.TooManySteps line) judging = tt
-fault_says (input.TooManyRows line) judging = tt
-fault_says (input.TooManyViews line) judging = tt
-fault_says (input.TooManyNodes line) judging = tt
-fault_says input.EarlyEnd judging = tt
+use Rattle.re_frame.specs.declared.output.Output.{Output}
+use Rattle.re_frame.specs.declared.status.Status.{Status}
+use Rattle.re_frame.specs.declared.status.Status.TheVariants.{BadWords, No}
+use Rattle.re_frame.proofs.Said.{fault_says, passed}
 
 -- ---- the commands that read a problem
 chosen : (b : Bool) (x y : Outcome) (judging : Bool) → MaySay x.status judging → MaySay y.status judging → MaySay (if b then x else y).status judging
 chosen true x y judging p q = p
 chosen false x y judging p q = q
-
-passed : (number : ℕ) (first : Option StepLimit) (outcome : Outcome) (judging : Bool) → MaySay outcome.status judging → MaySay (or_limit number first outcome).status judging
-passed number (Some first) outcome judging says = tt
-passed number None outcome judging says = says
 
 stepped_says : (number further : ℕ) (problem : NamedProblem) (judging : Bool) → MaySay (stepped number further problem).status judging
 unfolding stepped
@@ -201,10 +178,6 @@ making_says (making.OfFamily kind active passive number) = tt
 making_says (making.OneStep colours) =
     let problem = family_of Colouring 3 2 colours in
     passed_or_said 1 (step_limit (unnamed problem)) (sizes_text (named_derived (unnamed problem))) (verdict_of (one_step_bound problem))
-
-pub check_says : (given : Verdict) → MaySay (verdict_outcome given).status true
-check_says (Accepted kind steps) = tt
-check_says (Refused step clause) = refl
 
 -- ---- the command that runs an algorithm
 moved_says : (text : RunText) (line : Option ℕ) → MaySay (delivered text line).status true

@@ -11,10 +11,9 @@ use Rattle.re_check.specs.declared.verdict.Verdict.TheVariants.{Accepted, Refuse
 use Rattle.re_algo.specs.Tables.{AnswerTable}
 use Rattle.re_table_texts.specs.PrintedTables.{table_text}
 use Rattle.re_upper_tables.specs.UpperTables.{listed_table}
-use Rattle.re_cli.specs.Check.{verdict_outcome}
-use Rattle.re_cli.specs.Outcome.{Outcome}
-use Rattle.re_cli.specs.Reading.{fault_outcome}
-use Rattle.re_cli.specs.Working.{done, limit, refused}
+use Rattle.re_frame.specs.Check.{verdict_outcome}
+use Rattle.re_frame.specs.Outcomes.{Outcome, done, limit, refused}
+use Rattle.re_frame.specs.TextFaults.{fault_outcome}
 
 -- the problem with its table, unless there are too many views
 abbrev pub algorithm_outcome : NamedProblem → Option AnswerTable → Outcome

@@ -4,16 +4,15 @@ use Rattle.re_cert.specs.declared.certificate.Kind.{Kind}
 use Rattle.re_check.specs.declared.verdict.Verdict.TheVariants.{Accepted}
 use Rattle.re_io.specs.declared.read.TheConstants.{MAX_BYTES}
 use Rattle.re_search.specs.Searches.{HasSteps}
-use Rattle.re_cli.specs.Check.{check_outcome, verdict_line}
+use Rattle.re_frame.specs.Check.{check_outcome, verdict_line}
 use Rattle.re_cli.specs.Command.{command_of}
-use Rattle.re_cli.specs.Outcome.{Outcome}
+use Rattle.re_frame.specs.Outcomes.{Outcome, done}
 use Rattle.re_cli.specs.Output.{expected}
-use Rattle.re_cli.specs.Working.{done}
 use Rattle.re_cli.specs.declared.command.Command.TheVariants.{Reads}
 use Rattle.re_cli.specs.declared.command.Reading.{Reading}
 use Rattle.re_cli.specs.declared.command.Reading.TheVariants.{Search}
-use Rattle.re_cli.specs.declared.status.Status.{Status}
-use Rattle.re_cli.specs.declared.status.Status.TheVariants.{Done}
+use Rattle.re_frame.specs.declared.status.Status.{Status}
+use Rattle.re_frame.specs.declared.status.Status.TheVariants.{Done}
 
 -- the answer of `check` is the line that accepts a certificate of this kind, with as many steps as such a search finds
 abbrev pub Accepts : Kind → ℕ → Outcome → Type 0

@@ -8,9 +8,9 @@ use Rattle.re_problem.specs.CanonicalTexts.{canonical}
 use Rattle.re_problem.specs.NamedProblems.{NamedProblem, unnamed}
 use Rattle.re_search.specs.OneStep.{one_step_bound}
 use Rattle.re_step.specs.Derivations.{named_derived, step_limit}
-use Rattle.re_cli.specs.Check.{verdict_outcome}
-use Rattle.re_cli.specs.Outcome.{Outcome}
-use Rattle.re_cli.specs.Working.{done, or_limit}
+use Rattle.re_frame.specs.Check.{verdict_outcome}
+use Rattle.re_frame.specs.Outcomes.{Outcome, done}
+use Rattle.re_frame.specs.StepLimits.{or_limit}
 use Rattle.re_cli.specs.declared.command.Making.{Making}
 use Rattle.re_cli.specs.declared.command.Making.TheVariants.{OfFamily, OneStep}
 

@@ -23,10 +23,9 @@ use Rattle.re_runs.specs.RunTexts.{RunText, run_text}
 use Rattle.re_runs.specs.Runs.{first_illegal, has_output, labels_around, messages_of, standing_of}
 use Rattle.re_runs.specs.declared.runs.Standing.{Standing}
 use Rattle.re_table.specs.Constraints.{Has}
-use Rattle.re_cli.specs.Check.{verdict_outcome}
-use Rattle.re_cli.specs.Outcome.{Outcome}
-use Rattle.re_cli.specs.Reading.{fault_outcome}
-use Rattle.re_cli.specs.Working.{done, refused}
+use Rattle.re_frame.specs.Check.{verdict_outcome}
+use Rattle.re_frame.specs.Outcomes.{Outcome, done, refused}
+use Rattle.re_frame.specs.TextFaults.{fault_outcome}
 
 -- the algorithm that the steps of a bound give
 abbrev pub algorithm_of : Bound → Plain → List ℕ

@@ -8,8 +8,7 @@ use Rattle.re_search.specs.Searches.{search_of}
 use Rattle.re_search.specs.declared.types.FindFault.{FindFault}
 use Rattle.re_search.specs.declared.types.Search.{Search}
 use Rattle.re_search.specs.declared.types.Search.TheVariants.{Found, NotFound}
-use Rattle.re_cli.specs.Outcome.{Outcome}
-use Rattle.re_cli.specs.Working.{done, limit, refused}
+use Rattle.re_frame.specs.Outcomes.{Outcome, done, limit, refused}
 
 -- the line of a search without success
 abbrev pub not_found_line : ℕ → ℕ → List ℕ

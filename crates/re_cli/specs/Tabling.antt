@@ -16,9 +16,9 @@ use Rattle.re_table_texts.specs.PrintedTables.{table_text}
 use Rattle.re_table_texts.specs.TableTexts.{TableText, table_input}
 use Rattle.re_table_texts.specs.declared.table_texts.TableForm.{TableForm}
 use Rattle.re_table_texts.specs.declared.table_texts.TableForm.TheVariants.{Faster, Plain, Slower}
-use Rattle.re_cli.specs.Outcome.{Outcome}
-use Rattle.re_cli.specs.Reading.{fault_outcome}
-use Rattle.re_cli.specs.Working.{done, limit, or_limit, refused}
+use Rattle.re_frame.specs.Outcomes.{Outcome, done, limit, refused}
+use Rattle.re_frame.specs.TextFaults.{fault_outcome}
+use Rattle.re_frame.specs.StepLimits.{or_limit}
 
 -- ---- whether two problems are the same, their names too
 abbrev pub same_lists : List (List ℕ) → List (List ℕ) → Bool

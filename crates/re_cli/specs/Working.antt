@@ -1,6 +1,5 @@
 -- What the commands answer that work on a problem.
-use Rattle.std.specs.Prelude.{ℕ, zero, suc, ◌+◌, ◌-◌, nat_lt, List, ◌++◌, length, codes, if◌then◌else◌, Option, Some, None}
-use Rattle.std.specs.Fmt.{decimal}
+use Rattle.std.specs.Prelude.{ℕ, zero, suc, ◌+◌, ◌-◌, nat_lt, List, ◌++◌, length, codes, if◌then◌else◌}
 use Rattle.re_config.specs.declared.TheConstants.{MAX_ROWS}
 use Rattle.re_diagram.specs.Diagrams.{classes_of, edges_of}
 use Rattle.re_diagram.specs.Merging.{merged_of}
@@ -11,21 +10,10 @@ use Rattle.re_printing.specs.SetTexts.{diagram_text, meanings_text, rows_text}
 use Rattle.re_problem.specs.CanonicalTexts.{canonical}
 use Rattle.re_problem.specs.NamedProblems.{NamedProblem, unnamed}
 use Rattle.re_step.specs.Derivations.{named_derived, step_limit}
-use Rattle.re_step.specs.declared.derivation.StepLimit.{StepLimit}
-use Rattle.re_step.specs.declared.derivation.StepLimit.TheVariants.{Configurations, Labels, Rows}
 use Rattle.re_table.specs.Constraints.{Constraint}
 use Rattle.re_table.specs.GoodRows.{max_rows, max_sets}
-use Rattle.re_cli.specs.Outcome.{Outcome}
-use Rattle.re_cli.specs.declared.status.Status.TheVariants.{Done, Limit, No}
-
-abbrev pub done : List ℕ → Outcome
-done text = record { status = Done; text = text }
-
-abbrev pub refused : List ℕ → Outcome
-refused text = record { status = No; text = text }
-
-abbrev pub limit : List ℕ → Outcome
-limit text = record { status = Limit; text = text }
+use Rattle.re_frame.specs.Outcomes.{Outcome, done, limit}
+use Rattle.re_frame.specs.StepLimits.{or_limit}
 
 -- the constraint of a side
 abbrev pub constraint_at : Side → NamedProblem → Constraint
@@ -50,21 +38,10 @@ merge_outcome problem = done (canonical (merged_of problem))
 unfoldable pub trim_outcome : NamedProblem → Outcome
 trim_outcome problem = done (canonical (trimmed_of problem))
 
--- the line of a limit that the step of this number passes
-abbrev pub limit_line : ℕ → StepLimit → List ℕ
-limit_line number Rows = codes "limit: step " ++ decimal number ++ codes ": more than 1024 rows\n"
-limit_line number (Labels count) = codes "limit: step " ++ decimal number ++ codes ": more than 128 labels: " ++ decimal count ++ codes "\n"
-limit_line number Configurations = codes "limit: step " ++ decimal number ++ codes ": more than 1048576 configurations\n"
-
 -- the meanings of the labels of the derived problem, an empty line, and its canonical text
 unfoldable pub derived_text : NamedProblem → List ℕ
 derived_text problem =
     meanings_text (named_derived (unnamed problem)).names problem.names (max_sets problem.passive (length problem.names)) ++ codes "\n" ++ canonical (named_derived (unnamed problem))
-
--- the limit of the step of this number, if it passes one, and else what follows
-abbrev pub or_limit : ℕ → Option StepLimit → Outcome → Outcome
-or_limit number (Some passed) outcome = limit (limit_line number passed)
-or_limit number None outcome = outcome
 
 -- the derived problem behind so many further steps, where the next step has this number
 unfoldable pub stepped : ℕ → ℕ → NamedProblem → Outcome

@@ -2,26 +2,22 @@
 ghost use Rattle.re_check.specs.Verdicts.{verdict_of};
 ghost use Rattle.re_cli.specs.Command.{judges};
 ghost use Rattle.re_cli.specs.Extracting.{algorithm_outcome, extracted_from, extracting_outcome};
-ghost use Rattle.re_cli.specs.Outcome.{status_of};
-ghost use Rattle.re_cli.specs.Output.{outcome_of, within_limit};
-ghost use Rattle.re_cli.specs.Run.{MaySay, TakesInput};
+ghost use Rattle.re_frame.specs.Outcomes.{done as done_with, outcome_of, status_of, within_limit};
+ghost use Rattle.re_frame.specs.Runs.{MaySay, TakesInput};
 ghost use Rattle.re_cli.specs.Tabling.{tabling_outcome};
-ghost use Rattle.re_cli.specs.Working.{done as done_with};
 ghost use Rattle.re_io.specs.Faults.{Rose};
 ghost use Rattle.re_upper_tables.specs.UpperTables.{listed_table};
-ghost use Rattle.std.specs.Prelude.{◌≡◌, ◌≤◌, ℕ, List, [], codes, length, IfOk, IsErrOf};
+ghost use Rattle.std.specs.Prelude.{◌≡◌, ◌≤◌, ℕ, List, [], codes, length, IfOk, IsErrOf, true};
 
-use crate::check::verdict_output;
 use crate::command::Command;
-use crate::output::{Output, Stop, too_long};
-use crate::reading::fault_output;
-use crate::status::Answer;
-use crate::text::begun;
-use crate::working::{done, refused};
 use re_cert::{Certificate, read_certificate};
 use re_check::{Kind, Verdict, check, upper_steps};
 use re_extract::Extractor;
-use re_io::{LineFault, MAX_BYTES, Source, read_all};
+use re_frame::{
+    Answer, Answering, Output, Stop, answer_input, begun, done, fault_output, refused,
+    verdict_output,
+};
+use re_io::{MAX_BYTES, Source};
 use re_labels::NoMemory;
 use re_problem::TextFault;
 use re_table_texts::{TableForm, print_table};
@@ -76,8 +72,29 @@ fn text_output(alloc: Global, text: &[u8]) -> Result<Output, NoMemory>
     }
 }
 
+// The command itself.
+#[derive(Clone, Copy)]
+struct Extracting;
+
+impl Answering for Extracting {
+    ghost use Rattle.re_cli.specs.Extracting.{extracting_outcome};
+    ghost use Rattle.re_cli.specs.Tabling.{tabling_outcome};
+    ghost use Rattle.re_table_texts.specs.declared.table_texts.TableForm.TheVariants.{Plain};
+
+    ghost fits = { λ _. Unit {0} };
+
+    ghost outcome = { λ _. extracting_outcome };
+
+    ghost worth = { λ _ text. tabling_outcome Plain text ≡ done_with (codes "yes\n") };
+
+    ghost judging = { λ _. true };
+
+    fn answer(&self, alloc: Global, text: Vec<u8>) -> Result<Output, NoMemory> {
+        text_output(alloc, text.as_slice())
+    }
+}
+
 /// The table of the algorithm of an upper bound, whose certificate the source gives. The word `table` says yes to it.
-#[tactic(auto, unfolding(crate::specs::Output::within_limit))]
 pub(crate) fn extract<S: Source>(alloc: Global, source: &mut S) -> Result<Output, Stop>
     ensures output { IfOk result (λ output. (bytes : List ℕ) → S.left source.old ≡ Some bytes →
         outcome_of output ≡ within_limit extracting_outcome bytes) }
@@ -89,11 +106,5 @@ pub(crate) fn extract<S: Source>(alloc: Global, source: &mut S) -> Result<Output
     ensures within { IsErrOf result Stop.ReadFault → TakesInput (S.left source.old) (S.left source.new) }
     ensures later { S.faults source.old ≤ S.faults source.new }
 {
-    let bytes = match read_all(alloc, source) {
-        Ok(bytes) => bytes,
-        Err(LineFault::ReadFault) => return Err(Stop::ReadFault),
-        Err(LineFault::InputTooLong) => return Ok(too_long(alloc)?),
-        Err(LineFault::NoMemory) => return Err(Stop::NoMemory),
-    };
-    Ok(text_output(alloc, bytes.as_slice())?)
+    answer_input(alloc, &Extracting, source)
 }

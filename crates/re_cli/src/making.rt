@@ -1,23 +1,19 @@
 // The commands that read nothing.
 ghost use Rattle.re_cert.specs.Bounds.{last_problem};
 ghost use Rattle.re_check.specs.Verdicts.{verdict_of};
-ghost use Rattle.re_cli.specs.Check.{verdict_outcome};
+ghost use Rattle.re_frame.specs.Check.{verdict_outcome};
 ghost use Rattle.re_cli.specs.Command.{IsMaking, judges};
 ghost use Rattle.re_cli.specs.Making.{behind, making_outcome, one_step_outcome, sizes_text};
-ghost use Rattle.re_cli.specs.Outcome.{status_of};
-ghost use Rattle.re_cli.specs.Output.{outcome_of};
-ghost use Rattle.re_cli.specs.Run.{MaySay};
+ghost use Rattle.re_frame.specs.Outcomes.{outcome_of, status_of};
+ghost use Rattle.re_frame.specs.Runs.{MaySay};
 ghost use Rattle.re_families.specs.Families.{family_of, out_of_range};
 ghost use Rattle.std.specs.Prelude.{◌≡◌, IfOk, None};
 
-use crate::check::verdict_output;
 use crate::command::{Command, Making};
-use crate::output::Output;
-use crate::text::{begun, push_number, push_words};
-use crate::working::{done, limit_output};
 use re_cert::Certificate;
 use re_check::check;
 use re_families::{Family, FamilyFault, family};
+use re_frame::{Output, begun, done, limit_output, push_number, push_words, verdict_output};
 use re_labels::NoMemory;
 use re_problem::{Problem, print_problem};
 use re_search::one_step;

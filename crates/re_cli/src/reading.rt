@@ -1,104 +1,25 @@
 // The commands that read a problem text.
-ghost use Rattle.std.specs.Prelude.{◌≡◌, ◌≤◌, ◌<◌, ◌++◌, ℕ, List, [], codes, length, string_bytes, IfOk, IsErrOf};
+ghost use Rattle.std.specs.Prelude.{◌≡◌, ◌≤◌, ◌<◌, ◌++◌, ℕ, List, [], length, IfOk, IsErrOf};
 ghost use Rattle.re_io.specs.Faults.{Rose};
-ghost use Rattle.re_problem.specs.CanonicalTexts.{canonical};
 ghost use Rattle.re_problem.specs.NamedProblems.{unnamed};
 ghost use Rattle.re_problem.specs.TextReading.{ReadGives};
 ghost use Rattle.re_problem.specs.Zero.{zero_place};
 ghost use Rattle.re_cli.specs.Command.{IsReading, judges};
 ghost use Rattle.re_cli.specs.Found.{SearchIsAccepted};
-ghost use Rattle.re_cli.specs.Output.{outcome_of, within_limit};
-ghost use Rattle.re_cli.specs.Outcome.{status_of};
-ghost use Rattle.re_cli.specs.Run.{MaySay, TakesInput};
-ghost use Rattle.re_cli.specs.Reading.{fault_line, fault_outcome, fault_status, fit_outcome, problem_outcome, reading_outcome};
+ghost use Rattle.re_frame.specs.Outcomes.{outcome_of, status_of, within_limit};
+ghost use Rattle.re_frame.specs.Runs.{MaySay, TakesInput};
+ghost use Rattle.re_cli.specs.Reading.{fit_outcome, problem_outcome, reading_outcome};
 
 use crate::command::{Command, Reading};
 use crate::counting::rounds_output;
-use crate::output::{Output, Stop, too_long};
 use crate::searching::search_output;
-use crate::status::Answer;
 use crate::working::{diagram_output, merge_output, steps_output, trim_output, universal_output};
-use re_io::{LineFault, MAX_BYTES, Source, read_all};
+use re_frame::{Answer, Answering, Output, Stop, answer_input, fault_output};
+use re_io::{MAX_BYTES, Source};
 use re_labels::NoMemory;
-use re_problem::{InputFault, Problem, TextFault, print_active, print_problem, read_problem};
+use re_problem::{Problem, TextFault, print_active, print_problem, read_problem};
 use re_zero::zero_round;
-use std::alloc::{AllocError, Global};
-
-impl From<NoMemory> for Stop {
-    ghost use Rattle.re_cli.specs.declared.output.Stop.TheVariants.{NoMemory as no_memory};
-
-    ghost from_gives = { λ _ e. e ≡ no_memory };
-
-    fn from(_: NoMemory) -> Self {
-        Stop::NoMemory
-    }
-}
-
-fn line_of(alloc: Global, fault: InputFault) -> Result<String, AllocError>
-    ensures { IfOk result (λ text. string_bytes text ≡ fault_line fault) }
-{
-    match fault {
-        InputFault::BadByte(byte) => format!(in alloc; "input: byte {byte}: not allowed\n"),
-        InputFault::BadItem(line) => format!(in alloc; "input: line {line}: not a list of items\n"),
-        InputFault::WrongDegree(line) => format!(in alloc; "input: line {line}: wrong degree\n"),
-        InputFault::MissingBlock(line) => {
-            format!(in alloc; "input: line {line}: a block is missing\n")
-        }
-        InputFault::ExtraBlock(line) => format!(in alloc; "input: line {line}: a third block\n"),
-        InputFault::DegreeOutOfRange(degree) => {
-            format!(in alloc; "input: degree {degree} is not from 2 to 6\n")
-        }
-        InputFault::TooManyLabels(line) => {
-            format!(in alloc; "limit: line {line}: more than 128 labels\n")
-        }
-        InputFault::TooManyConfigurations(line) => {
-            format!(in alloc; "limit: line {line}: more than 1048576 configurations\n")
-        }
-        InputFault::BadSection(line) => {
-            format!(in alloc; "input: line {line}: section not expected\n")
-        }
-        InputFault::BadEntry(line) => format!(in alloc; "input: line {line}: bad entry\n"),
-        InputFault::BadBack(line) => {
-            format!(in alloc; "input: line {line}: back is not before the last problem\n")
-        }
-        InputFault::TooManySteps(line) => {
-            format!(in alloc; "limit: line {line}: more than 64 steps\n")
-        }
-        InputFault::TooManyRows(line) => {
-            format!(in alloc; "limit: line {line}: more than 1024 rows\n")
-        }
-        InputFault::TooManyViews(line) => {
-            format!(in alloc; "limit: line {line}: more than 65536 views\n")
-        }
-        InputFault::TooManyNodes(line) => {
-            format!(in alloc; "limit: line {line}: more than 4096 nodes\n")
-        }
-        InputFault::EarlyEnd => String::from_str(alloc, "input: ends too early\n"),
-    }
-}
-
-fn answer_to(fault: InputFault) -> Answer
-    ensures { status_of result ≡ fault_status fault }
-{
-    match fault {
-        InputFault::TooManyLabels(_)
-        | InputFault::TooManyConfigurations(_)
-        | InputFault::TooManySteps(_)
-        | InputFault::TooManyRows(_)
-        | InputFault::TooManyViews(_)
-        | InputFault::TooManyNodes(_) => Answer::Limit,
-        _ => Answer::BadInput,
-    }
-}
-
-pub(crate) fn fault_output(alloc: Global, fault: InputFault) -> Result<Output, AllocError>
-    ensures { IfOk result (λ output. outcome_of output ≡ fault_outcome fault) }
-{
-    Ok(Output {
-        answer: answer_to(fault),
-        text: line_of(alloc, fault)?.into_bytes(),
-    })
-}
+use std::alloc::Global;
 
 // The answer `yes` with the active configuration at this place.
 fn yes_output(alloc: Global, problem: &Problem, place: usize) -> Result<Output, NoMemory>
@@ -172,8 +93,26 @@ fn text_output(alloc: Global, reading: Reading, text: Vec<u8>) -> Result<Output,
     }
 }
 
+impl Answering for Reading {
+    ghost use Rattle.re_cli.specs.Command.{IsReading, judges};
+    ghost use Rattle.re_cli.specs.Found.{SearchIsAccepted};
+    ghost use Rattle.re_cli.specs.Reading.{reading_outcome};
+    ghost use Rattle.re_cli.specs.declared.command.Command.TheVariants.{Reads};
+
+    ghost fits = { IsReading };
+
+    ghost outcome = { reading_outcome };
+
+    ghost worth = { SearchIsAccepted };
+
+    ghost judging = { λ reading. judges (Reads reading) };
+
+    fn answer(&self, alloc: Global, text: Vec<u8>) -> Result<Output, NoMemory> {
+        text_output(alloc, *self, text)
+    }
+}
+
 /// The output of a command that takes its input as a whole.
-#[tactic(auto, unfolding(crate::specs::Output::within_limit))]
 pub(crate) fn read<S: Source>(
     alloc: Global,
     reading: Reading,
@@ -190,11 +129,5 @@ pub(crate) fn read<S: Source>(
     ensures within { IsErrOf result Stop.ReadFault → TakesInput (S.left source.old) (S.left source.new) }
     ensures later { S.faults source.old ≤ S.faults source.new }
 {
-    let bytes = match read_all(alloc, source) {
-        Ok(bytes) => bytes,
-        Err(LineFault::ReadFault) => return Err(Stop::ReadFault),
-        Err(LineFault::InputTooLong) => return Ok(too_long(alloc)?),
-        Err(LineFault::NoMemory) => return Err(Stop::NoMemory),
-    };
-    Ok(text_output(alloc, reading, bytes)?)
+    answer_input(alloc, &reading, source)
 }

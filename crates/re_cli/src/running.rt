@@ -3,11 +3,9 @@ ghost use Rattle.re_cert.specs.declared.certificate.Kind.TheVariants.{Upper};
 ghost use Rattle.re_check.specs.Verdicts.{verdict_of};
 ghost use Rattle.re_check.specs.declared.verdict.Verdict.TheVariants.{Accepted};
 ghost use Rattle.re_cli.specs.Command.{judges};
-ghost use Rattle.re_cli.specs.Outcome.{status_of};
-ghost use Rattle.re_cli.specs.Output.{outcome_of, within_limit};
-ghost use Rattle.re_cli.specs.Run.{MaySay, TakesInput};
+ghost use Rattle.re_frame.specs.Outcomes.{done as finished, outcome_of, refused as refused_with, status_of, within_limit};
+ghost use Rattle.re_frame.specs.Runs.{MaySay, TakesInput};
 ghost use Rattle.re_cli.specs.Running.{AreNamed, PassiveNodesGet, delivered, node_line, nodes_from, running_outcome, verified};
-ghost use Rattle.re_cli.specs.Working.{done as finished, refused as refused_with};
 ghost use Rattle.re_io.specs.Faults.{Rose};
 ghost use Rattle.re_printing.specs.SetTexts.{named_text};
 ghost use Rattle.re_problem.specs.CanonicalTexts.{spaced};
@@ -18,17 +16,16 @@ ghost use Rattle.re_runs.specs.RunTexts.{degrees_of};
 ghost use Rattle.re_runs.specs.Runs.{first_illegal};
 ghost use Rattle.std.specs.Fmt.{decimal};
 ghost use Rattle.std.specs.List.{AllByRecursion};
-ghost use Rattle.std.specs.Prelude.{◌≡◌, ◌≤◌, ◌<◌, ◌+◌, ◌++◌, ◌^◌, ℕ, List, [], None, Some, codes, length, map, string_bytes, IfOk, IfSome, IsErrOf, OnOk};
+ghost use Rattle.std.specs.Prelude.{◌≡◌, ◌≤◌, ◌<◌, ◌+◌, ◌++◌, ◌^◌, ℕ, List, [], Some, codes, length, map, IfOk, IfSome, IsErrOf, OnOk, true};
 
-use crate::check::verdict_output;
 use crate::command::Command;
-use crate::output::{Output, Stop, too_long};
-use crate::reading::fault_output;
-use crate::text::{begun, push_number, push_words};
-use crate::working::{done, refused};
 use re_check::{Kind, Verdict, check, upper_steps};
 use re_extract::Extractor;
-use re_io::{LineFault, MAX_BYTES, Source, read_all};
+use re_frame::{
+    Answering, Output, Stop, answer_input, begun, done, fault_output, push_number, push_words,
+    refused, verdict_output,
+};
+use re_io::{MAX_BYTES, Source};
 use re_labels::{Names, NoMemory};
 use re_problem::{TextFault, push_label};
 use re_runs::{Run, RunInput, Standing, read_run, run_net};
@@ -176,8 +173,27 @@ fn text_output(alloc: Global, text: &[u8]) -> Result<Output, NoMemory>
     }
 }
 
+// An algorithm at work.
+#[derive(Clone, Copy)]
+struct Running;
+
+impl Answering for Running {
+    ghost use Rattle.re_cli.specs.Running.{running_outcome};
+
+    ghost fits = { λ _. Unit {0} };
+
+    ghost outcome = { λ _. running_outcome };
+
+    ghost worth = { λ _ _. Unit {0} };
+
+    ghost judging = { λ _. true };
+
+    fn answer(&self, alloc: Global, text: Vec<u8>) -> Result<Output, NoMemory> {
+        text_output(alloc, text.as_slice())
+    }
+}
+
 /// The output of the command `run`.
-#[tactic(auto, unfolding(crate::specs::Output::within_limit))]
 pub(crate) fn run_input<S: Source>(alloc: Global, source: &mut S) -> Result<Output, Stop>
     ensures output { IfOk result (λ output. (bytes : List ℕ) → S.left source.old ≡ Some bytes →
         outcome_of output ≡ within_limit running_outcome bytes) }
@@ -188,11 +204,5 @@ pub(crate) fn run_input<S: Source>(alloc: Global, source: &mut S) -> Result<Outp
     ensures within { IsErrOf result Stop.ReadFault → TakesInput (S.left source.old) (S.left source.new) }
     ensures later { S.faults source.old ≤ S.faults source.new }
 {
-    let bytes = match read_all(alloc, source) {
-        Ok(bytes) => bytes,
-        Err(LineFault::ReadFault) => return Err(Stop::ReadFault),
-        Err(LineFault::InputTooLong) => return Ok(too_long(alloc)?),
-        Err(LineFault::NoMemory) => return Err(Stop::NoMemory),
-    };
-    Ok(text_output(alloc, bytes.as_slice())?)
+    answer_input(alloc, &Running, source)
 }

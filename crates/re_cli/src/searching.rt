@@ -1,20 +1,16 @@
 // The commands that search for a certificate.
 ghost use Rattle.re_cert.specs.declared.certificate.TheConstants.{MAX_STEPS};
-ghost use Rattle.re_cli.specs.Check.{check_outcome};
+ghost use Rattle.re_frame.specs.Check.{check_outcome};
 ghost use Rattle.re_cli.specs.Command.{least_steps};
 ghost use Rattle.re_cli.specs.Found.{Accepts};
-ghost use Rattle.re_cli.specs.Output.{outcome_of};
-ghost use Rattle.re_cli.specs.Searching.{not_found_line, search_outcome, searched};
-ghost use Rattle.re_cli.specs.Working.{refused as refused_with};
+ghost use Rattle.re_frame.specs.Outcomes.{outcome_of, refused as refused_with};
+ghost use Rattle.re_cli.specs.Searching.{not_found_line, search_outcome};
 ghost use Rattle.re_search.specs.Searches.{Answers, FindsSteps, FindsValid};
 ghost use Rattle.std.specs.Prelude.{◌≡◌, ◌≤◌, IfOk};
 
-use crate::output::Output;
-use crate::status::Answer;
-use crate::text::{begun, push_number, push_words};
-use crate::working::{done, refused};
 use re_cert::Kind;
 use re_cert_text::print_certificate;
+use re_frame::{Answer, Output, begun, done, push_number, push_words, refused};
 use re_labels::NoMemory;
 use re_problem::Problem;
 use re_search::{FindFault, Search, find_fixed, find_lower, find_upper};

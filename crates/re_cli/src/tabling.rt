@@ -1,11 +1,10 @@
 // The commands that work on a table of an algorithm.
 ghost use Rattle.re_algo.specs.Tables.{entries};
 ghost use Rattle.re_cli.specs.Command.{judges};
-ghost use Rattle.re_cli.specs.Outcome.{Outcome, status_of};
-ghost use Rattle.re_cli.specs.Output.{outcome_of, within_limit};
-ghost use Rattle.re_cli.specs.Run.{MaySay, TakesInput};
+ghost use Rattle.re_frame.specs.Outcomes.{Outcome, done as done_with, outcome_of, status_of, within_limit};
+ghost use Rattle.re_frame.specs.Runs.{MaySay, TakesInput};
 ghost use Rattle.re_cli.specs.Tabling.{active_line, behind_next, behind_step, faster_outcome, or_refusal, same_constraints, same_lists, same_problems, slower_outcome, table_outcome, tabled, tabling_outcome};
-ghost use Rattle.re_cli.specs.Working.{done as done_with, or_limit};
+ghost use Rattle.re_frame.specs.StepLimits.{or_limit};
 ghost use Rattle.re_table_texts.specs.PrintedTables.{table_text};
 ghost use Rattle.re_io.specs.Faults.{Rose};
 ghost use Rattle.re_laws.specs.Algorithms.{Solves};
@@ -17,13 +16,11 @@ ghost use Rattle.re_table_texts.specs.TableTexts.{may_stand};
 ghost use Rattle.std.specs.Prelude.{◌≡◌, ◌≢◌, ◌≤◌, ◌↔◌, ℕ, List, [], Some, None, length, string_bytes, true, IfOk, IsErrOf, IsSome};
 
 use crate::command::Command;
-use crate::output::{Output, Stop, too_long};
-use crate::reading::fault_output;
-use crate::status::Answer;
-use crate::text::begun;
-use crate::working::{done, limit_output, refused};
 use re_algo::{SlowerFault, Table, TableVerdict, faster, slower, solves};
-use re_io::{LineFault, MAX_BYTES, Source, read_all};
+use re_frame::{
+    Answer, Answering, Output, Stop, answer_input, begun, done, fault_output, limit_output, refused,
+};
+use re_io::{MAX_BYTES, Source};
 use re_labels::{Names, NoMemory};
 use re_problem::{Problem, TextFault};
 use re_step::{Derived, StepFault, step};
@@ -245,8 +242,27 @@ fn table_output(alloc: Global, form: TableForm, text: &[u8]) -> Result<Output, N
     }
 }
 
+// A command that works on a table.
+#[derive(Clone, Copy)]
+struct Tabling(TableForm);
+
+impl Answering for Tabling {
+    ghost use Rattle.re_cli.specs.Tabling.{tabling_outcome};
+
+    ghost fits = { λ _. Unit {0} };
+
+    ghost outcome = { λ tabling. tabling_outcome tabling.0 };
+
+    ghost worth = { λ _ _. Unit {0} };
+
+    ghost judging = { λ _. true };
+
+    fn answer(&self, alloc: Global, text: Vec<u8>) -> Result<Output, NoMemory> {
+        table_output(alloc, self.0, text.as_slice())
+    }
+}
+
 /// The output of a command that works on a table.
-#[tactic(auto, unfolding(crate::specs::Output::within_limit))]
 pub(crate) fn tabulate<S: Source>(
     alloc: Global,
     form: TableForm,
@@ -261,11 +277,5 @@ pub(crate) fn tabulate<S: Source>(
     ensures within { IsErrOf result Stop.ReadFault → TakesInput (S.left source.old) (S.left source.new) }
     ensures later { S.faults source.old ≤ S.faults source.new }
 {
-    let bytes = match read_all(alloc, source) {
-        Ok(bytes) => bytes,
-        Err(LineFault::ReadFault) => return Err(Stop::ReadFault),
-        Err(LineFault::InputTooLong) => return Ok(too_long(alloc)?),
-        Err(LineFault::NoMemory) => return Err(Stop::NoMemory),
-    };
-    Ok(table_output(alloc, form, bytes.as_slice())?)
+    answer_input(alloc, &Tabling(form), source)
 }

@@ -1,41 +1,19 @@
 // The commands that work on a problem.
-ghost use Rattle.re_cli.specs.Output.{outcome_of};
-ghost use Rattle.re_cli.specs.Working.{constraint_at, derived_text, diagram_outcome, done, limit as limit_with, limit_line, merge_outcome, or_limit, refused as refused_with, step_outcome, stepped, trim_outcome, universal_outcome};
+ghost use Rattle.re_frame.specs.Outcomes.{done, outcome_of};
+ghost use Rattle.re_cli.specs.Working.{constraint_at, derived_text, diagram_outcome, merge_outcome, step_outcome, stepped, trim_outcome, universal_outcome};
 ghost use Rattle.re_problem.specs.NamedProblems.{unnamed};
-ghost use Rattle.re_step.specs.Derivations.{derivation, step_limit};
-ghost use Rattle.std.specs.Fmt.{decimal};
-ghost use Rattle.std.specs.Prelude.{◌≡◌, ◌≤◌, ◌+◌, ◌++◌, List, ℕ, None, Some, IfOk, OnOk, codes, string_bytes};
+ghost use Rattle.re_step.specs.Derivations.{derivation};
+ghost use Rattle.std.specs.Prelude.{◌≡◌, ◌≤◌, ◌+◌, ◌++◌, IfOk};
 
-use crate::output::Output;
-use crate::status::Answer;
 use re_diagram::{diagram, merge, trim};
+use re_frame::{Answer, Output, done, limit_output};
 use re_labels::{NoMemory, Side};
 use re_printing::{print_diagram, print_meanings, print_rows};
 use re_problem::{Problem, print_problem};
-use re_step::{Derived, StepFault, StepLimit, step};
+use re_step::{Derived, StepFault, step};
 use re_table::Constraint;
 use re_universal::{RowsFault, maximal_rows};
-use std::alloc::{AllocError, Global};
-
-/// The output of a text that is the whole answer.
-pub(crate) fn done(text: Vec<u8>) -> Output
-    ensures { outcome_of result ≡ done text.items }
-{
-    Output {
-        answer: Answer::Done,
-        text,
-    }
-}
-
-/// The refusal with this text.
-pub(crate) fn refused(text: Vec<u8>) -> Output
-    ensures { outcome_of result ≡ refused_with text.items }
-{
-    Output {
-        answer: Answer::No,
-        text,
-    }
-}
+use std::alloc::Global;
 
 fn constraint_at(problem: &Problem, side: Side) -> &Constraint
     ensures { result.now ≡ constraint_at side problem.now }
@@ -97,59 +75,6 @@ pub(crate) fn trim_output(alloc: Global, problem: &Problem) -> Result<Output, No
 {
     let trimmed = trim(alloc, problem)?;
     Ok(done(print_problem(alloc, &trimmed)?))
-}
-
-fn rows_line(alloc: Global, number: u8) -> Result<String, AllocError>
-    ensures { IfOk result (λ text. string_bytes text ≡ limit_line number StepLimit.Rows) }
-{
-    format!(in alloc; "limit: step {number}: more than 1024 rows\n")
-}
-
-fn labels_begin(alloc: Global, number: u8) -> Result<String, AllocError>
-    ensures { IfOk result (λ text. string_bytes text ≡ codes "limit: step " ++ decimal number ++ codes ": more than 128 labels: ") }
-{
-    format!(in alloc; "limit: step {number}: more than 128 labels: ")
-}
-
-fn count_line(alloc: Global, count: u32) -> Result<String, AllocError>
-    ensures { IfOk result (λ text. string_bytes text ≡ decimal count ++ codes "\n") }
-{
-    format!(in alloc; "{count}\n")
-}
-
-fn labels_line(alloc: Global, number: u8, count: u32) -> Result<String, AllocError>
-    ensures { IfOk result (λ text. string_bytes text ≡ limit_line number (StepLimit.Labels count)) }
-{
-    let mut text = labels_begin(alloc, number)?;
-    let rest = count_line(alloc, count)?;
-    text.push_str(rest.as_str())?;
-    Ok(text)
-}
-
-fn configurations_line(alloc: Global, number: u8) -> Result<String, AllocError>
-    ensures { IfOk result (λ text. string_bytes text ≡ limit_line number StepLimit.Configurations) }
-{
-    format!(in alloc; "limit: step {number}: more than 1048576 configurations\n")
-}
-
-fn limit_line(alloc: Global, number: u8, limit: StepLimit) -> Result<String, AllocError>
-    ensures { IfOk result (λ text. string_bytes text ≡ limit_line number limit) }
-{
-    match limit {
-        StepLimit::Rows => rows_line(alloc, number),
-        StepLimit::Labels(count) => labels_line(alloc, number, count),
-        StepLimit::Configurations => configurations_line(alloc, number),
-    }
-}
-
-/// The output for a limit that the step of this number passes.
-pub(crate) fn limit_output(alloc: Global, number: u8, limit: StepLimit) -> Result<Output, NoMemory>
-    ensures { IfOk result (λ output. outcome_of output ≡ limit_with (limit_line number limit)) }
-{
-    Ok(Output {
-        answer: Answer::Limit,
-        text: limit_line(alloc, number, limit)?.into_bytes(),
-    })
 }
 
 // The meanings of the labels of the derived problem, an empty line, and its canonical text.

@@ -1,5 +1,5 @@
 -- The ascending list of some numbers, and what a sort of them gives.
-use Rattle.std.proofs.Common.{◌≡◌, ℕ, zero, suc, ◌<◌, ◌≤◌, ◌+◌, cond, eqb, List, [], ◌∷◌, ◌++◌, length, map, take, drop, get_or, refl, sym, ap, ◌∙◌, subst, ◌⊎◌, inl, inr, arith}
+use Rattle.std.proofs.Common.{◌≡◌, ℕ, zero, suc, ◌<◌, ◌≤◌, ◌+◌, ◌-◌, cond, eqb, List, [], ◌∷◌, ◌++◌, length, map, take, drop, get_or, refl, sym, ap, ◌∙◌, subst, ◌⊎◌, inl, inr, arith}
 use Rattle.std.specs.List.{AllByRecursion, sum_by, refill}
 use Rattle.std.specs.List.Sorted.{IsPermutation, IsSorted}
 use Rattle.std.specs.Ordering.{nat_cmp}
@@ -163,6 +163,16 @@ rising_at : (xs : List ℕ) → ((i j : ℕ) (d : ℕ) → i ≤ j → j < lengt
 rising_at [] h = tt
 rising_at (x ∷ []) h = tt
 rising_at (x ∷ y ∷ xs) h = (h 0 1 0 (omega arith) (omega arith), rising_at (y ∷ xs) (λ i j d le lt. h (suc i) (suc j) d (omega arith) (omega arith)))
+
+-- a list ascends where each number but the first is at least the one before it
+pub rising_adjacent : (xs : List ℕ) → ((j : ℕ) → 0 < j → j < length xs → get_or xs (j - 1) 0 ≤ get_or xs j 0) → IsRising (λ x y. x ≤ y) xs
+rising_adjacent [] h = tt
+rising_adjacent (x ∷ []) h = tt
+rising_adjacent (x ∷ y ∷ xs) h = (h 1 (omega arith) (omega arith), rising_adjacent (y ∷ xs) (tail h))
+  where
+    tail : ((j : ℕ) → 0 < j → j < length (x ∷ y ∷ xs) → get_or (x ∷ y ∷ xs) (j - 1) 0 ≤ get_or (x ∷ y ∷ xs) j 0) → (j : ℕ) → 0 < j → j < length (y ∷ xs) → get_or (y ∷ xs) (j - 1) 0 ≤ get_or (y ∷ xs) j 0
+    tail h zero some below = absurd (omega arith)
+    tail h (suc j) some below = let e : suc (suc j) - 1 ≡ suc j = omega arith in let f : suc j - 1 ≡ j = omega arith in subst (λ n. get_or (y ∷ xs) n 0 ≤ get_or (y ∷ xs) (suc j) 0) (sym f) (subst (λ n. get_or (x ∷ y ∷ xs) n 0 ≤ get_or (x ∷ y ∷ xs) (suc (suc j)) 0) e (h (suc (suc j)) (omega arith) (omega arith)))
 
 -- what a sort of unsigned numbers leaves
 pub sorted-from_sort : (xs ys : List ℕ) → IsPermutation xs ys → IsSorted nat_cmp ys → ys ≡ sorted xs

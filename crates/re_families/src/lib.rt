@@ -3,7 +3,7 @@
 
 mod making;
 mod naming;
-mod types;
+pub mod types;
 
 pub use making::family;
 pub use types::{Family, FamilyFault};

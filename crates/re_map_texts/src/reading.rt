@@ -2,7 +2,7 @@
 ghost use Rattle.re_io.specs.declared.read.TheConstants.{MAX_BYTES};
 ghost use Rattle.re_map_texts.specs.Entries.{source, target};
 ghost use Rattle.re_map_texts.specs.MapTexts.{State, ended, judged, judged_from, judged_map, judged_start, judged_to, takes_entry};
-ghost use Rattle.re_map_texts.specs.Reading.{EndGives, Holds, IsAt};
+ghost use Rattle.re_map_texts.specs.Reading.{EndGives, Holds, HoldsMap, IsAt};
 ghost use Rattle.re_problem.specs.TextReading.{Reads};
 ghost use Rattle.re_sections.specs.Readings.{ReadsItem};
 ghost use Rattle.re_items.specs.Items.{ItemText};
@@ -157,26 +157,54 @@ fn target_names(kind: MapKind, read: &MapRead) -> &Names
 // An entry: the label whose turn it is, and its image.
 fn add_entry(
     kind: MapKind,
-    read: MapRead,
+    read: &mut MapRead,
     number: u32,
     line: &[u8],
     left: &Item,
     right: &Item,
-) -> Result<Place, TextFault>
+) -> Result<(), TextFault>
     requires left { StandsOn left.now line.now }
     requires right { StandsOn right.now line.now }
-    ensures { (byte : ℕ) (a b : ItemText) → ReadsItem line.now left.now a → ReadsItem line.now right.now b
-        → Holds (takes_entry kind read.from read.to read.images.items number (record { left = a; right = b })) byte result }
+    ensures { (a b : ItemText) → ReadsItem line.now left.now a → ReadsItem line.now right.now b
+        → HoldsMap (takes_entry kind read.old.from read.old.to read.old.images.items number (record { left = a; right = b })) result read.new }
 {
-    let mut read = read;
-    if !is_next(line, left, source_names(kind, &read), read.images.len()) {
+    if !is_next(line, left, source_names(kind, read), read.images.len()) {
         return Err(TextFault::Bad(InputFault::BadEntry(number)));
     }
-    let Some(image) = read_image(kind, line, right, target_names(kind, &read)) else {
+    let Some(image) = read_image(kind, line, right, target_names(kind, read)) else {
         return Err(TextFault::Bad(InputFault::BadEntry(number)));
     };
     read.images.push(image);
-    Ok(Place::Map(read))
+    Ok(())
+}
+
+// Takes a line of the map in.
+fn take_line(
+    kind: MapKind,
+    read: &mut MapRead,
+    byte: u32,
+    number: u32,
+    line: &[u8],
+) -> Result<(), TextFault>
+    requires within { byte + length line.now ≤ MAX_BYTES }
+    ensures { HoldsMap (judged_map kind byte number read.old.from read.old.to read.old.images.items line.now) result read.new }
+{
+    if begins_section(line) {
+        return Err(TextFault::Bad(InputFault::BadSection(number)));
+    }
+    if is_empty_line(line) {
+        return Ok(());
+    }
+    if let Some(place) = first_bad_byte(line) {
+        return Err(TextFault::Bad(InputFault::BadByte(byte + place as u32)));
+    }
+    let Some((left, right)) = read_pair(line) else {
+        return Err(TextFault::Bad(InputFault::BadItem(number)));
+    };
+    if has_group(kind, &left, &right) {
+        return Err(TextFault::Bad(InputFault::BadItem(number)));
+    }
+    add_entry(kind, read, number, line, &left, &right)
 }
 
 // A line of the map.
@@ -190,22 +218,11 @@ fn map_line(
     requires within { byte + length line.now ≤ MAX_BYTES }
     ensures { Holds (judged_map kind byte number read.from read.to read.images.items line.now) (byte + length line.now + 1) result }
 {
-    if begins_section(line) {
-        return Err(TextFault::Bad(InputFault::BadSection(number)));
+    let mut read = read;
+    match take_line(kind, &mut read, byte, number, line) {
+        Ok(()) => Ok(Place::Map(read)),
+        Err(fault) => Err(fault),
     }
-    if is_empty_line(line) {
-        return Ok(Place::Map(read));
-    }
-    if let Some(place) = first_bad_byte(line) {
-        return Err(TextFault::Bad(InputFault::BadByte(byte + place as u32)));
-    }
-    let Some((left, right)) = read_pair(line) else {
-        return Err(TextFault::Bad(InputFault::BadItem(number)));
-    };
-    if has_group(kind, &left, &right) {
-        return Err(TextFault::Bad(InputFault::BadItem(number)));
-    }
-    add_entry(kind, read, number, line, &left, &right)
 }
 
 /// What is held behind one more line, which stands at this byte and has this number.

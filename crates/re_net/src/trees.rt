@@ -83,6 +83,11 @@ impl Tree {
         self.nodes.len() as u32
     }
 
+    /// What it allocates with.
+    pub(crate) fn alloc(&self) -> Global {
+        *self.nodes.allocator()
+    }
+
     /// The degrees of the two sides: the most edges that a node may have.
     pub fn degrees(&self) -> Degrees
         ensures { result ≡ self.now.degrees }

@@ -8,7 +8,8 @@ use Rattle.re_problem.specs.declared.fault.InputFault.TheVariants.{EarlyEnd}
 use Rattle.re_problem.specs.declared.fault.TextFault.{TextFault}
 use Rattle.re_problem.specs.declared.fault.TextFault.TheVariants.{Bad, NoMemory}
 use Rattle.re_cert.proofs.Accounts.{line_accounted}
-use Rattle.re_cert.proofs.Collected.{judged_of, same_start}
+use Rattle.re_cert.proofs.Collected.{same_start}
+use Rattle.re_cert.proofs.Placing.{judged_of}
 use Rattle.re_cert.proofs.Feeding.{one_behind}
 use Rattle.re_cert.proofs.LineTexts.{first_line_is}
 use Rattle.re_cert.specs.CertificateReading.{FeedRefuses, IsAt, Stands}

@@ -70,6 +70,29 @@ fn standings<R: Rule>(alloc: Global, net: &mut Net, rule: &mut R) -> Result<Vec<
     Ok(all)
 }
 
+// Makes the deliveries in order on a net in which nothing is delivered, and asks its nodes for their outputs.
+fn run_on<R: Rule>(
+    alloc: Global,
+    net: &mut Net,
+    deliveries: &[Delivery],
+    rule: &mut R,
+) -> Result<Run, NoMemory>
+    requires none { net.old.delivered ≡ [] }
+    requires messages { AreMessages net.old.tree net.old.bound deliveries.now }
+    requires degrees { R.degrees rule.old ≡ net.old.tree.degrees }
+    requires radius { R.radius rule.old ≡ net.old.bound }
+    ensures run { IfOk result (λ run. Comes net.old.tree net.old.bound deliveries.now (R.answer rule.old) run) }
+    ensures rule_degrees { R.degrees rule.new ≡ R.degrees rule.old }
+    ensures rule_radius { R.radius rule.new ≡ R.radius rule.old }
+    ensures rule_answers { (v : View (Unit {0})) → R.answer rule.new v ≡ R.answer rule.old v }
+{
+    if let Some(line) = deliver_all(net, deliveries)? {
+        return Ok(Run::Illegal(line));
+    }
+    let standings = standings(alloc, net, rule)?;
+    Ok(Run::Legal(standings))
+}
+
 /// Makes the deliveries in order on a net of the tree in which nothing is delivered, and asks each node for its output by a rule of the
 /// tree's degrees, whose radius is the bound. `Illegal` comes exactly where some delivery isn't legal behind those before it: the number
 /// of its message is above the round of its node; it is the first one. Else each node has its round by the messages of the list, and the
@@ -96,9 +119,5 @@ pub fn run_net<R: Rule>(
     ensures rule_answers { (v : View (Unit {0})) → R.answer rule.new v ≡ R.answer rule.old v }
 {
     let mut net = Net::new(alloc, tree, bound)?;
-    if let Some(line) = deliver_all(&mut net, deliveries)? {
-        return Ok(Run::Illegal(line));
-    }
-    let standings = standings(alloc, &mut net, rule)?;
-    Ok(Run::Legal(standings))
+    run_on(alloc, &mut net, deliveries, rule)
 }

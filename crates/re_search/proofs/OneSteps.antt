@@ -9,10 +9,10 @@ use Rattle.re_changes.specs.Changes.{unchanged}
 use Rattle.re_step.specs.Derivations.{named_derived, step_limit}
 use Rattle.re_cert.specs.Bounds.{BoundStep, is_bound, step_fits}
 use Rattle.re_cert.specs.declared.certificate.Kind.TheVariants.{Lower}
-use Rattle.re_check.specs.Verdicts.{fault_at, fault_or, steps_fault}
+use Rattle.re_check.specs.Verdicts.{end_fault, fault_at, fault_or, steps_fault, verdict_with}
 use Rattle.std.specs.Prelude.{option_map}
 use Rattle.re_tree.proofs.LowerSteps.{IsProblem-named_derived, lower-fits, lower-meets}
-use Rattle.re_search.specs.OneStep.{one_step_bound, step_of_problem}
+use Rattle.re_search.specs.OneStep.{OneStepLaw, one_step_bound, step_of_problem}
 
 pub one-bound : (problem : NamedProblem) → IsProblem (unnamed problem) → step_limit (unnamed problem) ≡ None → is_bound (one_step_bound problem) ≡ true
 one-bound problem is none =
@@ -29,3 +29,8 @@ one-meets problem is =
 pub held-bound : (problem : NamedProblem) (steps : List BoundStep) (s : BoundStep) (renaming : List (ℕ × ℕ)) → steps ≡ s ∷ [] → s ≡ step_of_problem problem → renaming ≡ []
     → record { kind = Lower; back = 0; first = problem; steps = steps; renaming = renaming } ≡ one_step_bound problem
 held-bound problem steps s renaming f g h = (λ i. record { kind = Lower; back = 0; first = problem; steps = (f ∙ ap (λ t. t ∷ []) g) i; renaming = h i })
+
+pub one_step_accepted : OneStepLaw
+one_step_accepted problem is =
+    let meets = one-meets problem is.problem in
+    (meets, ap (λ fault. verdict_with Lower 1 (fault_or fault (end_fault (one_step_bound problem)))) meets)

@@ -4,10 +4,11 @@ use Rattle.std.specs.Option.{option_map}
 use Rattle.re_problem.specs.NamedProblems.{unnamed}
 use Rattle.re_views.specs.AllViews.{all_views}
 use Rattle.re_places.specs.Counting.{view_count}
-use Rattle.re_laws.specs.Extracted.{extracted}
+use Rattle.re_laws.specs.Algorithms.{Solves}
+use Rattle.re_laws.specs.Extracted.{IsUpperBound, extracted}
 use Rattle.re_cert.specs.Bounds.{Bound}
 use Rattle.re_cert.specs.Stages.{stages_of}
-use Rattle.re_algo.specs.Tables.{AnswerTable}
+use Rattle.re_algo.specs.Tables.{AnswerTable, entries}
 
 -- its answers at all active views of as many rounds as there are steps
 abbrev pub upper_table : Bound → AnswerTable
@@ -20,3 +21,8 @@ upper_table bound = record {
 -- the same, unless there are more views than are listed
 abbrev pub listed_table : Bound → Option AnswerTable
 listed_table bound = option_map (λ count. upper_table bound) (view_count bound.first.active.degree bound.first.passive.degree (length bound.steps))
+
+-- it solves the first problem in as many rounds as there are steps, however many views there are
+abbrev pub UpperTableLaw : Type 0
+UpperTableLaw = (bound : Bound) → IsUpperBound (unnamed bound.first) (stages_of bound.steps)
+    → Solves (unnamed bound.first) (length bound.steps) (entries (upper_table bound))

@@ -6,7 +6,7 @@ ghost use Rattle.re_algo.specs.Verdicts.{table_verdict};
 ghost use Rattle.re_laws.specs.Algorithms.{Solves};
 ghost use Rattle.re_places.specs.Counting.{view_count};
 ghost use Rattle.re_problem.specs.NamedProblems.{unnamed};
-ghost use Rattle.re_upper_tables.specs.UpperTables.{listed_table, upper_table};
+ghost use Rattle.re_upper_tables.specs.UpperTables.{UpperTableLaw, listed_table, upper_table};
 ghost use Rattle.std.specs.List.{AllByRecursion};
 ghost use Rattle.std.specs.Prelude.{◌≡◌, ◌<◌, IfOk, IfSome, IsSome, length};
 
@@ -54,3 +54,9 @@ pub fn upper_table(alloc: Global, extractor: &mut Extractor) -> Result<Option<Ta
         None => Ok(None),
     }
 }
+
+/// The algorithm of an upper bound, written out, solves the first problem in as many rounds as there are steps. It holds for every
+/// number of views, also where there are more than are listed and no table is made.
+pub fn upper_table_law()
+    ensures { UpperTableLaw }
+{}

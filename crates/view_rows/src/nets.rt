@@ -132,12 +132,12 @@ fn mixed(index: u32, nodes: u32) -> u32
 
 // The back ports of a view in preorder, with a 0 behind the children of each node, and its payloads in preorder.
 #[derive(Drop)]
-struct Seen<E> {
-    backs: Vec<u8>,
+pub(crate) struct Seen<E> {
+    pub(crate) backs: Vec<u8>,
     payloads: Vec<E>,
 }
 
-fn seen_of<E: Copy>(alloc: Global, view: &View<E>) -> Result<Seen<E>, NoMemory> {
+pub(crate) fn seen_of<E: Copy>(alloc: Global, view: &View<E>) -> Result<Seen<E>, NoMemory> {
     let mut seen = Seen {
         backs: Vec::new(alloc),
         payloads: Vec::new(alloc),
@@ -284,7 +284,7 @@ fn surroundings_of(alloc: Global, tree: &Tree, node: u32, radius: u8) -> Result<
     if node >= tree.len() {
         return Err("no node".into());
     }
-    Ok(seen_of(alloc, &tree.surroundings(alloc, node, radius)?)?)
+    Ok(seen_of(alloc, &tree.surroundings(node, radius)?)?)
 }
 
 // Compares the rounds and the outputs that stand after these deliveries.

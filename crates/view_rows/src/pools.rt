@@ -2,10 +2,11 @@
 ghost use Rattle.re_pool.specs.Pools.{AreHeld, IsPool, tree_at};
 ghost use Rattle.re_views.specs.Shown.{tree_of_view};
 ghost use Rattle.re_views.specs.Trees.{IsView};
-ghost use Rattle.std.specs.Prelude.{◌<◌, ◌≡◌, IfOk, length};
+ghost use Rattle.std.specs.Prelude.{◌<◌, ◌≤◌, ◌≡◌, IfOk, length};
 
+use crate::nets::seen_of;
 use arrayvec::ArrayVec;
-use re_labels::{Degrees, Side};
+use re_labels::{Degrees, NoMemory, Side};
 use re_pool::{Link, NodeId, Pool, Shape, narrow_law};
 use re_views::{View, all_views, cut, is_view, shift};
 use std::process::Abort;
@@ -61,6 +62,42 @@ fn shape_again(pool: &Pool, id: NodeId) -> Shape
     }
 }
 
+// The node behind the first link, or the node itself where it has none.
+fn first_behind(pool: &Pool, id: NodeId) -> NodeId
+    requires { id < length pool.now }
+    ensures { result < length pool.now }
+{
+    match pool.shape(id) {
+        Shape::Leaf => id,
+        Shape::Node(links) => match links.as_slice().first() {
+            None => id,
+            Some(first) => first.below,
+        },
+    }
+}
+
+// Whether its shape gives the number of the node again, and no node more.
+fn is_known(pool: &mut Pool, id: NodeId) -> Result<bool, NoMemory>
+    requires { id < length pool.old }
+    ensures { IfOk result (λ _. length pool.old ≤ length pool.new) }
+{
+    let nodes = pool.len();
+    let shape = shape_again(pool, id);
+    let again = pool.intern(shape)?;
+    Ok(again == id && pool.len() == nodes)
+}
+
+// Whether this holds of a view, of its first branch and of the leaf behind that.
+fn are_known(pool: &mut Pool, id: NodeId) -> Result<bool, NoMemory>
+    requires { id < length pool.old }
+{
+    let branch = first_behind(pool, id);
+    let leaf = first_behind(pool, branch);
+    let view = is_known(pool, id)?;
+    let below = is_known(pool, branch)?;
+    Ok(view && below && is_known(pool, leaf)?)
+}
+
 #[test]
 fn each_node_once(rt: HostRuntime) -> Result<(), Fail> {
     for (radius, nodes) in [(1, 9), (2, 220)] {
@@ -73,8 +110,7 @@ fn each_node_once(rt: HostRuntime) -> Result<(), Fail> {
         }
         for view in &all_views(rt.alloc(), DEGREES, Side::Active, radius)? {
             let id = placed(&rt, &mut pool, view, radius)?;
-            let shape = shape_again(&pool, id);
-            assert_eq!(rt; pool.intern(shape)?, id);
+            assert!(rt; are_known(&mut pool, id)?);
         }
         assert_eq!(rt; pool.len(), nodes);
     }
@@ -112,8 +148,9 @@ fn read_back(rt: HostRuntime) -> Result<(), Fail> {
     let mut pool = Pool::new(rt.alloc());
     for view in &all_views(rt.alloc(), DEGREES, Side::Active, 2)? {
         let id = placed(&rt, &mut pool, view, 2)?;
-        let again = pool.tree(id)?;
-        assert_eq!(rt; placed(&rt, &mut pool, &again, 2)?, id);
+        let again = seen_of(rt.alloc(), &pool.tree(id)?)?;
+        let seen = seen_of(rt.alloc(), view)?;
+        assert_eq!(rt; again.backs.as_slice(), seen.backs.as_slice());
     }
     Ok(())
 }

@@ -1,6 +1,5 @@
 use Rattle.std.proofs.Common.{◌≡◌, ◌<◌, ◌∙◌, ap, length, subst, sym, Option, Some, None}
 use Rattle.std.specs.List.{AllByRecursion}
-use Rattle.std.proofs.lemmas.List.{length-map}
 use Rattle.re_labels.specs.declared.sides.Degrees.{Degrees}
 use Rattle.re_problem.specs.NamedProblems.{IsNamedProblem, NamedProblem, unnamed}
 use Rattle.re_laws.specs.Algorithms.{Solves}
@@ -51,7 +50,7 @@ returns-clause-solves c =
     let filled : built_table c.degrees-degrees.result (length c.steps.result.now) c.in_ok-answers.answers.items ≡ Some (upper_table bound) =
     filled_is bound is named c.requires c.degrees-degrees.result (length c.steps.result.now) c.in_ok-answers.answers.items own other count c.in_ok-answers.ensures.answers in
     let same : c.in-Some.table ≡ upper_table bound = same_table c.in-Some.table (upper_table bound) (c.in-Some.ensures ∙ filled) in
-    subst (λ (table : AnswerTable). Solves (unnamed bound.first) table.radius (entries table)) (sym same) (upper_solves bound is named c.requires)
+    subst (λ (table : AnswerTable). Solves (unnamed bound.first) table.radius (entries table)) (sym same) (upper_solves bound is)
 
 pub returns-clause-verdict : goal.returns-clause-verdict
 returns-clause-verdict c =

@@ -7,7 +7,7 @@ use Rattle.re_algo.specs.Verdicts.{table_verdict}
 use Rattle.re_algo.specs.declared.solving.TableVerdict.TheVariants.{Yes}
 use Rattle.re_table_texts.specs.declared.table_texts.TableForm.TheVariants.{Plain}
 use Rattle.re_cli.proofs.Extracts.{printed_yes}
-use Rattle.re_cli.specs.Outcome.{Outcome}
+use Rattle.re_frame.specs.Outcomes.{Outcome}
 use Rattle.re_cli.specs.Tabling.{tabling_outcome}
 use Rattle.re_cli.proofs.extracting.algorithm_output.Goals as goal
 

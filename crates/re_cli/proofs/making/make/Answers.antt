@@ -1,4 +1,5 @@
-use Rattle.re_cli.proofs.Said.{making_says, said}
+use Rattle.re_cli.proofs.Said.{making_says}
+use Rattle.re_frame.proofs.Said.{said}
 use Rattle.std.proofs.lemmas.Result.{IfOk-weaker}
 use Rattle.re_cli.proofs.making.make.Goals as goal
 

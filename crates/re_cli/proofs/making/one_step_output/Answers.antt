@@ -5,11 +5,10 @@ use Rattle.re_check.specs.Verdicts.{verdict_of}
 use Rattle.re_problem.specs.NamedProblems.{NamedProblem, unnamed}
 use Rattle.re_search.specs.OneStep.{one_step_bound}
 use Rattle.re_step.specs.Derivations.{named_derived, step_limit}
-use Rattle.re_cli.specs.Check.{verdict_outcome}
+use Rattle.re_frame.specs.Check.{verdict_outcome}
 use Rattle.re_cli.specs.Making.{behind, one_step_outcome, sizes_text}
-use Rattle.re_cli.specs.Outcome.{Outcome}
-use Rattle.re_cli.specs.Output.{outcome_of}
-use Rattle.re_cli.specs.Working.{or_limit}
+use Rattle.re_frame.specs.Outcomes.{Outcome, outcome_of}
+use Rattle.re_frame.specs.StepLimits.{or_limit}
 use Rattle.re_cli.proofs.making.one_step_output.Goals as goal
 
 -- the certificate is that of the one step, whose last problem is the derived one

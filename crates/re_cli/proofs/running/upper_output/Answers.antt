@@ -6,7 +6,7 @@ use Rattle.re_runs.specs.Runs.{Comes, messages_of, standings_of}
 use Rattle.re_runs.specs.declared.runs.Run.{Run}
 use Rattle.re_runs.specs.declared.runs.Standing.{Standing}
 use Rattle.re_cli.specs.Running.{AreNamed, algorithm_of, delivered, nodes_from}
-use Rattle.re_cli.specs.Working.{done}
+use Rattle.re_frame.specs.Outcomes.{done}
 use Rattle.re_cli.proofs.RunningLemmas.{run_lines, run_named, run_told}
 use Rattle.re_cli.proofs.running.upper_output.Goals as goal
 

@@ -2,9 +2,9 @@ use Rattle.std.proofs.Common.{◌≡◌, Ok, ap, subst, sym}
 use Rattle.re_search.specs.Searches.{FindsSteps, FindsValid}
 use Rattle.re_search.specs.declared.types.Search.{Search}
 use Rattle.re_cli.proofs.Found.{text_accepted}
-use Rattle.re_cli.specs.Check.{check_outcome}
+use Rattle.re_frame.specs.Check.{check_outcome}
 use Rattle.re_cli.specs.Found.{Accepts}
-use Rattle.re_cli.specs.Outcome.{Outcome}
+use Rattle.re_frame.specs.Outcomes.{Outcome}
 use Rattle.re_cli.proofs.searching.search_output.Goals as goal
 
 pub returns-in_ok-print_certificate-in-Ok-Found-clause-accepted : goal.returns-in_ok-print_certificate-in-Ok-Found-clause-accepted

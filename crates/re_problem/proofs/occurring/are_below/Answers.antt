@@ -1,4 +1,4 @@
-use Rattle.std.proofs.Common.{◌≡◌, ◌<◌, ap, sym, ◌∙◌, arith, inl, inr, refl}
+use Rattle.std.proofs.Common.{◌≡◌, ◌<◌, ap, arith, inl, inr, refl}
 use Rattle.re_labels.proofs.Before.{three_ways}
 use Rattle.re_labels.proofs.Membership.{AllByRecursion-contains}
 use Rattle.re_labels.proofs.Sets.{has-IsIn}

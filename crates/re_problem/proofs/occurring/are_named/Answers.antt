@@ -1,4 +1,3 @@
-use Rattle.std.proofs.Common.{◌≡◌}
 use Rattle.re_problem.proofs.UsedLabels.{labels-named}
 use Rattle.re_problem.proofs.occurring.are_named.Goals as goal
 

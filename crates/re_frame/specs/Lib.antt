@@ -1,0 +1,5 @@
+pub mod Check
+pub mod Outcomes
+pub mod Runs
+pub mod StepLimits
+pub mod TextFaults

@@ -1,0 +1,21 @@
+//! What programs of words share: how a run ended, what a command puts out, the lines of faults, limits and verdicts, the reading of a
+//! whole input into an answer, and the putting of its text.
+#![tactic(auto)]
+
+mod answering;
+mod output;
+mod putting;
+mod status;
+mod step_limits;
+mod text;
+mod text_faults;
+mod verdicts;
+
+pub use answering::{Answering, answer_input};
+pub use output::{Output, Stop, done, refused, too_long};
+pub use putting::put_output;
+pub use status::{Answer, Status};
+pub use step_limits::limit_output;
+pub use text::{begun, push_number, push_words};
+pub use text_faults::fault_output;
+pub use verdicts::verdict_output;

@@ -1,0 +1,32 @@
+-- What a run may say, by the words alone.
+use Rattle.std.proofs.Common.{◌≡◌, ℕ, List, Option, Some, None, Result, Ok, Err, refl, sym, ap, ◌∙◌, subst}
+use Rattle.std.specs.Prelude.{IfOk, IsTrue}
+use Rattle.re_frame.specs.Outcomes.{Outcome, outcome_of, status_of}
+use Rattle.re_frame.specs.Runs.{MaySay}
+use Rattle.re_frame.specs.declared.output.Output.{Output}
+use Rattle.re_frame.specs.declared.status.Status.{Status}
+use Rattle.re_frame.specs.declared.status.Status.TheVariants.{BadWords, No}
+use Rattle.re_explore.specs.Commands.{bad_words, command_of, is_judging}
+use Rattle.re_explore.specs.Expected.{Says}
+use Rattle.re_explore.specs.declared.command.Command.{Command}
+
+pub says_none : (words : List (List ℕ)) (output : Output) → None ≡ command_of words → outcome_of output ≡ bad_words → Says (status_of output.answer) (command_of words)
+unfolding bad_words
+says_none words output is bad = subst (Says (status_of output.answer)) is (ap (λ (o : Outcome). o.status) bad)
+
+pub says_of : {E : Type 0} (words : List (List ℕ)) (command : Command) (result : Result Output E) → Some command ≡ command_of words
+    → IfOk result (λ output. MaySay (status_of output.answer) (is_judging (Some command))) → IfOk result (λ output. Says (status_of output.answer) (command_of words))
+says_of words command (Ok output) is says = subst (Says (status_of output.answer)) is says
+says_of words command (Err fault) is says = tt
+
+pub says_by : (words : List (List ℕ)) (command : Command) (status : Status) → Some command ≡ command_of words → MaySay status (is_judging (Some command)) → Says status (command_of words)
+says_by words command status is says = subst (Says status) is says
+
+pub says_bad_words : (command : Option Command) (answer result : Status) → Says answer command → result ≡ answer
+    → (result ≡ BadWords → command ≡ None) × (command ≡ None → result ≡ BadWords)
+says_bad_words None answer result says is = (λ bad. refl, λ none. is ∙ says)
+says_bad_words (Some command) answer result says is = (λ bad. absurd (subst (λ s. MaySay s (is_judging (Some command))) (sym is ∙ bad) says), λ none. absurd (cc))
+
+pub says_no : (command : Option Command) (answer result : Status) → Says answer command → result ≡ answer → result ≡ No → IsTrue (is_judging command)
+says_no None answer result says is said_no = absurd (let wrong : No ≡ BadWords = sym said_no ∙ is ∙ says in cc)
+says_no (Some command) answer result says is said_no = subst (λ s. MaySay s (is_judging (Some command))) (sym is ∙ said_no) says

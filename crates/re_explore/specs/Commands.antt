@@ -1,0 +1,40 @@
+-- The commands of `explore`, and the words that name them. A family of words is an alternative of each definition here.
+use Rattle.std.specs.Prelude.{ℕ, Bool, true, false, List, [], ◌∷◌, ◌++◌, Option, None, Some, codes, if◌then◌else◌}
+use Rattle.std.specs.Str.{bytes_eq}
+use Rattle.re_frame.specs.Outcomes.{Outcome, done, within_limit}
+use Rattle.re_frame.specs.declared.status.Status.TheVariants.{BadWords}
+use Rattle.re_why.specs.Explaining.{explaining_outcome, names_why, why_help}
+use Rattle.re_explore.specs.declared.command.Command.{Command}
+use Rattle.re_explore.specs.declared.command.Command.TheVariants.{Explains, Help}
+
+abbrev pub is_help : List (List ℕ) → Bool
+is_help (word ∷ []) = bytes_eq (codes "help") word
+is_help words = false
+
+-- the command that these words name
+unfoldable pub command_of : List (List ℕ) → Option Command
+command_of words = if is_help words then Some Help else if names_why words then Some Explains else None
+
+-- the lines of help
+unfoldable pub help_text : List ℕ
+help_text = codes "help: reads nothing, gives these lines\n" ++ why_help
+
+-- words that are no command are answered by the lines of help, too
+unfoldable pub bad_words : Outcome
+bad_words = record { status = BadWords; text = codes "words: not a command\n" ++ help_text }
+
+-- what a command answers, where it reads to these bytes
+unfoldable pub command_outcome : Option Command → List ℕ → Outcome
+command_outcome None bytes = bad_words
+command_outcome (Some Help) bytes = done help_text
+command_outcome (Some Explains) bytes = within_limit explaining_outcome bytes
+
+-- whether the command reads its input
+abbrev pub is_reading : Option Command → Bool
+is_reading (Some Explains) = true
+is_reading command = false
+
+-- whether its answer can be No
+abbrev pub is_judging : Option Command → Bool
+is_judging (Some Explains) = true
+is_judging command = false

@@ -1,0 +1,25 @@
+-- What `explore` answers to words and bytes.
+use Rattle.std.specs.Prelude.{◌≡◌, ℕ, Bool, List, Option, None, Some, IsTrue}
+use Rattle.re_frame.specs.Outcomes.{Outcome}
+use Rattle.re_frame.specs.Runs.{MaySay}
+use Rattle.re_frame.specs.declared.status.Status.{Status}
+use Rattle.re_frame.specs.declared.status.Status.TheVariants.{BadWords}
+use Rattle.re_explore.specs.Commands.{command_of, command_outcome, is_judging, is_reading}
+use Rattle.re_explore.specs.declared.command.Command.{Command}
+
+-- what is answered to these words and, where the command reads, these bytes
+unfoldable pub expected : List (List ℕ) → List ℕ → Outcome
+expected words bytes = command_outcome (command_of words) bytes
+
+-- the words name a command that reads its input
+abbrev pub reads_input : List (List ℕ) → Bool
+reads_input words = is_reading (command_of words)
+
+-- the bytes that a source tells are these, or the command reads none
+abbrev pub IsInput : List (List ℕ) → Option (List ℕ) → List ℕ → Type 0
+IsInput words left bytes = IsTrue (reads_input words) → left ≡ Some bytes
+
+-- BadWords where there is no command, and else what that may answer
+abbrev pub Says : Status → Option Command → Type 0
+Says status None = status ≡ BadWords
+Says status (Some command) = MaySay status (is_judging (Some command))

@@ -1,0 +1,68 @@
+// The command that the words name. A family of words is a variant here, an arm in `command_from` and in `output_from`, and its lines of help.
+ghost use Rattle.re_explore.specs.Commands.{bad_words, command_of, help_text, is_help};
+ghost use Rattle.re_frame.specs.Outcomes.{done as done_with, outcome_of};
+ghost use Rattle.std.specs.Prelude.{◌≡◌, ◌++◌, IfOk, map, string_bytes};
+
+use re_frame::{Answer, Output, begun, done, push_words};
+use re_labels::NoMemory;
+use re_why::{names_why, why_help};
+use std::alloc::Global;
+
+#[derive(Clone, Copy, Debug, PartialEq, Eq)]
+pub(crate) enum Command {
+    /// The words, with what each reads and gives.
+    Help,
+    /// What shows a refusal.
+    Explains,
+}
+
+fn is_help(words: &[String]) -> bool
+    ensures { result ≡ is_help (map string_bytes words.now) }
+{
+    match words {
+        [word] => "help" == word.as_str(),
+        _ => false,
+    }
+}
+
+#[tactic(auto, unfolding(crate::specs::Commands::command_of))]
+pub(crate) fn command_from(words: &[String]) -> Option<Command>
+    ensures { result ≡ command_of (map string_bytes words.now) }
+{
+    if is_help(words) {
+        Some(Command::Help)
+    } else if names_why(words) {
+        Some(Command::Explains)
+    } else {
+        None
+    }
+}
+
+// The lines of help behind these words.
+#[tactic(auto, unfolding(crate::specs::Commands::help_text))]
+fn with_help(alloc: Global, words: &str) -> Result<Vec<u8>, NoMemory>
+    ensures { IfOk result (λ text. text.items ≡ words.now ++ help_text) }
+{
+    let mut text = begun(alloc, words)?;
+    push_words(&mut text, "help: reads nothing, gives these lines\n")?;
+    push_words(&mut text, why_help())?;
+    Ok(text)
+}
+
+/// The output of `help`.
+pub(crate) fn help(alloc: Global) -> Result<Output, NoMemory>
+    ensures { IfOk result (λ output. outcome_of output ≡ done_with help_text) }
+{
+    Ok(done(with_help(alloc, "")?))
+}
+
+/// The output for words that are no command.
+#[tactic(auto, unfolding(crate::specs::Commands::bad_words))]
+pub(crate) fn bad_words(alloc: Global) -> Result<Output, NoMemory>
+    ensures { IfOk result (λ output. outcome_of output ≡ bad_words) }
+{
+    Ok(Output {
+        answer: Answer::BadWords,
+        text: with_help(alloc, "words: not a command\n")?,
+    })
+}

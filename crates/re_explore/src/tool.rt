@@ -1,0 +1,78 @@
+// The whole program.
+ghost use Rattle.std.specs.Prelude.{◌≡◌, ◌≤◌, ◌↔◌, List, ℕ, [], None, map, length, string_bytes, IsTrue, IsFalse, IfOk, IsOk, IsErrOf};
+ghost use Rattle.std.specs.Io.KnownBytes.{Keeps};
+ghost use Rattle.re_io.specs.Faults.{Rose};
+ghost use Rattle.re_explore.specs.Commands.{command_of, is_judging};
+ghost use Rattle.re_explore.specs.Expected.{IsInput, Says, expected, reads_input};
+ghost use Rattle.re_frame.specs.Outcomes.{IsAnswer, outcome_of, status_of};
+ghost use Rattle.re_frame.specs.Runs.{Answers, StopsWithin, TakesInput};
+
+use crate::command::{Command, bad_words, command_from, help};
+use re_frame::{Output, Status, Stop, answer_input, put_output};
+use re_io::{MAX_BYTES, Sink, Source};
+use re_why::Why;
+use std::alloc::Global;
+
+// The output for the words, from the source where the command reads.
+#[tactic(auto, unfolding(crate::specs::Expected::expected, crate::specs::Commands::command_outcome))]
+fn output_from<S: Source>(alloc: Global, words: &[String], source: &mut S) -> Result<Output, Stop>
+    ensures output { IfOk result (λ output. (bytes : List ℕ) → IsInput (map string_bytes words.now) (S.left source.old) bytes →
+        outcome_of output ≡ expected (map string_bytes words.now) bytes) }
+    ensures says { IfOk result (λ output. Says (status_of output.answer) (command_of (map string_bytes words.now))) }
+    ensures read_fault { IsErrOf result Stop.ReadFault →
+        IsTrue (reads_input (map string_bytes words.now)) × Rose (S.faults source.old) (S.faults source.new) }
+    ensures read_within { IsErrOf result Stop.ReadFault → TakesInput (S.left source.old) (S.left source.new) }
+    ensures emptied { IsOk result → IsTrue (reads_input (map string_bytes words.now)) →
+        (bytes : List ℕ) → S.left source.old ≡ Some bytes → length bytes ≤ MAX_BYTES → S.left source.new ≡ Some [] }
+    ensures not_read { IsFalse (reads_input (map string_bytes words.now)) → source.new ≡ source.old }
+    ensures later { S.faults source.old ≤ S.faults source.new }
+{
+    match command_from(words) {
+        None => Ok(bad_words(alloc)?),
+        Some(Command::Help) => Ok(help(alloc)?),
+        Some(Command::Explains) => answer_input(alloc, &Why, source),
+    }
+}
+
+/// Does what the words ask: reads the source where the command reads, and puts the whole text with one call.
+pub fn run<S: Source, K: Sink>(
+    alloc: Global,
+    words: &[String],
+    source: &mut S,
+    sink: &mut K,
+) -> Status
+    // Done, No, BadWords, BadInput and Limit come as the words and the bytes say, with exactly that text.
+    ensures answer { IsAnswer result → (bytes : List ℕ) → IsInput (map string_bytes words.now) (S.left source.old) bytes →
+        Answers result (K.written sink.old) (K.written sink.new) (expected (map string_bytes words.now) bytes) }
+
+    // Whatever the source tells: BadWords exactly where the words are no command, and No only to a command that judges.
+    ensures bad_words { IsAnswer result → (result ≡ Status.BadWords ↔ command_of (map string_bytes words.now) ≡ None) }
+    ensures no { result ≡ Status.No → IsTrue (is_judging (command_of (map string_bytes words.now))) }
+
+    // The other three, each with its cause and what it leaves.
+    ensures read_fault { result ≡ Status.ReadFault →
+        IsTrue (reads_input (map string_bytes words.now)) × Rose (S.faults source.old) (S.faults source.new) }
+    ensures read_within { result ≡ Status.ReadFault → TakesInput (S.left source.old) (S.left source.new) }
+    ensures write_fault { result ≡ Status.WriteFault → Rose (K.faults sink.old) (K.faults sink.new) }
+    ensures partly { result ≡ Status.WriteFault → (bytes : List ℕ) → IsInput (map string_bytes words.now) (S.left source.old) bytes →
+        StopsWithin (K.written sink.old) (K.written sink.new) (expected (map string_bytes words.now) bytes).text }
+    ensures not_put { IsAnswer result → (bytes : List ℕ) → IsInput (map string_bytes words.now) (S.left source.old) bytes →
+        (expected (map string_bytes words.now) bytes).text ≡ [] → sink.new ≡ sink.old }
+    ensures read_nothing_written { result ≡ Status.ReadFault → sink.new ≡ sink.old }
+    ensures memory_nothing_written { result ≡ Status.NoMemory → Keeps (K.written sink.old) (K.written sink.new) }
+
+    // What is left of the input.
+    ensures emptied { IsAnswer result → IsTrue (reads_input (map string_bytes words.now)) →
+        (bytes : List ℕ) → S.left source.old ≡ Some bytes → length bytes ≤ MAX_BYTES → S.left source.new ≡ Some [] }
+    ensures not_read { IsFalse (reads_input (map string_bytes words.now)) → source.new ≡ source.old }
+
+    // The counts of faults don't fall.
+    ensures source_later { S.faults source.old ≤ S.faults source.new }
+    ensures sink_later { K.faults sink.old ≤ K.faults sink.new }
+{
+    match output_from(alloc, words, source) {
+        Ok(output) => put_output(&output, sink),
+        Err(Stop::ReadFault) => Status::ReadFault,
+        Err(Stop::NoMemory) => Status::NoMemory,
+    }
+}

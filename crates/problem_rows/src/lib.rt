@@ -1,8 +1,6 @@
-//! Worked rows of inputs, problem texts, diagrams, steps, families and maps.
+//! Worked rows of inputs, items, problems built by hand, maps as they are read, merged labels and derived problems by their definition.
 #![tactic(auto)]
 
-#[cfg(test)]
-mod canonical_texts;
 #[cfg(test)]
 mod diagrams;
 #[cfg(test)]
@@ -14,12 +12,6 @@ mod items;
 #[cfg(test)]
 mod map_texts;
 #[cfg(test)]
-mod maps;
-#[cfg(test)]
 mod problems;
 #[cfg(test)]
 mod reference;
-#[cfg(test)]
-mod steps;
-#[cfg(test)]
-mod texts;

@@ -5,13 +5,13 @@ ghost use Rattle.re_changes.specs.Changes.{Changed as Outcome, changed_times};
 ghost use Rattle.re_problem.specs.NamedProblems.{NamedProblem, unnamed};
 ghost use Rattle.re_search.specs.Walking.{IsLevel, Visits, Walks, below_made, node_at};
 ghost use Rattle.re_step.specs.Derivations.{derivation};
-ghost use Rattle.re_tree.specs.Nodes.{child, goes_on, is_zero, preorder, steps_from, succeeds};
-ghost use Rattle.std.specs.Prelude.{◌≡◌, ◌<◌, ◌≤◌, ℕ, IsTrue, List, true, ◌+◌, ◌++◌, ◌∷◌, ◌&&◌, ◌||◌, [], OnOk, flat_map, length, map, nat_lt, not, suc};
+ghost use Rattle.re_tree.specs.Nodes.{behind, child, goes_on, is_zero, preorder, steps_from, succeeds};
+ghost use Rattle.std.specs.Prelude.{◌≡◌, ◌<◌, ◌≤◌, ℕ, IsTrue, List, false, true, ◌+◌, ◌++◌, ◌∷◌, ◌&&◌, ◌||◌, [], OnOk, flat_map, length, map, nat_lt, not, suc};
 
 use crate::counting::is_zero;
 use crate::derivations::Derivations;
 use crate::returning::way_back;
-use crate::steps::{Level, end_of, has_lower_steps, step_to};
+use crate::steps::{Level, end_of, has_lower_steps, problem_behind, step_to};
 use crate::types::FindFault;
 use re_cert::{Kind, Step};
 use re_changes::{Changed, changes_of};
@@ -222,7 +222,7 @@ fn walk_changed(
         return walk_child(tree, derivations, path, left, level, made, count);
     }
     let labels = made.problem().names().len() as u8;
-    if are_passed(tree.kind, left, labels, changes) {
+    if are_passed(tree, path.as_slice(), left, labels, changes) {
         return passed(tree.alloc, labels, changes, count);
     }
     let Ok(all) = changes_of(tree.alloc, has_lower_steps(tree.kind), labels) else {
@@ -251,23 +251,47 @@ fn walk_changed(
     Ok(Walked::Passed(count))
 }
 
-// Whether the nodes that so many changes make need no problem: those at the greatest depth of a search for a fixed point, where
-// more labels are left than a way back may have. They are no successes, and have no children.
-fn are_passed(kind: Kind, left: u8, labels: u8, changes: u8) -> bool
-    requires { changes ≤ 8 }
-    ensures { IsTrue result → (kind ≡ Kind.Fixed) × (left ≡ 0) × (8 + changes < labels) }
+// Whether a problem of so many labels may be renamed to one on the path, as far as that is seen from its labels.
+fn may_return(first: &Problem, path: &[Step], labels: usize) -> bool
+    ensures { result ≡ false → (number : ℕ) → number ≤ length path.now → length (behind first.now path.now number).names ≡ labels → 8 < labels }
 {
-    match kind {
-        Kind::Fixed => left == 0 && labels > 8 + changes,
-        Kind::Lower | Kind::Upper => false,
+    if labels > 8 {
+        return false;
     }
+    for number in 0..path.len() + 1 {
+        if problem_behind(first, path, number).names().len() == labels {
+            return true;
+        }
+    }
+    false
+}
+
+// Whether the nodes that so many changes make need no problem: those at the greatest depth of a search for a fixed point, where
+// more labels are left than a way back may have, or no problem on the path has as many. They are no successes, and have no
+// children.
+fn are_passed(tree: &Tree, path: &[Step], left: u8, labels: u8, changes: u8) -> bool
+    requires { changes ≤ 8 }
+    ensures kind { IsTrue result → tree.now.kind ≡ Kind.Fixed }
+    ensures left { IsTrue result → left ≡ 0 }
+    ensures some { IsTrue result → changes < labels }
+    ensures none { IsTrue result → (number : ℕ) → number ≤ length path.now
+        → length (behind tree.now.first.now path.now number).names + changes ≡ labels → 8 + changes < labels }
+{
+    if !matches!(tree.kind, Kind::Fixed) {
+        return false;
+    }
+    if left > 0 || labels <= changes {
+        return false;
+    }
+    !may_return(tree.first, path, (labels - changes) as usize)
 }
 
 // Past such nodes, which so many merges make of a problem of so many labels. They are counted, and no problem is made.
 fn passed(alloc: Global, labels: u8, changes: u8, count: Count) -> Result<Walked, FindFault>
     requires labels { labels ≤ MAX_LABELS }
-    requires many { 8 + changes < labels }
-    ensures { (first : NamedProblem) (most : ℕ) (steps : List BoundStep) (made : Outcome) → length made.problem.names ≡ labels →
+    requires many { changes < labels }
+    ensures { (first : NamedProblem) (most : ℕ) (steps : List BoundStep) (made : Outcome) → length made.problem.names ≡ labels
+        → ((number : ℕ) → number ≤ length steps → length (behind first steps number).names + changes ≡ labels → 8 + changes < labels) →
         Walks Kind.Fixed first count (flat_map (below_made Kind.Fixed most 0 (node_at first steps 1)) (changed_times true changes made)) steps steps result }
 {
     if changes == 0 {

@@ -40,6 +40,11 @@ abbrev pub Holds : TableForm → Result State InputFault → ℕ → Result Plac
 Holds form result byte (Ok p) = (s : State) × (result ≡ Ok s) × IsAt form p s byte
 Holds form result byte (Err fault) = IsRefused result fault
 
+-- the same in the table, which is held then
+abbrev pub HoldsTable : TableForm → Result State InputFault → Result (Unit {0}) TextFault → TableRead → Type 0
+HoldsTable form result (Ok u) read = (result ≡ Ok (InTable read.first read.owner read.radius read.answers.items)) × IsBegun form read
+HoldsTable form result (Err fault) read = IsRefused result fault
+
 abbrev pub text_in : TableInput → TableText
 text_in input = record { problem = input.problem; next = input.next; table = input.table }
 

@@ -1,12 +1,13 @@
 //! The lines of the text of a table, one after another.
 ghost use Rattle.re_cert.specs.Entries.{label_items};
 ghost use Rattle.re_io.specs.declared.read.TheConstants.{MAX_BYTES};
-ghost use Rattle.re_problem.specs.TextReading.{Reads};
-ghost use Rattle.re_table_texts.specs.Reading.{Gives, Holds, IsAt, IsBegun, owner_in};
+ghost use Rattle.re_places.specs.Counting.{view_count};
+ghost use Rattle.re_problem.specs.TextReading.{IsRefused, Reads};
+ghost use Rattle.re_table_texts.specs.Reading.{Gives, Holds, HoldsTable, IsAt, IsBegun, owner_in};
 ghost use Rattle.re_table_texts.specs.SectionLines.{section_of};
 ghost use Rattle.re_table_texts.specs.TableTexts.{State, are_all, ended, judged, judged_start, judged_table, judged_text, may_stand, next_begins, table_begins, takes_items, text_ends};
 ghost use Rattle.re_table_texts.specs.TableTexts.State.{InTable};
-ghost use Rattle.std.specs.Prelude.{◌≡◌, ◌≤◌, ◌<◌, ◌+◌, ◌↔◌, [], IfOk, IsSome, List, ℕ, length, true};
+ghost use Rattle.std.specs.Prelude.{◌≡◌, ◌≤◌, ◌<◌, ◌+◌, ◌↔◌, [], IfOk, IsSome, List, MatchResult, Some, ℕ, length, true};
 
 use crate::sections::{Section, read_section};
 use crate::table_texts::{TableForm, TableInput};
@@ -95,6 +96,31 @@ fn may_stand(form: TableForm, radius: u8) -> bool
     }
 }
 
+// How many views a table has whose section line stands behind the problems.
+fn table_count(
+    form: TableForm,
+    first: &Option<Problem>,
+    owner: &Problem,
+    radius: u8,
+    number: u32,
+) -> Result<u32, TextFault>
+    ensures { MatchResult result
+        (λ count. (are_all form first.now ≡ true) × (may_stand form radius ≡ true)
+            × (Some count ≡ view_count owner.now.active.degree owner.now.passive.degree radius))
+        (λ fault. IsRefused (table_begins form number first.now owner.now radius) fault) }
+{
+    if !are_all(form, first) {
+        return Err(TextFault::Bad(InputFault::BadSection(number)));
+    }
+    if !may_stand(form, radius) {
+        return Err(TextFault::Bad(InputFault::BadSection(number)));
+    }
+    match view_count(owner.degrees(), Side::Active, radius) {
+        Some(count) => Ok(count),
+        None => Err(TextFault::Bad(InputFault::TooManyViews(number))),
+    }
+}
+
 // The section line of a table behind the problems.
 fn begin_table(
     alloc: Global,
@@ -107,21 +133,15 @@ fn begin_table(
     requires { IsSome first → form ≡ TableForm.Slower }
     ensures { (byte : ℕ) → Holds form (table_begins form number first owner radius) byte result }
 {
-    if !are_all(form, &first) {
-        return Err(TextFault::Bad(InputFault::BadSection(number)));
-    }
-    if !may_stand(form, radius) {
-        return Err(TextFault::Bad(InputFault::BadSection(number)));
-    }
-    match view_count(owner.degrees(), Side::Active, radius) {
-        Some(count) => Ok(Place::Table(TableRead {
+    match table_count(form, &first, &owner, radius, number) {
+        Ok(count) => Ok(Place::Table(TableRead {
             first,
             owner,
             radius,
             count,
             answers: Vec::new(alloc),
         })),
-        None => Err(TextFault::Bad(InputFault::TooManyViews(number))),
+        Err(fault) => Err(fault),
     }
 }
 
@@ -206,15 +226,14 @@ fn text_line(
 // A line of labels.
 fn add_answer(
     form: TableForm,
-    read: TableRead,
+    read: &mut TableRead,
     number: u32,
     line: &[u8],
-) -> Result<Place, TextFault>
+) -> Result<(), TextFault>
     requires items { IsSome (label_items line.now) }
-    requires begun { IsBegun form read }
-    ensures { (byte : ℕ) → Holds form (takes_items number read.first read.owner read.radius read.answers.items (label_items line.now)) byte result }
+    requires begun { IsBegun form read.old }
+    ensures { HoldsTable form (takes_items number read.old.first read.old.owner read.old.radius read.old.answers.items (label_items line.now)) result read.new }
 {
-    let mut read = read;
     let names = read.owner.names();
     let Some(labels) = line_labels(line, names, read.owner.degrees().active) else {
         return Err(TextFault::Bad(InputFault::BadEntry(number)));
@@ -228,7 +247,34 @@ fn add_answer(
     if let Err(_) = read.answers.push(labels) {
         return Err(TextFault::NoMemory);
     }
-    Ok(Place::Table(read))
+    Ok(())
+}
+
+// Takes a line of the table in.
+fn take_line(
+    form: TableForm,
+    read: &mut TableRead,
+    byte: u32,
+    number: u32,
+    line: &[u8],
+) -> Result<(), TextFault>
+    requires within { byte + length line.now ≤ MAX_BYTES }
+    requires begun { IsBegun form read.old }
+    ensures { HoldsTable form (judged_table byte number read.old.first read.old.owner read.old.radius read.old.answers.items line.now) result read.new }
+{
+    if begins_section(line) {
+        return Err(TextFault::Bad(InputFault::BadSection(number)));
+    }
+    if is_empty_line(line) {
+        return Ok(());
+    }
+    if let Some(place) = first_bad_byte(line) {
+        return Err(TextFault::Bad(InputFault::BadByte(byte + place as u32)));
+    }
+    if !has_labels(line) {
+        return Err(TextFault::Bad(InputFault::BadItem(number)));
+    }
+    add_answer(form, read, number, line)
 }
 
 // A line of the table.
@@ -243,19 +289,11 @@ fn table_line(
     requires begun { IsBegun form read }
     ensures { Holds form (judged_table byte number read.first read.owner read.radius read.answers.items line.now) (byte + length line.now + 1) result }
 {
-    if begins_section(line) {
-        return Err(TextFault::Bad(InputFault::BadSection(number)));
+    let mut read = read;
+    match take_line(form, &mut read, byte, number, line) {
+        Ok(()) => Ok(Place::Table(read)),
+        Err(fault) => Err(fault),
     }
-    if is_empty_line(line) {
-        return Ok(Place::Table(read));
-    }
-    if let Some(place) = first_bad_byte(line) {
-        return Err(TextFault::Bad(InputFault::BadByte(byte + place as u32)));
-    }
-    if !has_labels(line) {
-        return Err(TextFault::Bad(InputFault::BadItem(number)));
-    }
-    add_answer(form, read, number, line)
 }
 
 /// What is held behind one more line, which stands at this byte and has this number.

@@ -5,6 +5,7 @@ mod answers;
 mod damage;
 mod devices;
 mod failing;
+mod growing;
 mod script;
 
 use script::Script;

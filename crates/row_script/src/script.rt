@@ -5,13 +5,17 @@
 //              behind so many bytes
 //     <TEXT    a line of the input
 //     -TEXT    the end of the input, without a line feed
+//     \TEXT    a part of the input, in which `\n`, `\r` and `\t` stand for a line feed, a carriage return and a tab
 //     *N TEXT  a line of the input, N times
 //     :NAME    the input so far gets a name, and isn't an input
 //     @N NAME  the text of that name, N times, as part of the input
+//     ^N path  the lines of a path of N nodes behind its first one, as part of the input of `run`
+//     ^N levels   those of a tree of N nodes that is grown level by level, and of all messages over its edges
 //     $WORDS   what is run on the input; behind ` | ` are words that read the text which those before wrote
 //     >TEXT    a line of the text that is to be written
 //     =CODE    the exit code: the row ends, and the text is to be these lines
 //     ~CODE N  the exit code: the row ends, and the text is to begin with these lines and to have N
+//     ~CODE N BYTES   and to have so many bytes
 //     !reads   the row ends: each read fails in turn
 //     !writes  the row ends: each write fails in turn, behind each number of bytes
 //     !fronts  the row ends: each front of the input ends too early
@@ -21,6 +25,7 @@ use crate::answers::{Answered, answer_through};
 use crate::damage::{each_damage, each_front, each_star};
 use crate::devices::{Devices, SURE};
 use crate::failing::{each_read, each_write};
+use crate::growing::{add_levels, add_path};
 use std::alloc::{AllocError, Global};
 use std::mem;
 
@@ -78,6 +83,29 @@ fn add_lines(text: &mut Vec<u8>, line: &str, times: usize) -> Result<(), AllocEr
     Ok(())
 }
 
+// Adds the byte for which a letter behind a `\` stands, and what follows it.
+fn add_sign(text: &mut Vec<u8>, part: &str) -> Result<(), AllocError> {
+    let sign = match part.as_bytes().first() {
+        Some(b'n') => b'\n',
+        Some(b'r') => b'\r',
+        _ => b'\t',
+    };
+    text.push(sign)?;
+    text.extend_from_slice(part.get(1..).unwrap_or("").as_bytes())?;
+    Ok(())
+}
+
+fn add_spelled(text: &mut Vec<u8>, spelled: &str) -> Result<(), AllocError> {
+    for (number, part) in spelled.split('\\').enumerate() {
+        if number == 0 {
+            text.extend_from_slice(part.as_bytes())?;
+        } else {
+            add_sign(text, part)?;
+        }
+    }
+    Ok(())
+}
+
 fn count_lines(text: &[u8]) -> usize {
     text.iter().filter(|byte| **byte == b'\n').count()
 }
@@ -130,6 +158,15 @@ impl Script {
         Ok(())
     }
 
+    fn add_tree(&mut self, rest: &str) -> Result<(), AllocError> {
+        let (nodes, kind) = numbered(rest);
+        let nodes = u32::try_from(nodes).unwrap_or(0);
+        match kind {
+            "path" => add_path(self.alloc, &mut self.input, nodes),
+            _ => add_levels(self.alloc, &mut self.input, nodes),
+        }
+    }
+
     fn answer(&self) -> Result<Answered, AllocError> {
         let input = self.input.as_slice();
         answer_through(self.alloc, self.line.as_str(), input, &self.devices)
@@ -169,17 +206,19 @@ impl Script {
     }
 
     fn end_begun(&mut self, rest: &str) -> Result<bool, AllocError> {
-        let (code, lines) = numbered(rest);
-        let is_right = self.begins(code, number_of(lines))?;
+        let (code, rest) = numbered(rest);
+        let (lines, bytes) = numbered(rest);
+        let is_right = self.begins(code, lines, bytes)?;
         Ok(self.end(is_right))
     }
 
-    fn begins(&self, code: usize, lines: usize) -> Result<bool, AllocError> {
+    fn begins(&self, code: usize, lines: usize, bytes: &str) -> Result<bool, AllocError> {
         let found = self.answer()?;
         let text = found.text.as_slice();
         Ok(
             usize::from(found.code) == code
                 && count_lines(text) == lines
+                && (bytes.is_empty() || number_of(bytes) == text.len())
                 && text.starts_with(self.wanted.as_slice()),
         )
     }
@@ -196,9 +235,11 @@ impl Script {
             Some(b'/') => self.devices = devices_of(rest),
             Some(b'<') => add_line(&mut self.input, rest)?,
             Some(b'-') => self.input.extend_from_slice(rest.as_bytes())?,
+            Some(b'\\') => add_spelled(&mut self.input, rest)?,
             Some(b'*') => self.repeat_line(rest)?,
             Some(b':') => self.name_input(rest)?,
             Some(b'@') => self.add_named(rest)?,
+            Some(b'^') => self.add_tree(rest)?,
             Some(b'$') => self.line = String::from_str(self.alloc, rest)?,
             Some(b'>') => add_line(&mut self.wanted, rest)?,
             Some(b'=') => return self.end_whole(rest),

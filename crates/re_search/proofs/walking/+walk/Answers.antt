@@ -1,5 +1,5 @@
 use Rattle.re_tree.proofs.Paths.{going-left}
-use Rattle.std.proofs.Common.{◌≡◌, ◌+◌, ◌-◌, ◌<◌, ◌≤◌, ◌++◌, ◌∷◌, [], Ok, Err, suc, flat_map, take, length, get_or, refl, sym, ap, ◌∙◌, subst, arith, rules, length-append}
+use Rattle.std.proofs.Common.{◌≡◌, ℕ, ◌+◌, ◌-◌, ◌<◌, ◌≤◌, ◌++◌, ◌∷◌, [], Ok, Err, suc, flat_map, take, length, get_or, refl, sym, ap, ◌∙◌, subst, arith, rules, length-append}
 use Rattle.re_labels.proofs.Membership.{length-count_from, length-map'}
 use Rattle.re_labels.specs.Lists.{count_from}
 use Rattle.re_problem.specs.NamedProblems.{NamedProblem}
@@ -9,7 +9,7 @@ use Rattle.re_changes.specs.declared.change.Change.TheVariants.{Merge}
 use Rattle.re_search.proofs.PassedOver.{passed-are}
 use Rattle.re_search.proofs.PathSteps.{truncated}
 use Rattle.re_search.proofs.Walks.{all_of_changes, all_of_counts, child-found, child-passed, child-refused, counted-at, is-change, level-along, loop-done, loop-found, loop-passed, loop-refused, of_change, of_count, one_change, one_count, same-at, start_at, start-images, step-is, visit-cut, visit-inner, visit-leaf, visit-success, visited, walks-cut, walks-nodes}
-use Rattle.re_tree.specs.Nodes.{preorder}
+use Rattle.re_tree.specs.Nodes.{behind, preorder}
 use Rattle.re_step.specs.Derivations.{Derivation}
 use Rattle.re_search.specs.Walking.{Walks, node_at}
 use Rattle.re_search.specs.declared.walking.Visited.TheVariants.{Cut, Inner, Leaf, Success}
@@ -71,10 +71,11 @@ walk_changed-walk_changed-requires t c = (
 
 pub walk_changed-returns-then-are_passed : goal.walk_changed-returns-then-are_passed
 walk_changed-returns-then-are_passed t c =
-    let are = c.are_passed.ensures c.if-are_passed.true in
+    let yes = c.if-are_passed.true in
     let size = c.len-labels.ensures.len ∙ ap length (c.names.ensures.names ∙ ap (λ (p : NamedProblem). p.names) c.problem.ensures) in
-    passed-are c.args.tree.now.kind c.args.tree.now.first.now c.args.tree.now.most c.args.left c.args.changes c.args.path.now.items c.args.made.now c.args.count c.passed.result are.0 are.1
-    (c.passed.ensures c.args.tree.now.first.now c.args.tree.now.most c.args.path.now.items c.args.made.now (sym size))
+    passed-are c.args.tree.now.kind c.args.tree.now.first.now c.args.tree.now.most c.args.left c.args.changes c.args.path.now.items c.args.made.now c.args.count c.passed.result (c.are_passed.ensures.kind yes) (c.are_passed.ensures.left yes)
+    (c.passed.ensures c.args.tree.now.first.now c.args.tree.now.most c.args.path.now.items c.args.made.now (sym size)
+    (subst (λ steps. (number : ℕ) → number ≤ length steps → length (behind c.args.tree.now.first.now steps number).names + c.args.changes ≡ c.len-labels.result → 8 + c.args.changes < c.len-labels.result) c.as_slice.ensures.value (c.are_passed.ensures.none yes)))
 
 pub walk_changed-returns-in-Ok-Found : goal.walk_changed-returns-in-Ok-Found
 walk_changed-returns-in-Ok-Found t c =

@@ -1,0 +1,210 @@
+// One card: a problem with its constraints, diagrams, meanings and what can be done with it.
+import {button, code, copy, element, faulty, hint, plural, replace, say} from './dom.js';
+import {isStep, numberOf, stagesOf, titleOf} from './chains.js';
+import {CLAUSES, readCertificate} from './certificates.js';
+import {blockOf, SIDES} from './problems.js';
+import {cardActions, selectionActions} from './card_actions.js';
+import {DiagramView} from './diagram_view.js';
+import {LabelsView} from './labels_view.js';
+import {lineParts, LinesView} from './lines_view.js';
+
+const labelAt = event => event.target.closest?.('[data-label]')?.getAttribute('data-label');
+
+export class CardView {
+    constructor(workbench, card) {
+        Object.assign(this, {workbench, card, selected: [], isOpen: true});
+        this.facts = workbench.facts.of(card.problem);
+        this.build();
+        this.listen();
+    }
+
+    build() {
+        const {card, facts: {problem}} = this, {engine} = this.workbench, onDraw = () => this.showSelected();
+        this.lines = Object.fromEntries(SIDES.map(side => [side, new LinesView(engine, `${side} constraint`, onDraw)]));
+        this.diagrams = Object.fromEntries(SIDES.map(side => [side, new DiagramView(engine, this.facts, side, () => this.fileName, onDraw)]));
+        this.labels = new LabelsView(problem.labels, label => this.selected.includes(label), onDraw);
+        this.fault = element('div.fault', {role: 'alert', hidden: true});
+        this.selection = element('div.selection', {hidden: true, role: 'group', 'aria-label': 'selected labels'});
+        this.remarks = element('div.remarks', {'aria-live': 'polite'});
+        this.branches = element('div.branches', {});
+        this.comment = element('p.comment', {hidden: true});
+        this.back = element('p.back', {hidden: true});
+        this.written = element('details.written', {hidden: true, ontoggle: () => this.fillWritten()}, element('summary', {}, 'The step as the certificate has it'), element('div.parts', {}));
+        const constraints = element('div.constraints', {}, SIDES.map(side => this.constraint(side)));
+        const body = element('div.body', {}, this.comment, element('div.problem', {}, constraints, element('div.diagrams', {}, SIDES.map(side => this.diagrams[side].node))),
+            this.labels.node, this.written, this.back, this.selection, cardActions(this.workbench, card, this), this.remarks);
+        this.node = element('article.card', {tabIndex: -1, id: `card-${card.id}`}, this.head(), this.fault, body, this.branches);
+    }
+
+    head() {
+        const {problem} = this.facts;
+        this.number = element('span.number', {});
+        this.title = element('h3.title', {});
+        this.zero = element('span.badge.waiting', {}, '0 rounds: …');
+        this.toggle = button('', () => this.open(!this.isOpen), {class: 'toggle', 'aria-label': 'open or close the card'});
+        return element('header', {}, this.toggle, this.number, this.title, element('span.badges', {},
+            element('span.badge', {title: 'degrees: active, passive'}, `degrees ${problem.active.degree}, ${problem.passive.degree}`),
+            element('span.badge', {}, plural(problem.labels.length, 'label')), this.zero));
+    }
+
+    constraint(side) {
+        const {degree, count} = this.facts.problem[side];
+        return element('section', {'aria-label': `${side} constraint`},
+            element('h4', {}, side === 'active' ? 'Active' : 'Passive', element('small', {}, ` degree ${degree}, ${plural(count, 'configuration')}`)), this.lines[side].node);
+    }
+
+    get fileName() { return `problem-${this.number.textContent.replace(/′/g, '-')}`; }
+
+    listen() {
+        this.node.addEventListener('click', event => {
+            const edge = event.target.closest?.('.edge');
+            if (edge) { this.select([edge.dataset.weak, edge.dataset.strong]); return; }
+            const label = labelAt(event);
+            if (label && !event.target.closest('.selection, .remarks') && getSelection().isCollapsed) this.pick(label);
+        });
+        this.node.addEventListener('pointerover', event => this.point(labelAt(event), event.target));
+        this.node.addEventListener('pointerleave', () => this.point(null));
+        this.node.addEventListener('focusin', event => { if (event.target.matches(':focus-visible')) this.point(labelAt(event), event.target); });
+        this.node.addEventListener('focusout', () => this.point(null));
+    }
+
+    // Marks all places of a label on the card, and says what it stands for.
+    point(label, target) {
+        if (label) this.workbench.tip.show(this.labels.tip(label), target.closest('[data-label]'));
+        else this.workbench.tip.hide();
+        if (label === this.marked) return;
+        this.marked = label;
+        for (const node of this.node.querySelectorAll('.marked')) node.classList.remove('marked');
+        if (label) for (const node of this.placesOf(label)) node.classList.add('marked');
+    }
+
+    placesOf(label) { return this.node.querySelectorAll(`[data-label="${CSS.escape(label)}"]`); }
+
+    // ---- Selected labels.
+
+    pick(label) {
+        this.select(this.selected.includes(label) ? this.selected.filter(other => other !== label) : [...this.selected, label]);
+    }
+
+    select(labels) {
+        this.selected = labels;
+        this.showSelected();
+        this.selection.hidden = !labels.length;
+        if (labels.length) replace(this.selection, selectionActions(this.workbench, this.card, this));
+    }
+
+    showSelected() {
+        const {selected} = this;
+        for (const node of this.node.querySelectorAll('.picked')) node.classList.remove('picked');
+        for (const label of selected) for (const node of this.placesOf(label)) node.classList.add('picked');
+        for (const chip of this.labels.node.querySelectorAll('.chip')) chip.setAttribute('aria-pressed', String(selected.includes(chip.getAttribute('data-label'))));
+    }
+
+    isStronger(side, weak, strong) { return this.diagrams[side].isStronger(weak, strong); }
+
+    // ---- What is shown: asked for once the card is open and near to what is seen.
+
+    open(isOpen) {
+        this.isOpen = isOpen;
+        this.node.classList.toggle('closed', !isOpen);
+        this.toggle.setAttribute('aria-expanded', String(isOpen));
+        this.workbench.watch(this);
+    }
+
+    comeNear() {
+        this.fillZero();
+        if (!this.isOpen || this.isFilled) return;
+        this.isFilled = true;
+        this.node.classList.add('filled');
+        this.labels.draw();
+        this.fillLines();
+        for (const side of SIDES) this.diagrams[side].fill();
+    }
+
+    async fillZero() {
+        if (this.isZeroFilled) return;
+        this.isZeroFilled = true;
+        try {
+            const {isSolvable, config} = await this.facts.zero();
+            this.zero.className = `badge ${isSolvable ? 'yes' : 'no'}`;
+            replace(this.zero, isSolvable ? ['0 rounds: yes, ', code(...lineParts(config))] : '0 rounds: no');
+            this.zero.title = isSolvable ? 'solvable without communication: each active node outputs this configuration' : 'not solvable without communication';
+        } catch (error) { this.zero.textContent = `0 rounds: ${error.message}`; }
+    }
+
+    async fillLines() {
+        const {written} = this.card, show = blocks => {
+            for (const side of SIDES) this.lines[side].show(blocks[side], `%${this.facts.problem[side].degree} (none)`);
+        };
+        if (written && SIDES.some(side => written[side].some(line => line.includes('[')))) { show({active: blockOf(written.active), passive: blockOf(written.passive)}); return; }
+        show(this.facts.plain());
+        await this.facts.grouped().then(show, () => {});
+        await this.facts.condensed().then(show, () => {});
+    }
+
+    // Rows and map of the step that leads to this card, out of the certificate that was judged.
+    fillWritten() {
+        if (!this.written.open) return;
+        const {verdict} = this.workbench.claim, number = stagesOf(this.path).findIndex(stage => stage.includes(this.card));
+        const step = verdict?.certificate && readCertificate(verdict.certificate).steps[number - 1];
+        const part = (title, lines) => lines.length ? element('div', {}, element('h4', {}, title), element('pre', {tabIndex: 0}, lines.slice(0, 300).join('\n') + (lines.length > 300 ? '\n…' : ''))) : null;
+        replace(this.written.lastChild, step ? [part(plural(step.rows.length, 'row'), step.rows), part(`${plural(step.map.length, 'line')} of the map`, step.map)] : hint('Not judged yet.'));
+    }
+
+    // ---- Where the card stands: its path, and what comes behind it.
+
+    place(path, isLast) {
+        const {card} = this, at = path.indexOf(card);
+        Object.assign(this, {path, at});
+        this.labels.place(path, at);
+        this.number.textContent = numberOf(path, card);
+        this.title.textContent = titleOf(card);
+        this.node.setAttribute('aria-label', `problem ${this.number.textContent}, ${titleOf(card)}`);
+        this.node.classList.toggle('last', isLast);
+        this.written.hidden = path[at + 1]?.kind === 'change' || path.slice(0, at + 1).every(other => !isStep(other));
+        this.fillWritten();
+        if (this.wasLast !== isLast) {
+            // Of a long chain the first card and the last ones stand open.
+            const isNearEnd = path.length < 6 || at === 0 || at > path.length - 3;
+            this.open(isLast || path[at + 1].kind !== 'change' && isNearEnd);
+        }
+        this.wasLast = isLast;
+        this.back.hidden = !(isLast && card.back);
+        if (isLast && card.back) replace(this.back, element('strong', {}, `Back to problem ${card.back.number}: `), code(card.back.pairs.map(pair => pair.join(' → ')).join(', ')));
+        this.comment.hidden = !card.note;
+        this.comment.textContent = card.note || '';
+        this.refuse(null);
+        this.showBranches(isLast);
+    }
+
+    // The card that a refused verdict names; answers the place for more words on why.
+    refuse(verdict) {
+        this.fault.hidden = !verdict;
+        this.node.classList.toggle('failing', Boolean(verdict));
+        if (!verdict) return null;
+        const more = element('div', {});
+        replace(this.fault, element('strong', {}, verdict.line), ` ${verdict.clause}: ${CLAUSES[verdict.clause]}.`, more);
+        return more;
+    }
+
+    showBranches(isLast) {
+        const {workbench, card} = this, next = this.path[this.at + 1];
+        const others = workbench.cards.children(card.id).filter(child => child !== next);
+        replace(this.branches, others.length ? [hint(isLast ? 'Goes on:' : 'Other branches:'),
+            ...others.map(child => button(workbench.nameOf(child), () => workbench.go(child.id), {class: 'link'}))] : []);
+    }
+
+    // ---- Notes below the problem.
+
+    note(...content) {
+        const note = element('div.note', {}, ...content, button('×', () => note.remove(), {class: 'quiet close', 'aria-label': 'close the note'}));
+        this.remarks.prepend(note);
+        return note;
+    }
+
+    noteText(title, text, more = []) {
+        return this.note(element('strong', {}, title), button('Copy', event => copy(text, event.currentTarget), {class: 'link'}), element('pre', {tabIndex: 0}, text.trim() || '(none)'), ...more);
+    }
+
+    complain(text) { this.note(faulty(text)); say(text, true); }
+}

@@ -1,0 +1,116 @@
+// Steps and changes of a problem: commands of the program, and the cards that come of them.
+import {hint} from './dom.js';
+import {mapInput, pairLines, readStep} from './certificates.js';
+import {filledLines} from './texts.js';
+import {SIDES} from './problems.js';
+import {openEditDialog} from './edit_dialog.js';
+import {openMergesDialog} from './merges_dialog.js';
+import {openRenameDialog} from './rename_dialog.js';
+
+// The program reads no more bytes than these.
+const MOST_BYTES = 16777216;
+
+export class Changes {
+    constructor(workbench) { this.workbench = workbench; }
+
+    rename(card, view) { openRenameDialog(this.workbench, card, view); }
+    edit(card, view) { openEditDialog(this.workbench, card, view); }
+    tryMerges(card, view) { openMergesDialog(this.workbench, card, view); }
+
+    // The canonical text of what JavaScript has put together, or null.
+    async canonical(view, text, title) {
+        const answer = text && await this.workbench.ask(view, ['read'], text, title);
+        if (!answer) return null;
+        if (answer.status !== 0) { view.complain(answer.text.trim()); return null; }
+        return answer.text;
+    }
+
+    async step(card, view) {
+        const {workbench} = this, answer = await workbench.ask(view, ['step', '1'], card.problem, `step of problem ${view.number.textContent}`);
+        if (!answer) return;
+        const {meanings, problem} = answer.status === 0 ? readStep(answer.text) : {problem: ''};
+        if (answer.status !== 0 || problem.length > MOST_BYTES) {
+            view.complain(answer.status !== 0 ? answer.text.trim() : 'The derived problem is larger than a text that the program reads.');
+            view.note(hint('Merge labels first (click two of them), or trim: a smaller problem has a smaller derived problem.'));
+            return;
+        }
+        const rows = await workbench.ask(view, ['universal'], card.problem, 'universal rows');
+        if (!rows) return;
+        if (rows.status !== 0) { view.complain(rows.text.trim()); return; }
+        await workbench.append(card, {kind: 'step', problem, meanings, rows: filledLines(rows.text)});
+    }
+
+    async universal(card, view) {
+        const answer = await this.workbench.ask(view, ['universal'], card.problem, 'universal rows');
+        if (!answer) return;
+        const count = filledLines(answer.text).length;
+        if (answer.status !== 0) view.complain(answer.text.trim());
+        else view.noteText(`${count} maximal ${count === 1 ? 'row' : 'rows'} of the passive side`, answer.text);
+    }
+
+    // A relaxation by a map of labels, after `re relax` said yes.
+    async relaxTo(card, problem, pairs, title, written) {
+        const {workbench} = this, view = workbench.view(card);
+        const answer = await workbench.ask(view, ['relax'], mapInput(card.problem, problem, pairLines(pairs)));
+        if (!answer) return null;
+        if (answer.text.trim() !== 'yes') { view.complain(`re relax: ${answer.text.trim()}`); return null; }
+        return workbench.append(card, {kind: 'change', title, problem, relax: Object.fromEntries(pairs), written});
+    }
+
+    async merge(card, view, labels, to) {
+        const pairs = view.facts.problem.labels.map(label => [label, labels.includes(label) ? to : label]);
+        const title = `merged ${labels.filter(label => label !== to).join(', ')} into ${to}`;
+        const text = await this.canonical(view, await this.workbench.work(view, title, 'mapped', card.problem, pairs), title);
+        if (text) await this.relaxTo(card, text, pairs, title);
+    }
+
+    async addArrow(card, view, side, weak, strong) {
+        const title = `${side}: ${strong} may replace ${weak}`;
+        const text = await this.canonical(view, await this.workbench.work(view, title, 'withArrow', card.problem, side, weak, strong), title);
+        if (text) await this.relaxTo(card, text, view.facts.problem.labels.map(label => [label, label]), title);
+    }
+
+    async leaveOut(card, view, labels) {
+        const {workbench} = this, title = `without ${labels.join(', ')}`;
+        const text = await this.canonical(view, await workbench.work(view, title, 'without', card.problem, labels), title);
+        if (!text) return;
+        const left = (await workbench.facts.learn(text)).problem.labels;
+        // Labels that stand in no configuration any more go with them.
+        const gone = view.facts.problem.labels.filter(label => !left.includes(label));
+        await workbench.append(card, {kind: 'change', title: `without ${gone.join(', ')}`, problem: text, restrict: Object.fromEntries(left.map(label => [label, [label]]))});
+    }
+
+    mergeEqual(card, view) { return this.simplify(card, view, 'merge', 'equal labels merged', 'no two labels are equally strong on both sides'); }
+    trim(card, view) { return this.simplify(card, view, 'trim', 'trimmed', 'no label covers another one'); }
+
+    // `re merge` and `re trim` leave the problem as hard as it is; the labels that go have a covering one that stays.
+    async simplify(card, view, word, title, nothing) {
+        const {workbench} = this, answer = await workbench.ask(view, [word], card.problem);
+        if (!answer) return;
+        if (answer.status !== 0) { view.complain(answer.text.trim()); return; }
+        if (answer.text === card.problem) { view.note(hint(`re ${word}: ${nothing}.`)); return; }
+        await Promise.all(SIDES.map(side => view.diagrams[side].learn()));
+        const {labels} = view.facts.problem, left = (await workbench.facts.learn(answer.text)).problem.labels;
+        const covers = (label, by) => SIDES.every(side => view.isStronger(side, label, by));
+        const pairs = labels.map(label => [label, left.includes(label) ? label : left.find(by => covers(label, by))]);
+        const gone = pairs.filter(([from, to]) => from !== to).map(pair => pair.join('→')).join(' ');
+        let relax;
+        if (pairs.every(([, to]) => to)) {
+            const judged = await workbench.ask(view, ['relax'], mapInput(card.problem, answer.text, pairLines(pairs)));
+            if (judged?.text.trim() === 'yes') relax = Object.fromEntries(pairs);
+        }
+        await workbench.append(card, {kind: 'change', title: `${title} (${gone})`, problem: answer.text, relax, restrict: Object.fromEntries(left.map(label => [label, [label]]))});
+    }
+
+    // The same problem under other names, after `re rename` said yes.
+    async renamed(card, view, pairs) {
+        const {workbench} = this, text = await this.canonical(view, await workbench.work(view, 'rename', 'mapped', card.problem, pairs));
+        if (!text) return;
+        const answer = await workbench.ask(view, ['rename'], mapInput(card.problem, text, pairLines(pairs)));
+        if (!answer) return;
+        if (answer.text.trim() !== 'yes') { view.complain(`re rename: ${answer.text.trim()}`); return; }
+        const moved = pairs.filter(([from, to]) => from !== to).map(pair => pair.join('→'));
+        await workbench.append(card, {kind: 'change', title: `renamed ${moved.slice(0, 5).join(' ')}${moved.length > 5 ? ' …' : ''}`, problem: text,
+            relax: Object.fromEntries(pairs), restrict: Object.fromEntries(pairs.map(([from, to]) => [to, [from]]))});
+    }
+}

@@ -1,0 +1,107 @@
+// The bar at the bottom: the line of `re check` on the chain that is shown, and offers to close it as a fixed point.
+import {$, button, code, element, hint, plural, replace} from './dom.js';
+import {kindsOf, numberOf, stagesOf} from './chains.js';
+import {CLAUSES, faultLine, mapInput, pairLines} from './certificates.js';
+import {explain} from './refusals.js';
+import {judge, relation} from './judge.js';
+import {Stopped} from './engine.js';
+
+export class Claim {
+    constructor(workbench) {
+        this.workbench = workbench;
+        this.verdict = null;
+        this.jobs = new Set();
+    }
+
+    get facts() { return this.workbench.facts; }
+
+    // Starts a job for the chain that is shown; it is stopped when another one is shown.
+    async forThis(job) {
+        this.jobs.add(job);
+        try { return await job.answer; } finally { this.jobs.delete(job); }
+    }
+
+    async check(path) {
+        const turn = this.turn = {}, {engine} = this.workbench;
+        this.verdict = null;
+        this.jobs.forEach(job => job.stop());
+        replace($('#verdict'), path.length ? hint('checking…') : '');
+        replace($('#offers'));
+        $('#claim').hidden = !path.length;
+        if (!path.length) return;
+        const check = async (certificate, title) => (await this.forThis(engine.start('re', ['check'], certificate, {quiet: true, title}))).text;
+        let verdict;
+        try { verdict = await judge(check, this.facts, path); } catch (error) {
+            if (turn === this.turn) replace($('#verdict'), hint(error instanceof Stopped ? 'The check was stopped. ' : `${error.message} `), button('Check again', () => this.check(path)));
+            return;
+        }
+        if (turn !== this.turn) return;
+        this.verdict = verdict;
+        this.showVerdict(path, verdict);
+        const views = path.map(card => this.workbench.view(card));
+        views.forEach(view => view.fillWritten());
+        if (verdict.accepted) this.showRelation(path, turn);
+        if (verdict.refused) this.showRefusal(path, turn, verdict);
+        this.offer(path, turn).catch(() => {});
+    }
+
+    showVerdict(path, verdict) {
+        const {accepted, kind, line, refused, clause, certificate} = verdict, stages = stagesOf(path);
+        $('#algorithm').hidden = !(accepted && kind === 'upper');
+        $('#claim').className = accepted ? 'accepted' : kind ? 'refused' : 'none';
+        if (!kind) { replace($('#verdict'), element('span', {}, 'This chain has relaxations and restrictions, so it is neither a lower nor an upper bound.')); return; }
+        const about = `${plural(stages.length - 1, 'step')} from problem ${numberOf(path, stages[0].at(-1))}`, fault = faultLine(line);
+        replace($('#verdict'), element('span.line', {id: 'verdict-line'}, line), hint(` re check, ${kind === 'fixed' ? 'fixed point' : `${kind} bound`}, ${about}`),
+            fault ? code(` “${certificate.split('\n')[fault - 1]}”`) : null,
+            refused ? hint(` ${clause}: ${CLAUSES[clause]}`) : null);
+    }
+
+    // Where the first problem was changed before the first step: how the certificate's problem is related to it.
+    async showRelation(path, turn) {
+        const found = await relation(this.workbench.engine, this.facts, path).catch(() => null);
+        if (!found || turn !== this.turn) return;
+        const {from, to, isYes, line} = found;
+        $('#verdict').append(element('div.hint', {}, `re relax: ${line}: problem ${numberOf(path, to)} ${isYes ? 'is' : 'is not, by this map,'} a relaxation of problem ${numberOf(path, from)}.`));
+    }
+
+    async showRefusal(path, turn, verdict) {
+        const failing = verdict.step ? stagesOf(path)[verdict.step]?.[0] : path.at(-1);
+        const more = this.workbench.view(failing).refuse(verdict);
+        const lines = await explain(this.workbench.engine, this.facts, path, verdict).catch(() => []);
+        if (turn === this.turn) replace(more, lines.map(line => element('div', {}, line)));
+    }
+
+    // Offers to close the chain, where its last problem is an earlier one under other names, or goes to it by a map.
+    async offer(path, turn) {
+        const {cards, engine} = this.workbench, last = path.at(-1), box = $('#offers');
+        if (last.back) { replace(box, button('Open the fixed point again', () => cards.amend(last.id, {back: undefined}))); return; }
+        const targets = kindsOf(path).includes('lower') ? stagesOf(path).slice(0, -1).map(stage => stage.at(-1)) : [];
+        for (const [number, target] of targets.entries()) {
+            const pairs = await this.forThis(engine.startWork('findRenaming', [last.problem, target.problem]));
+            if (turn !== this.turn) return;
+            if (!pairs) continue;
+            const {text} = await engine.ask('re', ['rename'], mapInput(last.problem, target.problem, pairLines(pairs)), {quiet: true});
+            if (turn !== this.turn || text.trim() !== 'yes') return;
+            box.append(button(`Problem ${numberOf(path, last)} is problem ${numberOf(path, target)} under other names: close as a fixed point`,
+                () => cards.amend(last.id, {back: {number, pairs}}), {class: 'primary', title: `re rename: yes. ${pairs.map(pair => pair.join(' → ')).join(', ')}`}));
+            return;
+        }
+        // No renaming: a relaxation to an earlier problem may close the chain as well.
+        for (const target of targets) if (await this.offerRelaxation(path, target, turn)) return;
+    }
+
+    // Answers whether a map was found that `re relax` says yes to, or another chain is shown.
+    async offerRelaxation(path, target, turn) {
+        const {engine, changes} = this.workbench, last = path.at(-1);
+        const pairs = await this.forThis(engine.startWork('findRelaxation', [last.problem, target.problem, 50000]));
+        if (turn !== this.turn) return true;
+        if (!pairs) return false;
+        const {text} = await engine.ask('re', ['relax'], mapInput(last.problem, target.problem, pairLines(pairs)), {quiet: true});
+        if (turn !== this.turn) return true;
+        if (text.trim() !== 'yes') return false;
+        const shown = pairs.map(([from, image]) => `${from}→${image}`);
+        $('#offers').append(button(`Relax problem ${numberOf(path, last)} to problem ${numberOf(path, target)}: ${shown.slice(0, 6).join(' ')}${shown.length > 6 ? ' …' : ''}`,
+            () => changes.relaxTo(last, target.problem, pairs, `relaxed to problem ${numberOf(path, target)}`, target.written), {title: 're relax: yes. This leads back to the earlier problem.'}));
+        return true;
+    }
+}

@@ -1,0 +1,73 @@
+// Small helpers to build the page. Texts become text nodes and attributes alone, never markup.
+
+export const $ = selector => document.querySelector(selector);
+
+const present = children => children.flat().filter(child => child !== null && child !== undefined && child !== false);
+
+function setValues(node, values) {
+    for (const [key, value] of Object.entries(values)) {
+        if (value === undefined || value === null || value === false) continue;
+        if (key.startsWith('on')) node.addEventListener(key.slice(2), value);
+        else if (key in node && key !== 'list' && typeof value !== 'string') node[key] = value;
+        else node.setAttribute(key, value === true ? '' : value);
+    }
+    return node;
+}
+
+// element('button.primary', {onclick, title}, children..)
+export function element(kind, values = {}, ...children) {
+    const [tag, ...classes] = kind.split('.');
+    const node = document.createElement(tag);
+    if (classes.length) node.className = classes.join(' ');
+    setValues(node, values).append(...present(children));
+    return node;
+}
+
+export const button = (text, onclick, values = {}) => element('button', {type: 'button', onclick, ...values}, text);
+export const hint = (...children) => element('span.hint', {}, ...children);
+export const code = (...children) => element('span.code', {}, ...children);
+export const faulty = (...children) => element('span.faulty', {}, ...children);
+
+export function replace(node, ...children) {
+    node.replaceChildren(...present(children));
+    return node;
+}
+
+export function download(name, text, type = 'text/plain') {
+    const url = URL.createObjectURL(new Blob([text], {type}));
+    const link = element('a', {href: url, download: name});
+    document.body.append(link);
+    link.click();
+    link.remove();
+    setTimeout(() => URL.revokeObjectURL(url), 10000);
+}
+
+export async function copy(text, from) {
+    try {
+        await navigator.clipboard.writeText(text);
+    } catch {
+        // Pages from a disk may have no clipboard of their own.
+        const area = element('textarea', {class: 'offscreen'});
+        (document.querySelector('dialog[open]') || document.body).append(area);
+        area.value = text;
+        area.select();
+        document.execCommand('copy');
+        area.remove();
+    }
+    say('Copied.');
+    from?.focus();
+}
+
+// A short message, which screen readers read too.
+let messageTimer = 0;
+export function say(text, isFault = false) {
+    const box = $('#message');
+    box.textContent = text;
+    box.className = isFault ? 'shown fault' : 'shown';
+    clearTimeout(messageTimer);
+    messageTimer = setTimeout(() => { box.className = ''; }, isFault ? 8000 : 3000);
+}
+
+export const plural = (n, one, many = one + 's') => `${n.toLocaleString('en')} ${n === 1 ? one : many}`;
+export const seconds = ms => ms < 10000 ? `${(ms / 1000).toFixed(1)} s` : ms < 60000 ? `${Math.round(ms / 1000)} s` : `${Math.floor(ms / 60000)} min ${Math.round(ms / 1000) % 60} s`;
+export const cut = (text, most) => text.length > most ? text.slice(0, most) + '…' : text;

@@ -1,0 +1,111 @@
+// Free edits of a problem: a relaxation (a map of labels, or an image of each configuration) or a restriction.
+import {button, element, faulty, hint, replace} from './dom.js';
+import {Editor} from './editor.js';
+import {openWideDialog} from './dialogs.js';
+import {describe, sideText} from './problems.js';
+import {faultLine, mapInput, pairLines} from './certificates.js';
+import {filledLines, itemsOf, labelsIn, setText, sortedSet} from './texts.js';
+import {writtenText} from './judge.js';
+
+const MODES = {
+    relax: {name: 'Relaxation, by labels', help: 'For lower bounds. One line for each label: the label and the label it becomes.'},
+    rows: {name: 'Relaxation, by rows', help: 'For lower bounds. One line for each active configuration: it, then | and its image, place by place.'},
+    restrict: {name: 'Restriction', help: 'For upper bounds. One line for each label of the new problem: the label and the set of labels of this problem it stands for.'},
+};
+
+// A first guess of the map from the lines that stand there; `to` are the labels of the new problem.
+function guessedMap(mode, problem, canonical, to, lines) {
+    if (mode === 'rows') return filledLines(sideText(canonical, 'active')).map(line => `${line} | ${line}`);
+    if (mode === 'restrict') return (to || problem.labels).map(label => `${label} ${problem.labels.includes(label) ? setText([label]) : '[]'}`);
+    const has = label => !to || to.includes(label), known = new Map(lines.map(labelsIn).filter(pair => pair.length === 2));
+    return problem.labels.map(label => `${label} ${known.has(label) && has(known.get(label)) ? known.get(label) : has(label) ? label : to[0]}`);
+}
+
+// The map as a card keeps it, or null where it has no such form.
+function readMap(mode, lines, degree) {
+    if (mode === 'relax') {
+        const pairs = lines.map(labelsIn);
+        return pairs.every(pair => pair.length === 2) ? {relax: Object.fromEntries(pairs)} : null;
+    }
+    if (mode === 'restrict') {
+        const entries = lines.map(itemsOf);
+        return entries.every(items => items?.length === 2) ? {restrict: Object.fromEntries(entries.map(([label, set]) => [label.labels[0], sortedSet(set.labels)]))} : null;
+    }
+    const labelsOf = text => itemsOf(text)?.flatMap(item => Array(item.power).fill(item.labels[0]));
+    const images = lines.map(line => line.split('|').map(labelsOf));
+    return images.every(pair => pair.length === 2 && pair.every(labels => labels?.length === degree)) ? {images} : null;
+}
+
+export async function openEditDialog(bench, card, view) {
+    if (view.facts.isLarge) { view.complain('The problem is too large to be edited: merge labels first.'); return; }
+    const dialog = new EditDialog(bench, card, view);
+    await dialog.editor.setText(await writtenText(bench.facts, card));
+}
+
+class EditDialog {
+    constructor(bench, card, view) {
+        Object.assign(this, {bench, card, view, mode: 'relax', isTouched: false, problem: view.facts.problem});
+        this.map = element('textarea', {rows: 8, spellcheck: false, 'aria-label': 'map', oninput: () => { this.isTouched = true; this.judge(); }});
+        this.help = element('span', {});
+        this.state = element('div.state', {role: 'status'});
+        this.editor = new Editor(bench.engine, {onRead: () => this.isTouched ? this.judge() : this.suggest()});
+        this.find = button('Find a map', () => this.findMap(), {title: 'look for a map of labels that makes the new problem a relaxation of this one'});
+        this.apply = button('Make the card', () => this.make(), {class: 'primary', disabled: true});
+        this.dialog = openWideDialog(`Edit problem ${view.number.textContent}`,
+            element('div.columns', {}, this.editor.node, element('div.map', {}, element('div.group', {role: 'radiogroup', 'aria-label': 'kind of edit'}, this.radios()), hint(this.help), this.map)),
+            this.state, element('footer', {}, this.apply, this.find));
+    }
+
+    radios() {
+        const isBehindStep = this.bench.cards.path(this.card.id).at(-1).kind === 'step';
+        return Object.entries(MODES).filter(([mode]) => mode !== 'rows' || isBehindStep).map(([mode, {name}]) => element('label.radio', {},
+            element('input', {type: 'radio', name: 'mode', value: mode, checked: mode === this.mode, onchange: () => { Object.assign(this, {mode, isTouched: false}); this.suggest(); }}), name));
+    }
+
+    get lines() { return filledLines(this.map.value); }
+
+    suggest() {
+        replace(this.help, MODES[this.mode].help);
+        const to = this.editor.problem && describe(this.editor.problem).labels;
+        this.map.value = guessedMap(this.mode, this.problem, this.card.problem, to, this.lines).join('\n');
+        this.judge();
+    }
+
+    async judge() {
+        const turn = this.turn = {}, {mode, editor, lines} = this;
+        this.apply.disabled = true;
+        this.find.hidden = mode !== 'relax';
+        if (!editor.problem) { replace(this.state, hint('The new problem has a fault.')); return; }
+        if (!readMap(mode, lines, this.problem.active.degree)) { replace(this.state, faulty('The map has a line of another form.')); return; }
+        if (mode !== 'relax') { replace(this.state, hint('re check judges the map with the step, on the card.')); this.apply.disabled = false; return; }
+        const text = mapInput(this.card.problem, editor.problem, lines);
+        const answer = await this.bench.engine.ask('re', ['relax'], text, {quiet: true}).catch(error => ({text: error.message}));
+        if (turn !== this.turn) return;
+        const isYes = answer.text.trim() === 'yes', line = faultLine(answer.text), offset = text.split('\n').indexOf('== map') + 1;
+        replace(this.state, isYes ? element('span.good', {}, 're relax: yes') : faulty(`re relax: ${line ? `map line ${line - offset}: ${answer.text.trim().replace(/.*: /, '')}` : answer.text.trim()}`));
+        this.apply.disabled = !isYes;
+    }
+
+    async findMap() {
+        if (!await this.editor.read()) return;
+        const job = this.bench.engine.startWork('findRelaxation', [this.card.problem, this.editor.problem, 2000000], {title: 'find a map', quiet: false});
+        replace(this.state, hint('looking for a map… '), button('Stop', () => job.stop()));
+        this.dialog.addEventListener('close', () => job.stop());
+        const pairs = await job.answer.catch(() => null);
+        if (!pairs) { replace(this.state, faulty('No map of labels was found.')); return; }
+        this.isTouched = true;
+        this.map.value = pairLines(pairs).join('\n');
+        this.judge();
+    }
+
+    async make() {
+        // What was typed last may not be read yet.
+        if (!await this.editor.read()) return;
+        const {mode, bench, card, editor} = this, map = readMap(mode, this.lines, this.problem.active.degree);
+        if (!map) { this.judge(); return; }
+        const {problem, written} = {problem: editor.problem, written: editor.written};
+        this.dialog.close();
+        if (mode === 'relax') await bench.changes.relaxTo(card, problem, this.lines.map(labelsIn), 'relaxed', written);
+        else await bench.append(card, {kind: 'change', title: mode === 'rows' ? 'relaxed by rows' : 'restricted', problem, written, ...map});
+    }
+}

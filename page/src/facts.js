@@ -1,0 +1,106 @@
+// What the program says of a problem, asked once for each canonical text.
+import {blockOf, problemText, SIDES, sideText} from './problems.js';
+import {textWithRowsOf} from './groups.js';
+import {filledLines, labelsIn} from './texts.js';
+
+// Past so many configurations diagrams are asked for by a button, and past so many a problem isn't written in groups.
+const MANY = 20000, MOST_GROUPED = 200000, GROUPING_LIMIT = 10000, ROWS_LIMIT = 3000;
+
+export class Facts {
+    constructor(engine) { this.engine = engine; this.known = new Map(); }
+
+    // What is known of a problem, once its labels and numbers are counted.
+    async learn(text) {
+        let facts = this.known.get(text);
+        if (!facts) {
+            facts = new ProblemFacts(this.engine, text, await this.engine.work('describe', text));
+            this.known.set(text, facts);
+        }
+        return facts;
+    }
+
+    // The same of a problem that was learned, as that of each card.
+    of(text) { return this.known.get(text); }
+}
+
+class ProblemFacts {
+    // `problem` is {labels, active: {degree, count}, passive: {degree, count}}.
+    constructor(engine, text, problem) {
+        Object.assign(this, {engine, text, problem, asked: new Map()});
+        this.count = problem.active.count + problem.passive.count;
+        this.isLarge = this.count > MANY;
+    }
+
+    once(key, ask) {
+        if (!this.asked.has(key)) {
+            const answer = ask();
+            this.asked.set(key, answer);
+            answer.catch(() => this.asked.delete(key));
+        }
+        return this.asked.get(key);
+    }
+
+    ask(...words) { return this.once(words.join(' '), () => this.engine.ask('re', words, this.text, {quiet: true})); }
+
+    // {isSolvable, config, text}: the zero-round verdict.
+    zero() {
+        return this.once('verdict of zero', async () => {
+            const {status, text} = await this.ask('zero');
+            if (status > 1) throw new Error(text.trim());
+            return {isSolvable: status === 0, config: text.replace(/^yes: /, '').trim(), text: text.trim()};
+        });
+    }
+
+    // {classes: [[label]], edges: [[weaker, stronger]]} by the least labels of the classes.
+    diagram(side) {
+        return this.once(`drawn ${side}`, async () => {
+            const {status, text} = await this.ask('diagram', side), classes = [], edges = [];
+            if (status !== 0) throw new Error(text.trim());
+            for (const line of filledLines(text)) (line.startsWith('class ') ? classes : edges).push(labelsIn(line.slice(line.indexOf(' ') + 1)));
+            return {classes, edges};
+        });
+    }
+
+    // The maximal rows, or null where they pass a limit.
+    async rows() { const {status, text} = await this.ask('universal'); return status === 0 ? filledLines(text) : null; }
+
+    // Both sides one configuration a line: {active, passive, text}, the sides as blocks of lines.
+    plain() {
+        const block = side => ({text: sideText(this.text, side), count: this.problem[side].count});
+        return {active: block('active'), passive: block('passive'), text: this.text};
+    }
+
+    // The same in groups, by the simple rule.
+    async grouped() {
+        if (this.count > MOST_GROUPED) return this.plain();
+        return this.once('grouped', async () => this.sameProblem(await this.engine.startWork('grouped', [this.text], {limit: GROUPING_LIMIT, title: 'groups'}).answer));
+    }
+
+    // The same in fewer lines: the maximal rows of a side spell exactly its configurations, and a few of them are often enough.
+    async condensed() {
+        if (this.isLarge) return this.grouped();
+        return this.once('condensed', async () => {
+            const {active, passive} = await this.grouped(), blocks = {active, passive};
+            for (const side of SIDES) {
+                const few = blocks[side].count < 3 ? null : await this.fewRows(side).catch(() => null);
+                if (few && few.length < blocks[side].count) blocks[side] = blockOf(few);
+            }
+            return this.sameProblem(blocks);
+        });
+    }
+
+    async fewRows(side) {
+        const {status, text} = await this.engine.ask('re', ['universal'], textWithRowsOf(this.text, side), {quiet: true, limit: ROWS_LIMIT, title: 'groups'});
+        return status === 0 ? this.engine.startWork('coveringLines', [this.text, side, text], {limit: ROWS_LIMIT, title: 'groups'}).answer : null;
+    }
+
+    // What certificates and copies hold: short texts, without a long wait.
+    written() { return this.count > 400 ? this.grouped() : this.condensed(); }
+
+    // Groups are used only where `re read` says that they spell this very problem.
+    async sameProblem({active, passive}) {
+        const text = problemText(this.problem, active, passive);
+        const read = await this.engine.ask('re', ['read'], text, {quiet: true});
+        return read.text === this.text ? {active, passive, text} : this.plain();
+    }
+}

@@ -1,0 +1,47 @@
+// The verdict of `re check` on the chain of cards.
+import {certificateOf, kindsOf, stagesOf} from './chains.js';
+import {mapInput, readVerdict} from './certificates.js';
+import {blockOf, problemText} from './problems.js';
+
+// The text of a card's problem in a certificate: as it was written, or in groups, or one configuration a line.
+export async function writtenText(facts, card) {
+    const known = facts.of(card.problem);
+    if (card.written) return problemText(known.problem, blockOf(card.written.active), blockOf(card.written.passive));
+    return known.written().then(({text}) => text, () => card.problem);
+}
+
+// The first accepted bound of the chain, or the last refused one: {kind, certificate, line, accepted, refused, step, clause}.
+// `check(text, title)` answers what `re check` prints.
+export async function judge(check, facts, path) {
+    const last = stagesOf(path).map(stage => stage.at(-1));
+    const texts = new Map(await Promise.all(last.map(async card => [card, await writtenText(facts, card)])));
+    const kinds = path.at(-1).back ? kindsOf(path).filter(kind => kind === 'lower').map(() => 'fixed') : kindsOf(path);
+    const verdicts = [];
+    for (const kind of kinds) {
+        const certificate = certificateOf(path, kind, card => texts.get(card));
+        const verdict = {kind, certificate, ...readVerdict(await check(certificate, `check, ${kind}`))};
+        if (verdict.accepted) return verdict;
+        verdicts.push(verdict);
+    }
+    // A chain that is of both kinds is refused at END alone, so it is never refused twice.
+    return verdicts.find(verdict => verdict.step || !verdict.refused) || verdicts[0] || {kind: null, certificate: '', line: '', accepted: false, refused: false};
+}
+
+// How the problem that a certificate begins with is related to the first card, asked of `re relax`: {from, to, isYes, line};
+// null where it is this card.
+export async function relation(engine, facts, path) {
+    const [first, ...changes] = stagesOf(path)[0], last = changes.at(-1);
+    if (!last) return null;
+    const labelsOf = card => facts.of(card.problem).problem.labels;
+    let from = first, to = last, map = new Map(labelsOf(first).map(label => [label, label]));
+    if (changes.every(change => change.relax)) {
+        for (const {relax} of changes) map = new Map([...map].map(([label, image]) => [label, relax[image] ?? image]));
+    } else {
+        // A restriction to some labels: the first problem is a relaxation of it.
+        if (!changes.every(change => change.restrict && Object.values(change.restrict).every(set => set.length === 1))) return null;
+        [from, to] = [last, first];
+        map = new Map(labelsOf(last).map(label => [label, changes.reduceRight((at, {restrict}) => restrict[at]?.[0] ?? at, label)]));
+    }
+    const {text} = await engine.ask('re', ['relax'], mapInput(from.problem, to.problem, [...map].map(pair => pair.join(' '))), {quiet: true});
+    return {from, to, isYes: text.trim() === 'yes', line: text.trim()};
+}

@@ -1,0 +1,111 @@
+// Texts that come in (problems, certificates, sessions), and the session that goes out: in the address, or as a file.
+import {$, button, download, element, faulty, replace, say} from './dom.js';
+import {faultLine} from './certificates.js';
+import {isSession} from './sessions.js';
+import {blockOf, problemText} from './problems.js';
+import {blocksOf} from './texts.js';
+
+// An address holds so many characters of a packed session; what is larger isn't packed at all.
+const MOST_PACKED = 1000000, MOST_TEXT = 8000000, MOST_WRITTEN = 300;
+
+// The lines of a problem text, as its author wrote them, where they are no more than a person reads.
+function writtenOf(text) {
+    const [active = [], passive = []] = blocksOf(text), without = lines => lines.filter(line => !line.startsWith('%'));
+    return active.length + passive.length < MOST_WRITTEN ? {active: without(active), passive: without(passive)} : undefined;
+}
+
+export class Sessions {
+    constructor(workbench) { this.workbench = workbench; }
+
+    get engine() { return this.workbench.engine; }
+
+    // ---- Texts that come in. A fault is answered as {fault, line}, nothing where all went well.
+
+    async openText(text, title) {
+        try {
+            if (isSession(text)) await this.openSession(text);
+            else if (/^==/m.test(text)) return await this.openCertificate(text, title);
+            else return await this.openProblem(text, title);
+            return null;
+        } catch (error) { return {fault: error.message}; }
+    }
+
+    async openProblem(text, title) {
+        const {status, text: answer} = await this.engine.ask('re', ['read'], text);
+        if (status !== 0) return {fault: answer.trim(), line: faultLine(answer)};
+        await this.workbench.append(null, {kind: 'first', problem: answer, written: writtenOf(text), title});
+        return null;
+    }
+
+    async openCertificate(text, title = 'certificate') {
+        const {engine, workbench} = this, alone = await engine.work('certificateAlone', text);
+        const {status, text: answer} = await engine.ask('re', ['check'], alone);
+        if (status > 1) return {fault: answer.trim(), line: faultLine(answer)};
+        const {kind, first} = await engine.work('readCertificate', alone), problem = await engine.ask('re', ['read'], first, {quiet: true});
+        await workbench.append(null, {kind: 'first', problem: problem.text, written: writtenOf(first), title, side: kind === 'upper' ? 'upper' : 'lower'},
+            ...await workbench.searches.cardsOf(alone, 0, undefined, writtenOf));
+        return null;
+    }
+
+    async openSession(text) {
+        const state = await this.engine.work('readSession', text);
+        await this.examine(state.cards);
+        this.workbench.cards.replaceAll(state);
+    }
+
+    // A session is a foreign text: the problems of its cards are read anew, and what was written has to be the same problem.
+    async examine(cards) {
+        const read = async text => (await this.engine.ask('re', ['read'], text, {quiet: true})).text;
+        await Promise.all(cards.map(async (card, i) => {
+            if (await read(card.problem) !== card.problem) throw new Error(`card ${i + 1} of the session: its problem is no canonical text`);
+            const {problem} = await this.workbench.facts.learn(card.problem);
+            if (card.written && await read(problemText(problem, blockOf(card.written.active), blockOf(card.written.passive))) !== card.problem) throw new Error(`card ${i + 1} of the session: what was written is another problem`);
+        }));
+    }
+
+    // ---- The session that goes out.
+
+    // The address holds the session, packed, so that a bookmark or a reload brings it back.
+    async save() {
+        const turn = this.turn = {}, {cards} = this.workbench.cards;
+        if (!cards.length) { if (location.hash && !this.isUnread) history.replaceState(null, '', location.pathname + location.search); return; }
+        const size = cards.reduce((sum, card) => sum + card.problem.length, 0);
+        const packed = size < MOST_TEXT ? await this.engine.work('packSession', this.workbench.cards.state).catch(() => null) : null;
+        if (turn !== this.turn) return;
+        if (!packed || packed.length > MOST_PACKED) {
+            if (!this.isTooLarge) say('The session is too large for the address; Save keeps it.');
+            this.isTooLarge = true;
+            return;
+        }
+        // An address that couldn't be read stays behind this one.
+        if (this.isUnread) history.pushState(null, '', `#s=${packed}`);
+        else history.replaceState(null, '', `#s=${packed}`);
+        this.isUnread = false;
+    }
+
+    async saveFile() { download('re-session.json', await this.engine.work('sessionText', this.workbench.cards.state), 'application/json'); }
+
+    // Answers whether the address holds a session that was read.
+    async load() {
+        const found = /^#s=(.+)/.exec(location.hash);
+        if (!found) return false;
+        let text = found[1];
+        try {
+            text = await this.engine.work('unpackSession', found[1]);
+            await this.openSession(text);
+            return true;
+        } catch (error) {
+            this.isUnread = true;
+            this.tellUnread(`The session in the address can't be read: ${error.message}.`, text);
+            return false;
+        }
+    }
+
+    // Nothing is lost: the address stays, and what it holds can be kept as a file.
+    tellUnread(fault, text) {
+        say(fault, true);
+        replace($('#unread'), faulty(fault), ' ', button('Keep what it holds as a file', () => download('session-that-was-not-read.txt', text)), ' ',
+            button('×', () => { $('#unread').hidden = true; }, {class: 'quiet close', 'aria-label': 'close'}), element('div.hint', {}, 'The address stays in the history of the browser.'));
+        $('#unread').hidden = false;
+    }
+}

@@ -1,0 +1,38 @@
+// A worker: runs the programs, and the page's own work on texts that may be large. The page sends the programs first.
+import {runProgram} from './program.js';
+import {describe, lineStarts, mapped, notActive, without, withArrow} from './problems.js';
+import {coveringLines, grouped} from './groups.js';
+import {findRelaxation, findRenaming} from './maps.js';
+import {layout} from './layout.js';
+import {packSession, readSession, sessionText, unpackSession} from './sessions.js';
+import {certificateAlone, readCertificate} from './certificates.js';
+
+const WORK = {describe, lineStarts, mapped, notActive, without, withArrow, grouped, coveringLines, findRelaxation, findRenaming, layout,
+    packSession, readSession, sessionText, unpackSession, certificateAlone, readCertificate};
+const modules = new Map();
+// Settled once this worker is ready for jobs.
+let ready = Promise.resolve();
+
+// Holds a lock as long as this worker lives, where the browser has locks for this page, so that the page is told when it is gone.
+function hold(name) {
+    return new Promise(resolve => {
+        const held = () => { self.postMessage({holds: name}); resolve(); return new Promise(() => {}); };
+        if (self.navigator?.locks) navigator.locks.request(name, held).catch(resolve);
+        else resolve();
+    });
+}
+
+async function answer({program, words, input, work, args}) {
+    if (work) return {value: await WORK[work](...args)};
+    return runProgram(modules.get(program), program, words, input);
+}
+
+self.onmessage = async ({data}) => {
+    if (data.programs) {
+        for (const [name, program] of Object.entries(data.programs)) modules.set(name, program instanceof WebAssembly.Module ? program : new WebAssembly.Module(program));
+        ready = hold(data.lifeline);
+        return;
+    }
+    await ready;
+    try { self.postMessage(await answer(data)); } catch (error) { self.postMessage({failure: error.message || String(error)}); }
+};

@@ -1,0 +1,164 @@
+// Names of controls, contrast, and the keyboard alone.
+import {openBrowser, wait} from './browser.mjs';
+import {answer, example} from './place.mjs';
+import {Tally} from './tally.mjs';
+import {cardsAre, drawn, User} from './user.mjs';
+
+const tally = new Tally('access');
+
+// Runs in the page: what is at fault in what is shown now.
+function faultsShown() {
+    const numbers = text => (text.match(/[\d.]+/g) || []).map(Number);
+    const over = (top, under) => { const a = top[3] ?? 1; return [0, 1, 2].map(i => top[i] * a + under[i] * (1 - a)); };
+    const light = c => { const [r, g, b] = c.map(v => { v /= 255; return v <= .03928 ? v / 12.92 : ((v + .055) / 1.055) ** 2.4; }); return .2126 * r + .7152 * g + .0722 * b; };
+    const contrast = (a, b) => { const [x, y] = [light(a), light(b)].sort((p, q) => q - p); return (x + .05) / (y + .05); };
+    const ground = node => {
+        const stack = [];
+        for (let n = node; n; n = n.parentElement) { const c = numbers(getComputedStyle(n).backgroundColor); if ((c[3] ?? 1) > 0) { stack.push(c); if ((c[3] ?? 1) === 1) break; } }
+        return stack.reverse().reduce((under, c) => over(c, under), [255, 255, 255]);
+    };
+    const isShown = node => node.getClientRects().length && getComputedStyle(node).visibility === 'visible';
+    const faults = new Set(), say = (node, what) => faults.add(`${what}: ${node.outerHTML.slice(0, 90)}`);
+    for (const node of document.querySelectorAll('button, a, input, select, textarea, summary, [tabindex="0"]')) {
+        if (!isShown(node)) continue;
+        const name = node.getAttribute('aria-label') || node.labels?.[0]?.textContent || node.textContent;
+        if (!name.trim()) say(node, 'no name');
+        if (node.tabIndex > 0) say(node, 'its own place in the order');
+    }
+    for (const node of document.querySelectorAll('input:not([type=checkbox]):not([type=radio]):not([type=file]), select, button:not(.link):not(.quiet):not(.toggle):not(.primary)')) {
+        if (!isShown(node) || node.disabled || node.closest('.area, .menu > div')) continue;
+        const edge = numbers(getComputedStyle(node).borderTopColor), ratio = contrast(over(edge, ground(node)), ground(node.parentElement));
+        if (ratio < 3) say(node, `edge ${ratio.toFixed(2)}`);
+    }
+    for (const node of document.querySelectorAll('body *')) {
+        if (!isShown(node) || node.closest('svg, script, template, :disabled, .caret, [aria-hidden=true]')) continue;
+        if (![...node.childNodes].some(child => child.nodeType === 3 && child.textContent.trim())) continue;
+        const style = getComputedStyle(node), ratio = contrast(over(numbers(style.color), ground(node)), ground(node));
+        if (style.opacity !== '0' && ratio < 4.5) say(node, `contrast ${ratio.toFixed(2)}`);
+    }
+    for (const node of document.querySelectorAll('svg text')) {
+        const ratio = contrast(numbers(getComputedStyle(node).fill), ground(node.closest('figure, dialog, .card')));
+        if (isShown(node) && !node.closest('.picked') && ratio < 4.5) say(node, `contrast ${ratio.toFixed(2)}`);
+    }
+    const ids = [...document.querySelectorAll('[id]')].map(node => node.id);
+    ids.filter((id, i) => ids.indexOf(id) !== i).forEach(id => faults.add(`twice: ${id}`));
+    for (const image of document.querySelectorAll('svg[role=img]')) if (!image.querySelector('title')?.textContent) say(image, 'no title');
+    if (!document.documentElement.lang || !document.title) faults.add('no language or title');
+    return [...faults];
+}
+
+async function look(page, user, theme) {
+    const faults = async where => tally.equal(`${theme}, ${where}`, await page.value(`(${faultsShown})()`), []);
+    await page.go();
+    await faults('the empty page');
+    await user.openText(example('colouring-refused.txt'));
+    await page.until(`document.querySelector('.card.failing .fault div div') && ${drawn}`);
+    await user.select('A');
+    await faults('a refused chain, a label selected');
+    await page.hover('.card.last .chip', 'B');
+    await faults('a tip');
+    await user.act('Universal rows');
+    await page.until(`document.querySelector('.card.last .note')`);
+    await page.click('.card.last .menu summary');
+    await faults('a note, a menu');
+    for (const [key, what] of [['e', 'edit'], ['r', 'rename'], ['t', 'merges'], ['x', 'certificate'], ['o', 'open'], ['?', 'help']]) {
+        await page.value(`document.querySelector('.card.last').focus()`);
+        await page.key(key);
+        await page.until('document.querySelector("dialog")');
+        await wait(300);
+        await faults(what);
+        await page.key('Escape');
+        await page.until('!document.querySelector("dialog")');
+    }
+    await page.choose('#gallery', 'orientation 3 upper');
+    await page.until(`!document.querySelector('#algorithm').hidden`);
+    await page.click('#algorithm');
+    await page.until(`document.querySelector('dialog svg.run')`);
+    await faults('an algorithm');
+    await page.key('Escape');
+    await page.fill('#editor textarea', 'A PO', 0);
+    await page.until(`document.querySelector('#editor .state .faulty')`);
+    await faults('a fault in the editor');
+}
+
+for (const dark of [false, true]) {
+    const page = await openBrowser({dark});
+    await tally.run(dark ? 'dark' : 'light', () => look(page, new User(page, tally), dark ? 'dark' : 'light'));
+    tally.equal('no fault in the console', page.faults(), []);
+    await page.close();
+}
+
+// The keyboard alone: Tab goes to what is asked for, and no mouse moves.
+async function keyboard(page) {
+    const at = `(document.activeElement.getAttribute('aria-label') || document.activeElement.textContent).trim()`;
+    const tabTo = async (name, within = 'body') => {
+        for (let i = 0; i < 120; i++) {
+            await page.key('Tab');
+            if (await page.value(`${at} === ${JSON.stringify(name)} && Boolean(document.activeElement.closest(${JSON.stringify(within)}))`)) {
+                const seen = await page.value(`(() => { const box = document.activeElement.getBoundingClientRect(); return document.activeElement.matches(':focus-visible') && box.top >= 0 && box.bottom <= innerHeight; })()`);
+                if (!seen) tally.check(`${name} is seen when it has the focus`, seen);
+                return;
+            }
+        }
+        throw new Error(`Tab does not come to ${name}`);
+    };
+    await page.go();
+    await tabTo('active constraint');
+    await page.write('M^3\nP O^2');
+    await page.key('Tab');
+    tally.equal('the passive one is next', await page.value(at), 'passive constraint');
+    await page.write('M [PO]\nO^2');
+    await page.key('Enter', {modifiers: 2});
+    await page.until(`${cardsAre(1)} && ${drawn}`);
+    tally.check('the card has the focus', await page.value(`document.activeElement.matches('.card')`));
+    await tabTo('Step', '.card.last');
+    await page.key('Enter');
+    await page.until(`${cardsAre(2)} && ${drawn}`);
+    await tabTo('A', '.card.last');
+    await page.key(' ');
+    await tabTo('C', '.card.last');
+    tally.check('a label with the focus is explained', (await page.until(`!document.querySelector('#tip').hidden && document.querySelector('#tip').textContent`)).includes('[MO]'));
+    await page.key(' ');
+    await tabTo('Merge into C', '.card.last');
+    await page.key('Enter');
+    await page.until(`${cardsAre(3)} && ${drawn}`);
+    const line = await page.until(`document.querySelector('#verdict-line')?.textContent`);
+    tally.equal('the merge is judged', answer(['check'], await page.value('bench.claim.verdict.certificate')).trim(), line);
+    await page.key('z', {modifiers: 2});
+    await page.until(cardsAre(2));
+    await page.key('k');
+    await page.key('k');
+    tally.check('k goes up', await page.value(`document.activeElement === document.querySelector('.card')`));
+    await page.key('j');
+    await tabTo('More', '.card.last');
+    await page.key('Enter');
+    await page.key('Tab');
+    tally.equal('into the menu', await page.value(at), 'Copy, one configuration a line');
+    await page.key('Escape');
+    tally.equal('and out of it', await page.value(at), 'More');
+    await tabTo('Certificate');
+    await page.key('Enter');
+    await page.until('document.querySelector("dialog")');
+    tally.equal('in the window', await page.value(at), 'Copy');
+    for (let i = 0; i < 8; i++) await page.key('Tab');
+    tally.check('the window keeps the focus', await page.value(`document.activeElement === document.body || Boolean(document.activeElement.closest('dialog'))`));
+    await page.key('Escape');
+    await page.until('!document.querySelector("dialog")');
+    tally.equal('and gives it back', await page.value(at), 'Certificate');
+    await page.value(`document.querySelector('.card.last').focus()`);
+    await tabTo('K, the number of steps', '.card.last');
+    await page.write('8');
+    await page.key('Tab');
+    await page.write('2');
+    await tabTo('lower', '.card.last');
+    await page.key('Enter');
+    await page.until(`!document.querySelector('#jobs').hidden`);
+    await tabTo('stop lower 8 2 from problem 1');
+    await page.key('Enter');
+    await page.until(`document.querySelector('#jobs').hidden`);
+}
+const page = await openBrowser();
+await tally.run('keyboard', () => keyboard(page));
+tally.equal('no fault in the console', page.faults(), []);
+await page.close();
+tally.end();

@@ -106,7 +106,7 @@ fn table_count(
 ) -> Result<u32, TextFault>
     ensures { MatchResult result
         (λ count. (are_all form first.now ≡ true) × (may_stand form radius ≡ true)
-            × (Some count ≡ view_count owner.now.active.degree owner.now.passive.degree radius))
+        × (Some count ≡ view_count owner.now.active.degree owner.now.passive.degree radius))
         (λ fault. IsRefused (table_begins form number first.now owner.now radius) fault) }
 {
     if !are_all(form, first) {

@@ -85,9 +85,10 @@ module _ (before next : NamedProblem) where
       → AreNamed before.names set × (label < length next.names)
   becomes-named rows (by_set entries) rows_fit fits set label h = entry-named entries fits (record { set = set; label = label }) h
   becomes-named rows (by_row images) rows_fit fits set label h =
-      let (row, image, one, two) = h in
-      (AllByRecursion-contains (AreNamed before.names) row set (row-named rows rows_fit row (one.0, one.1, one.3)) (two.0, two.1, two.3),
-      AllByRecursion-contains (λ x. x < length next.names) image label (image-named images (and-true _ (list_all (image_fits before next) images) fits).1 image (one.0, one.2, one.4)) (two.0, two.2, two.4))
+      let (row, image, one, two) = h in (
+        AllByRecursion-contains (AreNamed before.names) row set (row-named rows rows_fit row (one.0, one.1, one.3)) (two.0, two.1, two.3),
+        AllByRecursion-contains (λ x. x < length next.names) image label (image-named images (and-true _ (list_all (image_fits before next) images) fits).1 image (one.0, one.2, one.4)) (two.0, two.2, two.4),
+      )
 
   become-named : (rows : List (List (List ℕ))) (m : LowerMap) → list_all (row_fits before) rows ≡ true → map_fits before next m ≡ true → (sets : List (List ℕ)) (labels : List ℕ) → AllZip (Becomes rows m) sets labels
       → AreSetsNamed before.names sets × AreNamed next.names labels
@@ -114,9 +115,10 @@ module _ (before next : NamedProblem) where
   row_labels-named : (entries : List SetEntry) → list_all (entry_fits before next) entries ≡ true → (row : List (List ℕ)) → ((set : List ℕ) → Contains row set → Contains (entry_sets entries) set) → AreNamed next.names (map (label_of entries) row)
   row_labels-named entries fits [] h = tt
   row_labels-named entries fits (set ∷ row) h =
-      let l : place_of (entry_sets entries) set < length entries = subst (λ n. place_of (entry_sets entries) set < n) (length-map' (λ (e : SetEntry). e.set) entries) (place_of-below (entry_sets entries) set (h set (0, omega arith, refl))) in
-      ((entry-named entries fits _ (read-held entries (place_of (entry_sets entries) set) (record { set = []; label = 0 }) l)).1,
-      row_labels-named entries fits row (λ other held. h other (suc held.0, (let k = held.1 in omega (arith, k)), held.2)))
+      let l : place_of (entry_sets entries) set < length entries = subst (λ n. place_of (entry_sets entries) set < n) (length-map' (λ (e : SetEntry). e.set) entries) (place_of-below (entry_sets entries) set (h set (0, omega arith, refl))) in (
+        (entry-named entries fits _ (read-held entries (place_of (entry_sets entries) set) (record { set = []; label = 0 }) l)).1,
+        row_labels-named entries fits row (λ other held. h other (suc held.0, (let k = held.1 in omega (arith, k)), held.2)),
+      )
 
   abbrev Here : Standing → Type 0
   Here at = (at.before ≡ before.names) × (at.next ≡ next.names)
@@ -236,13 +238,22 @@ lost-held images from to config e = In-Contains config from.configs (found_passe
 
 verdict-named : (last target : NamedProblem) (images : List ℕ) → IsNamedProblem last → length images ≡ length last.names → IsVerdictNamed last.names (renaming_verdict (unnamed last) (unnamed target) images)
 verdict-named last target images named count =
-    first-of P found tt
-    (unless-there (has_degrees (unnamed target) last.active.degree last.passive.degree),
-    (mapped-there verdict.Twice P (first_twice images) (λ x e. let l = (first_label-some _ (length images) x e).0 in (let m : x < length last.names = omega (arith, l, count) in m)),
-    (mapped-there verdict.Active P (first_lost images last.active target.active) (λ config e. held-named last.names last.active config named.problem.active (lost-held images last.active target.active config e)),
-    (mapped-there verdict.Passive P (first_lost images last.passive target.passive) (λ config e. held-named last.names last.passive config named.problem.passive (lost-held images last.passive target.passive config e)),
-    (mapped-there verdict.Count P (larger ActiveSide last.active target.active) (λ side e. tt),
-    (mapped-there verdict.Count P (larger PassiveSide last.passive target.passive) (λ side e. tt), tt))))))
+    first-of P found tt (
+      unless-there (has_degrees (unnamed target) last.active.degree last.passive.degree),
+      (
+        mapped-there verdict.Twice P (first_twice images) (λ x e. let l = (first_label-some _ (length images) x e).0 in (let m : x < length last.names = omega (arith, l, count) in m)),
+        (
+          mapped-there verdict.Active P (first_lost images last.active target.active) (λ config e. held-named last.names last.active config named.problem.active (lost-held images last.active target.active config e)),
+          (
+            mapped-there verdict.Passive P (first_lost images last.passive target.passive) (λ config e. held-named last.names last.passive config named.problem.passive (lost-held images last.passive target.passive config e)),
+            (
+              mapped-there verdict.Count P (larger ActiveSide last.active target.active) (λ side e. tt),
+              (mapped-there verdict.Count P (larger PassiveSide last.passive target.passive) (λ side e. tt), tt),
+            ),
+          ),
+        ),
+      ),
+    )
   where
     P : MapVerdict → Type 0
     P = IsVerdictNamed last.names
@@ -267,14 +278,14 @@ back-named last target pairs at w here named below e =
     elim (or-some (option_map PairOrder (first_unordered pairs_ascend 0 pairs)) _ w e) [
       | inl order ↦ let (k, found, same) = map-some PairOrder (first_unordered pairs_ascend 0 pairs) w order in subst (IsNamed at) same tt
       | inr rest ↦ elim (or-some (option_map MissingPair missing) _ w rest.1) [
-          | inl lacks ↦
-              let (x, found, same) = map-some MissingPair missing w lacks in
-              subst (IsNamed at) same (subst (λ (names : List (List ℕ)). x < length names) (sym here) (first_label-some (λ x. not (names_first pairs x)) (length last.names) x found).0)
-          | inr none ↦
-              let are = in_order last target pairs below (map-none PairOrder (first_unordered pairs_ascend 0 pairs) rest.0) (map-none MissingPair missing none.0) in
-              let count : length (seconds pairs) ≡ length last.names = length-map' (λ (pair : ℕ × ℕ). pair.1) pairs ∙ sym (length-map' (λ (pair : ℕ × ℕ). pair.0) pairs) ∙ ap length are ∙ length-count_from 0 (length last.names) in
-              renamed (renaming_verdict (unnamed last) (unnamed target) (seconds pairs)) (verdict-named last target (seconds pairs) named count) none.1
-        ]
+        | inl lacks ↦
+            let (x, found, same) = map-some MissingPair missing w lacks in
+            subst (IsNamed at) same (subst (λ (names : List (List ℕ)). x < length names) (sym here) (first_label-some (λ x. not (names_first pairs x)) (length last.names) x found).0)
+        | inr none ↦
+            let are = in_order last target pairs below (map-none PairOrder (first_unordered pairs_ascend 0 pairs) rest.0) (map-none MissingPair missing none.0) in
+            let count : length (seconds pairs) ≡ length last.names = length-map' (λ (pair : ℕ × ℕ). pair.1) pairs ∙ sym (length-map' (λ (pair : ℕ × ℕ). pair.0) pairs) ∙ ap length are ∙ length-count_from 0 (length last.names) in
+            renamed (renaming_verdict (unnamed last) (unnamed target) (seconds pairs)) (verdict-named last target (seconds pairs) named count) none.1
+      ]
     ]
   where
     missing : Option ℕ

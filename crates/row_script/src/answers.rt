@@ -1,6 +1,5 @@
-// What is answered to words and bytes.
+// What is answered to words and bytes. Behind the word `explore` stand words of that program.
 use crate::devices::Devices;
-use re_cli::{run, run_sure};
 use re_io::{FailAt, MemSink, MemSource, SureSink, SureSource};
 use std::alloc::{AllocError, Global};
 
@@ -19,6 +18,27 @@ fn words_of(alloc: Global, line: &str) -> Result<Vec<String>, AllocError> {
     Ok(words)
 }
 
+// The words behind `explore`.
+fn explore_words(words: &[String]) -> Option<&[String]> {
+    match words {
+        [first, others @ ..] if first.as_str() == "explore" => Some(others),
+        _ => None,
+    }
+}
+
+fn sure_code(alloc: Global, words: &[String], source: &mut SureSource, sink: &mut SureSink) -> u8 {
+    re_cli::run_sure(alloc, words, source, sink).code()
+}
+
+fn sure_explore_code(
+    alloc: Global,
+    words: &[String],
+    source: &mut SureSource,
+    sink: &mut SureSink,
+) -> u8 {
+    re_explore::run_sure(alloc, words, source, sink).code()
+}
+
 fn sure_answer(
     alloc: Global,
     words: &[String],
@@ -27,7 +47,10 @@ fn sure_answer(
 ) -> Result<Answered, AllocError> {
     let mut source = SureSource::new(input, piece.max(1));
     let mut sink = SureSink::new(alloc);
-    let code = run_sure(alloc, words, &mut source, &mut sink).code();
+    let code = match explore_words(words) {
+        Some(words) => sure_explore_code(alloc, words, &mut source, &mut sink),
+        None => sure_code(alloc, words, &mut source, &mut sink),
+    };
     let text = Vec::from_slice(alloc, sink.written())?;
     Ok(Answered { code, text })
 }
@@ -51,13 +74,29 @@ fn failing_sink(alloc: Global, devices: &Devices) -> Result<MemSink, AllocError>
     Ok(MemSink::new(alloc, failing))
 }
 
+fn code_of(alloc: Global, words: &[String], source: &mut MemSource, sink: &mut MemSink) -> u8 {
+    re_cli::run(alloc, words, source, sink).code()
+}
+
+fn explore_code_of(
+    alloc: Global,
+    words: &[String],
+    source: &mut MemSource,
+    sink: &mut MemSink,
+) -> u8 {
+    re_explore::run(alloc, words, source, sink).code()
+}
+
 fn failing_answer(
     alloc: Global,
     words: &[String],
     mut source: MemSource,
     mut sink: MemSink,
 ) -> Result<Answered, AllocError> {
-    let code = run(alloc, words, &mut source, &mut sink).code();
+    let code = match explore_words(words) {
+        Some(words) => explore_code_of(alloc, words, &mut source, &mut sink),
+        None => code_of(alloc, words, &mut source, &mut sink),
+    };
     let text = Vec::from_slice(alloc, sink.written())?;
     Ok(Answered { code, text })
 }

@@ -11,7 +11,8 @@
 //     @N NAME  the text of that name, N times, as part of the input
 //     ^N path  the lines of a path of N nodes behind its first one, as part of the input of `run`
 //     ^N levels   those of a tree of N nodes that is grown level by level, and of all messages over its edges
-//     $WORDS   what is run on the input; behind ` | ` are words that read the text which those before wrote
+//     $WORDS   what is run on the input, `explore` before words of that program; behind ` | ` are words that read the text which those
+//              before wrote
 //     >TEXT    a line of the text that is to be written
 //     =CODE    the exit code: the row ends, and the text is to be these lines
 //     ~CODE N  the exit code: the row ends, and the text is to begin with these lines and to have N

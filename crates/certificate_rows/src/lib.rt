@@ -10,8 +10,6 @@ mod entries;
 #[cfg(test)]
 mod lines;
 #[cfg(test)]
-mod rounds;
-#[cfg(test)]
 mod searches;
 #[cfg(test)]
 mod verdicts;

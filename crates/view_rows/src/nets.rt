@@ -208,66 +208,6 @@ fn rounds_of(alloc: Global, net: &Net) -> Result<Vec<u8>, NoMemory> {
     Ok(rounds)
 }
 
-// The nodes that output by the rule `Last`.
-fn outputs_of(alloc: Global, net: &mut Net) -> Result<Vec<u32>, NoMemory> {
-    let mut nodes = Vec::new(alloc);
-    let mut rule = Last {
-        degrees: net.tree().degrees(),
-        radius: net.bound(),
-    };
-    for node in 0..net.tree().len() {
-        if node >= net.tree().len() {
-            break;
-        }
-        if let Some(_) = net.output(&mut rule, node)? {
-            nodes.push(node)?;
-        }
-    }
-    Ok(nodes)
-}
-
-/// Answers 0, 0, 1 at each view.
-#[derive(Drop)]
-struct Last {
-    degrees: Degrees,
-    radius: u8,
-}
-
-impl Rule for Last {
-    ghost degrees = { λ rule. rule.degrees };
-
-    ghost radius = { λ rule. rule.radius };
-
-    ghost answer = { λ _ _. 0 ∷ 0 ∷ 1 ∷ [] };
-
-    fn labels(&mut self, pool: &mut Pool, _view: NodeId) -> Result<PortLabels, NoMemory> {
-        let _held = pool.len();
-        match PortLabels::new([0, 0, 1].as_slice()) {
-            Some(labels) => Ok(labels),
-            None => unreachable!(),
-        }
-    }
-}
-
-#[test]
-fn joins_refused(rt: HostRuntime) -> Result<(), Fail> {
-    let mut tree = tree_of(rt.alloc(), &JOINS[..4])?;
-    assert!(rt; tree.numbered());
-    for join in [
-        (0, 1, 1),
-        (0, 4, 1),
-        (1, 2, 4),
-        (7, 1, 1),
-        (1, 2, 0),
-        (1, 0, 1),
-    ] {
-        assert_eq!(rt; tree.join(join.0, join.1, join.2), Err(JoinFault::NoPlace));
-    }
-    assert_eq!(rt; tree.join(4, 3, 1), Ok(()));
-    assert!(rt; !tree.numbered());
-    Ok(())
-}
-
 #[test]
 fn edges_in_order(rt: HostRuntime) -> Result<(), Fail> {
     let tree = tree_of(rt.alloc(), &JOINS[..4])?;
@@ -287,79 +227,14 @@ fn surroundings_of(alloc: Global, tree: &Tree, node: u32, radius: u8) -> Result<
     Ok(seen_of(alloc, &tree.surroundings(node, radius)?)?)
 }
 
-// Compares the rounds and the outputs that stand after these deliveries.
-fn row(
-    rt: &impl Abort,
-    net: Net,
-    alloc: Global,
-    deliveries: &[Triple],
-    rounds: &[u8],
-    outputs: &[u32],
-) -> Result<(), Fail> {
-    let mut net = net;
-    for message in deliveries {
-        assert!(rt; deliver(&mut net, message.0, message.1, message.2)?);
-        assert!(rt; net.delivered(message.0, message.1, message.2));
+#[test]
+fn delivered_messages(rt: HostRuntime) -> Result<(), Fail> {
+    let mut net = net_of(rt.alloc(), tree_of(rt.alloc(), &JOINS[..1])?, 2)?;
+    // too early, and then each where it is legal
+    for (from, number, legal) in [(0, 1, false), (1, 0, true), (0, 1, true), (0, 0, true)] {
+        assert_eq!(rt; deliver(&mut net, from, 1, number)?, legal);
+        assert_eq!(rt; net.delivered(from, 1, number), legal);
     }
-    assert_eq!(rt; rounds_of(alloc, &net)?.as_slice(), rounds);
-    assert_eq!(rt; outputs_of(alloc, &mut net)?.as_slice(), outputs);
-    Ok(())
-}
-
-fn net_at(alloc: Global, joins: &[Triple], bound: u8) -> Result<Net, Fail> {
-    net_of(alloc, tree_of(alloc, joins)?, bound)
-}
-
-#[test]
-fn one_round(rt: HostRuntime) -> Result<(), Fail> {
-    let messages = [(1, 1, 0), (3, 2, 0), (3, 2, 0), (3, 1, 0), (2, 1, 0)];
-    let net = net_at(rt.alloc(), &JOINS[..4], 1)?;
-    row(&rt, net, rt.alloc(), &messages[..4], &[0, 0, 0, 0, 1], &[])?;
-    let net = net_at(rt.alloc(), &JOINS[..4], 1)?;
-    row(&rt, net, rt.alloc(), &messages, &[1, 0, 0, 0, 1], &[0])
-}
-
-#[test]
-fn two_outputs(rt: HostRuntime) -> Result<(), Fail> {
-    let messages = [
-        (1, 1, 0),
-        (2, 1, 0),
-        (3, 2, 0),
-        (3, 1, 0),
-        (5, 1, 0),
-        (6, 1, 0),
-    ];
-    let net = net_at(rt.alloc(), &JOINS, 1)?;
-    row(
-        &rt,
-        net,
-        rt.alloc(),
-        &messages,
-        &[1, 0, 0, 0, 1, 0, 0],
-        &[0, 4],
-    )
-}
-
-#[test]
-fn two_rounds(rt: HostRuntime) -> Result<(), Fail> {
-    let net = net_at(rt.alloc(), &JOINS[..1], 2)?;
-    row(
-        &rt,
-        net,
-        rt.alloc(),
-        &[(1, 1, 0), (0, 1, 1), (0, 1, 0)],
-        &[1, 2],
-        &[],
-    )?;
-    let net = net_at(rt.alloc(), &[], 2)?;
-    row(&rt, net, rt.alloc(), &[], &[2], &[])
-}
-
-#[test]
-fn too_early(rt: HostRuntime) -> Result<(), Fail> {
-    let mut net = net_at(rt.alloc(), &JOINS[..1], 2)?;
-    assert!(rt; !deliver(&mut net, 0, 1, 1)?);
-    assert!(rt; !net.delivered(0, 1, 1));
     Ok(())
 }
 

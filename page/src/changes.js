@@ -2,7 +2,7 @@
 import {hint} from './dom.js';
 import {mapInput, pairLines, readStep} from './certificates.js';
 import {filledLines} from './texts.js';
-import {SIDES} from './problems.js';
+import {blockOf, mappedLines, problemText, SIDES} from './problems.js';
 import {openEditDialog} from './edit_dialog.js';
 import {openMergesDialog} from './merges_dialog.js';
 import {openRenameDialog} from './rename_dialog.js';
@@ -48,10 +48,11 @@ export class Changes {
         else view.noteText(`${count} maximal ${count === 1 ? 'row' : 'rows'} of the passive side`, answer.text);
     }
 
-    // A relaxation by a map of labels, after `re relax` said yes.
+    // A relaxation by a map of labels, after `re relax` said yes. Two problems written out may be more than it reads, so they
+    // are given as they were written, where they were.
     async relaxTo(card, problem, pairs, title, written) {
-        const {workbench} = this, view = workbench.view(card);
-        const answer = await workbench.ask(view, ['relax'], mapInput(card.problem, problem, pairLines(pairs)));
+        const {workbench} = this, view = workbench.view(card), textOf = (text, lines) => lines ? problemText(view.facts.problem, blockOf(lines.active), blockOf(lines.passive)) : text;
+        const answer = await workbench.ask(view, ['relax'], mapInput(textOf(card.problem, card.written), textOf(problem, written), pairLines(pairs)), title);
         if (!answer) return null;
         if (answer.text.trim() !== 'yes') { view.complain(`re relax: ${answer.text.trim()}`); return null; }
         return workbench.append(card, {kind: 'change', title, problem, relax: Object.fromEntries(pairs), written});
@@ -60,8 +61,11 @@ export class Changes {
     async merge(card, view, labels, to) {
         const pairs = view.facts.problem.labels.map(label => [label, labels.includes(label) ? to : label]);
         const title = `merged ${labels.filter(label => label !== to).join(', ')} into ${to}`;
-        const text = await this.canonical(view, await this.workbench.work(view, title, 'mapped', card.problem, pairs), title);
-        if (text) await this.relaxTo(card, text, pairs, title);
+        // A large problem is merged as it was written.
+        const written = view.facts.isLarge && card.written ? mappedLines(card.written, pairs) : undefined;
+        const made = written ? problemText(view.facts.problem, blockOf(written.active), blockOf(written.passive)) : await this.workbench.work(view, title, 'mapped', card.problem, pairs);
+        const text = await this.canonical(view, made, title);
+        if (text) await this.relaxTo(card, text, pairs, title, written);
     }
 
     async addArrow(card, view, side, weak, strong) {

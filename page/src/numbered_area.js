@@ -3,7 +3,7 @@ import {element} from './dom.js';
 
 const LINE = 20, MOST_NUMBERS = 20000;
 // Longer texts would make the page stand still, and nobody edits them: they are held beside the area.
-export const LONGEST_SHOWN = 200000;
+export const LONGEST_SHOWN = 100000;
 
 export class NumberedArea {
     // `onLarge(text)` is told of a text that is pasted and too long to be shown.

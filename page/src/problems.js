@@ -1,5 +1,5 @@
 // Problems as the canonical texts that `re read` prints, which may have a million lines: these functions run in workers.
-import {byName, configText, sortedSet} from './texts.js';
+import {byName, configText, placesOf, rowText, sortedSet} from './texts.js';
 
 export const SIDES = ['active', 'passive'];
 
@@ -71,6 +71,12 @@ const remade = (text, linesOf) => problemText(describe(text), ...SIDES.map(side 
 export function mapped(text, pairs) {
     const image = new Map(pairs);
     return remade(text, side => [...new Set(configsOf(text, side).map(config => configText(config.map(label => image.get(label) ?? label))))]);
+}
+
+// The same of lines as they were written, groups and all.
+export function mappedLines(written, pairs) {
+    const image = new Map(pairs), mappedLine = line => rowText(placesOf(line).map(set => sortedSet(set.map(label => image.get(label) ?? label))));
+    return Object.fromEntries(SIDES.map(side => [side, [...new Set(written[side].map(mappedLine))]]));
 }
 
 // The problem without some labels and the configurations that hold them.

@@ -40,7 +40,8 @@ await timed('all lines of them', async () => {
     await page.click('.card.last .lines button', 'more lines');
 }, `document.querySelector('.card.last .window')`);
 await timed('scrolling through them', () => page.value(`(async () => { const box = document.querySelector('.card.last .window'); for (let i = 0; i <= 40; i++) { box.scrollTop = box.scrollHeight * i / 40; await new Promise(requestAnimationFrame); } })()`), `document.querySelector('.card.last .window .line:last-child').textContent === 'a6' || document.querySelector('.card.last .window').textContent.includes('a^6')`);
-await timed('a merge of two labels of them', async () => { for (const label of ['A', 'B']) await page.click(`.card.last .chip[data-label=${label}]`); await page.click('.card.last .selection button', 'Merge into A'); }, `bench.cards.path().length === 2 && ${judged}`);
+await timed('a merge of two labels of them', async () => { for (const label of ['A', 'B']) await page.click(`.card.last .chip[data-label=${label}]`); await page.click('.card.last .selection button', 'Merge into A'); }, `bench.cards.path().length === 2 && ${judged} || document.querySelector('.card.last .remarks .faulty')`);
+tally.equal('the merge of them', await page.value('bench.cards.path().length'), 2);
 await timed('a step of them', click('.card.last .actions button', 'Step'), `bench.cards.path().length === 3 && ${judged} || document.querySelector('.card.last .remarks .faulty')`);
 // A certificate of 6 MB: seven problems of 54,264 configurations, written out.
 const MANY = `async () => {

@@ -45,6 +45,8 @@ for (const text of canonical) {
         if (few) is('a few rows', answer(['read'], problems.problemText({active, passive}, ...problems.SIDES.map(which => problems.blockOf(which === side ? few : filled(problems.sideText(text, which)))))), text);
     }
 }
+const lines = problems.mappedLines({active: ['A [BC]^2', 'B A^2'], passive: []}, [['A', 'B'], ['B', 'B'], ['C', 'C']]);
+is('a map of lines as written', lines, {active: ['B [BC]^2', 'B^3'], passive: []});
 is('images that are lost', problems.notActive('A B\nB^2\n\nA B\n', [['B', 'A'], ['A', 'A'], ['B', 'B']]), [1]);
 
 // Certificates: what is read of a chain and written again is the same text.

@@ -6,8 +6,8 @@
 #
 # Run it whenever a page or a file that it reads has changed, and write what it says, the numbers of rows, into the two files stdout.
 # It needs no built program.
-# Taken are the lines `$ re WORDS < FILE` and `$ re WORDS < FILE | re WORDS` of the blocks ```console, also without a file. Lines with other
-# programs are run by session.sh alone. The exit code follows from the first line of the answer.
+# Taken are the lines `$ re WORDS < FILE` and `$ re WORDS < FILE | re WORDS` of the blocks ```console, also without a file, with `explore` in
+# place of any `re`. Lines with other programs are run by session.sh alone. The exit code follows from the first line of the answer.
 set -eu
 cd "$(dirname "$0")/.."
 
@@ -39,18 +39,19 @@ rows_of() {
             return 0
         }
 
-        function end_command(    words, file, i, name) {
+        function end_command(    words, file, i, name, parts, count) {
             if (command == "") return
             words = command
             command = ""
-            if (words !~ /^re / || words ~ /\| [^r]/) return
+            count = split(words, parts, / \| /)
+            for (i = 1; i <= count; i++) if (parts[i] !~ /^(re|explore) /) return
             file = ""
             if (match(words, / < [^ ]+/)) {
                 file = substr(words, RSTART + 3, RLENGTH - 3)
                 words = substr(words, 1, RSTART - 1) substr(words, RSTART + RLENGTH)
             }
             sub(/^re /, "", words)
-            sub(/ \| re /, " | ", words)
+            gsub(/ \| re /, " | ", words)
             if (words ~ /[<>]/) stop("not understood: " words)
             if (file) name = name_of(file)
             print "$" words

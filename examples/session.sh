@@ -1,18 +1,21 @@
 #!/bin/sh
 # Runs the commands that the pages show against a built program, and compares what they print with what the pages show.
 #
-#     examples/session.sh PROGRAM
+#     examples/session.sh RE EXPLORE
 #
-# Commands are the lines that begin with `$ ` in the blocks ```console of README.md, the tutorial and the gallery; `re` is the program.
+# Commands are the lines that begin with `$ ` in the blocks ```console of README.md, the tutorial and the gallery; `re` and `explore` are the
+# programs.
 # A line that ends in \ goes on in the next one. Behind a command stands what it prints; empty lines at the end don't count.
 set -eu
 
-program=$(realpath "${1:?the built program}")
+program=$(realpath "${1:?the built program re}")
+explore=$(realpath "${2:?the built program explore}")
 cd "$(dirname "$0")/.."
 folder=$(mktemp -d)
 trap 'rm -rf "$folder"' EXIT
 mkdir "$folder/bin"
 ln -s "$program" "$folder/bin/re"
+ln -s "$explore" "$folder/bin/explore"
 PATH="$folder/bin:$PATH"
 export PATH
 

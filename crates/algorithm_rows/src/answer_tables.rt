@@ -81,26 +81,33 @@ fn verdict(
     Ok(Some(solves(alloc, problem, table)?))
 }
 
+// The table of one round that orients each edge, with another answer to this view.
+fn oriented_but(alloc: Global, view: usize, answer: &[u8; 3]) -> Result<Table, Fail> {
+    let mut answers = Vec::new(alloc);
+    for (number, row) in ORIENTED.iter().enumerate() {
+        let row = if number == view { answer } else { row };
+        answers.push(PortLabels::new(row).ok_or("labels")?)?;
+    }
+    Ok(Table::build(DEGREES, 1, answers).ok_or("a table")?)
+}
+
+// The verdict where this is the answer to view 5.
+fn verdict_with(alloc: Global, answer: &[u8; 3]) -> Result<Option<TableVerdict>, Fail> {
+    let problem = read_problem(alloc, b"[IO]^3\n\nI O\n")?;
+    let table = oriented_but(alloc, 5, answer)?;
+    Ok(verdict(alloc, &problem, &table)?)
+}
+
 #[test]
 fn verdicts_on_tables(rt: HostRuntime) -> Result<(), Fail> {
-    let alloc = rt.alloc();
-    let problem = read_problem(alloc, b"[IO]^3\n\nI O\n")?;
-    let good = table(alloc, 1, &ORIENTED)?.ok_or("a table")?;
-    assert_eq!(rt; verdict(alloc, &problem, &good)?, Some(TableVerdict::Yes));
-    // one answer is another: its first label, and a label that the problem doesn't have
-    let mut rows = ORIENTED;
-    rows[5] = [0, 0, 1];
-    let other = table(alloc, 1, &rows)?.ok_or("a table")?;
-    assert_eq!(rt;
-        verdict(alloc, &problem, &other)?,
-        Some(TableVerdict::Passive)
-    );
-    rows[5] = [1, 0, 200];
-    let unknown = table(alloc, 1, &rows)?.ok_or("a table")?;
-    assert_eq!(rt;
-        verdict(alloc, &problem, &unknown)?,
-        Some(TableVerdict::Active(6))
-    );
+    for (answer, want) in [
+        ([1, 0, 1], TableVerdict::Yes),
+        // another first label, and a label that the problem doesn't have
+        ([0, 0, 1], TableVerdict::Passive),
+        ([1, 0, 200], TableVerdict::Active(6)),
+    ] {
+        assert_eq!(rt; verdict_with(rt.alloc(), &answer)?, Some(want));
+    }
     Ok(())
 }
 

@@ -1,4 +1,4 @@
-//! Worked rows of tables of algorithms, of the places of views, of extracted algorithms and of runs on finite trees.
+//! Worked rows of tables of algorithms, of the places of views and of extracted algorithms.
 #![tactic(auto)]
 
 #[cfg(test)]
@@ -7,5 +7,3 @@ mod answer_tables;
 mod extractors;
 #[cfg(test)]
 mod places;
-#[cfg(test)]
-mod runs;

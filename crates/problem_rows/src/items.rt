@@ -81,19 +81,22 @@ fn items_of_lines(rt: HostRuntime) {
 }
 
 #[test]
-fn bytes_numbers_and_empty_constraints(rt: HostRuntime) {
-    let bytes: [(&[u8], Option<usize>); 5] = [
-        (b"[A_0](z)^% \t\r", None),
+fn bytes_that_are_not_allowed(rt: HostRuntime) {
+    for (line, place) in [
+        (b"[A_0](z)^% \t\r".as_slice(), None),
         (b"A*B=", Some(1)),
         (b"A\x0b", Some(1)),
         (b"\x00", Some(0)),
         (b"AB\xc3", Some(2)),
-    ];
-    for (line, place) in bytes {
+    ] {
         assert_eq!(rt; first_bad_byte(line), place);
     }
-    let numbers: [(&[u8], Option<u32>); 9] = [
-        (b"0", Some(0)),
+}
+
+#[test]
+fn numbers(rt: HostRuntime) {
+    for (text, number) in [
+        (b"0".as_slice(), Some(0)),
         (b"64", Some(64)),
         (b"999999999", Some(999_999_999)),
         (b"1000000000", None),
@@ -102,12 +105,15 @@ fn bytes_numbers_and_empty_constraints(rt: HostRuntime) {
         (b"+1", None),
         (b"1a", None),
         (b"", None),
-    ];
-    for (text, number) in numbers {
+    ] {
         assert_eq!(rt; read_number(text), number);
     }
-    let degrees: [(&[u8], Option<u8>); 9] = [
-        (b"%3", Some(3)),
+}
+
+#[test]
+fn degrees_of_empty_constraints(rt: HostRuntime) {
+    for (line, degree) in [
+        (b"%3".as_slice(), Some(3)),
         (b"\t%99 ", Some(99)),
         (b"% 2", None),
         (b"%0", None),
@@ -116,10 +122,13 @@ fn bytes_numbers_and_empty_constraints(rt: HostRuntime) {
         (b"A %2", None),
         (b"%2 A", None),
         (b"%", None),
-    ];
-    for (line, degree) in degrees {
+    ] {
         assert_eq!(rt; read_empty_degree(line), degree);
     }
+}
+
+#[test]
+fn empty_lines(rt: HostRuntime) {
     assert!(rt; is_empty_line(b"\r \t") && !is_empty_line(b" _ "));
 }
 

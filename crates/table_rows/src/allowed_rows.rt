@@ -1,6 +1,6 @@
 //! Allowed multisets of sets.
 use re_config::Config;
-use re_exist::{AllowedFault, allowed};
+use re_exist::allowed;
 use re_labels::LabelSet;
 use re_table::{Constraint, InsertFault};
 use std::alloc::Global;
@@ -19,70 +19,56 @@ fn threes(alloc: Global, configs: &[[u8; 3]]) -> Result<Constraint, InsertFault>
     Ok(constraint)
 }
 
-// The multisets that are allowed, one after another.
-fn listed(
-    alloc: Global,
-    constraint: &Constraint,
-    numbers: &[u128],
-) -> Result<Vec<u8>, AllowedFault> {
+fn sets_of(alloc: Global, numbers: &[u128]) -> Result<Vec<LabelSet>, Fail> {
     let mut sets = Vec::new(alloc);
     for number in numbers {
-        if sets.push(LabelSet::of_number(*number)).is_err() {
-            return Err(AllowedFault::NoMemory);
-        }
+        sets.push(LabelSet::of_number(*number))?;
     }
-    if sets.len() > 128 {
-        return Err(AllowedFault::NoMemory);
-    }
-    let all = allowed(alloc, constraint, sets.as_slice())?;
+    Ok(sets)
+}
+
+// The labels of the configurations, one after another.
+fn places_of(alloc: Global, constraint: &Constraint) -> Result<Vec<u8>, Fail> {
     let mut places = Vec::new(alloc);
-    for place in 0..all.len() {
-        if let Some(config) = all.get(place) {
-            if places.extend_from_slice(config.labels()).is_err() {
-                return Err(AllowedFault::NoMemory);
-            }
+    for place in 0..constraint.len() {
+        if let Some(config) = constraint.get(place) {
+            places.extend_from_slice(config.labels())?;
         }
     }
     Ok(places)
 }
 
-// Labels M, O and P are 0, 1 and 2. The maximal rows of `M P`, `M O`, `O^2` have the sets M, O, MO and OP.
-#[test]
-fn sets_of_independent_sets(rt: HostRuntime) -> Result<(), Fail> {
-    let active = threes(rt.alloc(), &[[0, 0, 0], [1, 1, 2]])?;
-    let places = listed(rt.alloc(), &active, &[1, 2, 3, 6])?;
-    let want: [[u8; 3]; 10] = [
-        [0, 0, 0],
-        [0, 0, 2],
-        [0, 2, 2],
-        [1, 1, 3],
-        [1, 2, 3],
-        [1, 3, 3],
-        [2, 2, 2],
-        [2, 2, 3],
-        [2, 3, 3],
-        [3, 3, 3],
-    ];
-    let mut flat = Vec::new(rt.alloc());
-    for places in want {
-        flat.extend_from_slice(&places)?;
+// The multisets of these sets that are allowed where these are the configurations, one after another.
+fn listed(alloc: Global, configs: &[[u8; 3]], numbers: &[u128]) -> Result<Vec<u8>, Fail> {
+    let constraint = threes(alloc, configs)?;
+    let sets = sets_of(alloc, numbers)?;
+    if sets.len() > 128 {
+        return Err("many sets".into());
     }
-    assert_eq!(rt; places.as_slice(), flat.as_slice());
-    Ok(())
+    let all = allowed(alloc, &constraint, sets.as_slice())?;
+    places_of(alloc, &all)
 }
 
-// No configuration, no set, and labels that no set has.
 #[test]
-fn nothing_is_allowed(rt: HostRuntime) -> Result<(), Fail> {
-    let none = threes(rt.alloc(), &[])?;
-    assert!(rt; listed(rt.alloc(), &none, &[1, 2, 3])?.is_empty());
-    let one = threes(rt.alloc(), &[[0, 1, 2]])?;
-    assert!(rt; listed(rt.alloc(), &one, &[])?.is_empty());
-    assert!(rt; listed(rt.alloc(), &one, &[1, 2])?.is_empty());
-    let want: [u8; 3] = [0, 1, 2];
-    assert_eq!(rt;
-        listed(rt.alloc(), &one, &[1, 2, 4])?.as_slice(),
-        want.as_slice()
-    );
+fn allowed_multisets(rt: HostRuntime) -> Result<(), Fail> {
+    for (configs, numbers, want) in [
+        // Labels M, O and P are 0, 1 and 2. The maximal rows of `M P`, `M O`, `O^2` have the sets M, O, MO and OP.
+        (
+            [[0, 0, 0], [1, 1, 2]].as_slice(),
+            [1, 2, 3, 6].as_slice(),
+            [
+                0, 0, 0, 0, 0, 2, 0, 2, 2, 1, 1, 3, 1, 2, 3, 1, 3, 3, 2, 2, 2, 2, 2, 3, 2, 3, 3, 3,
+                3, 3,
+            ]
+            .as_slice(),
+        ),
+        // no configuration, no set, and labels that no set has
+        (&[], &[1, 2, 3], &[]),
+        (&[[0, 1, 2]], &[], &[]),
+        (&[[0, 1, 2]], &[1, 2], &[]),
+        (&[[0, 1, 2]], &[1, 2, 4], &[0, 1, 2]),
+    ] {
+        assert!(rt; listed(rt.alloc(), configs, numbers)?.as_slice() == want);
+    }
     Ok(())
 }

@@ -32,18 +32,37 @@ fn orders_of_insertion(rt: HostRuntime) -> Result<(), Fail> {
 }
 
 #[test]
-fn calls(rt: HostRuntime) -> Result<(), Fail> {
+fn insertions(rt: HostRuntime) -> Result<(), Fail> {
     let mut constraint = filled(rt.alloc(), &[[0, 1], [1, 1]])?;
     assert_eq!(rt; constraint.degree(), 2);
     assert!(rt; constraint.insert(Config::from_labels(&[2, 1]))?);
     assert!(rt; !constraint.insert(Config::from_labels(&[1, 2]))?);
     assert!(rt; constraint.get(3).is_none());
+    Ok(())
+}
+
+#[test]
+fn members(rt: HostRuntime) -> Result<(), Fail> {
+    let constraint = filled(rt.alloc(), &[[0, 1], [1, 1], [1, 2]])?;
+    assert_eq!(rt; constraint.degree(), 2);
     assert!(rt; constraint.contains(&Config::from_labels(&[1, 0])));
     assert!(rt; !constraint.contains(&Config::from_labels(&[0, 2])));
+    Ok(())
+}
+
+#[test]
+fn copies(rt: HostRuntime) -> Result<(), Fail> {
+    let constraint = filled(rt.alloc(), &[[0, 1], [1, 1], [1, 2]])?;
     let copy = constraint.copy()?;
-    for place in 0..=constraint.len() {
+    for place in 0..4 {
         assert!(rt; copy.get(place) == constraint.get(place));
     }
+    Ok(())
+}
+
+#[test]
+fn images(rt: HostRuntime) -> Result<(), Fail> {
+    let constraint = filled(rt.alloc(), &[[0, 1], [1, 1], [1, 2]])?;
     let image = constraint.image(&[7; 128])?;
     assert_eq!(rt; image.len(), 1);
     assert!(rt; image.contains(&Config::from_labels(&[7, 7])));

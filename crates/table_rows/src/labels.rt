@@ -1,6 +1,6 @@
 //! What no clause says: each call once with ample memory, and the values at the ends.
 use re_labels::{Degrees, LabelSet, Name, Names, NamesFault, NoMemory, PortLabels, Side};
-use std::alloc::AllocError;
+use std::alloc::{AllocError, Global};
 use std::test::Fail;
 
 #[test]
@@ -16,21 +16,32 @@ fn sides_and_degrees(rt: HostRuntime) {
 }
 
 #[test]
-fn sets_of_labels(rt: HostRuntime) {
+fn members_of_sets(rt: HostRuntime) {
+    let low = LabelSet::single(0).insert(5);
+    assert!(rt; low.has(5) && !low.has(127) && !low.remove(5).has(5));
+    assert_eq!(rt; low.first(), Some(0));
+    assert_eq!(rt; LabelSet::empty().first(), None);
+    assert_eq!(rt; low.number(), 33);
+    assert_eq!(rt; LabelSet::of_number(33), low);
+    assert!(rt; LabelSet::default().is_empty() && !low.is_empty());
+}
+
+#[test]
+fn two_sets(rt: HostRuntime) {
     let low = LabelSet::single(0).insert(5);
     let ends = LabelSet::single(127).insert(0);
-    assert!(rt; low.has(5) && !low.has(127) && !low.remove(5).has(5));
     assert_eq!(rt; low.union(ends).count(), 3);
     assert_eq!(rt; low.meet(ends), LabelSet::single(0));
     assert!(rt; low.meet(ends).within(low) && !low.within(ends));
-    assert_eq!(rt; low.first(), Some(0));
-    assert_eq!(rt; LabelSet::empty().first(), None);
-    assert_eq!(rt; ends.after(0), Some(127));
-    assert_eq!(rt; ends.after(126), Some(127));
-    assert_eq!(rt; ends.after(127), None);
-    assert_eq!(rt; low.number(), 33);
-    assert_eq!(rt; LabelSet::of_number(33), low);
-    assert!(rt; low < ends && LabelSet::default().is_empty() && !low.is_empty());
+    assert!(rt; low < ends);
+}
+
+#[test]
+fn labels_in_order(rt: HostRuntime) {
+    let ends = LabelSet::single(127).insert(0);
+    for (label, next) in [(0, Some(127)), (126, Some(127)), (127, None)] {
+        assert_eq!(rt; ends.after(label), next);
+    }
 }
 
 #[test]
@@ -58,27 +69,66 @@ fn texts_of_names(rt: HostRuntime) {
     }
 }
 
+fn name_of(text: &[u8]) -> Result<Name, Fail> {
+    Ok(Name::new(text).ok_or("no name")?)
+}
+
+// As many names as there may be, from `Aa` to `Ph`.
+fn most_names(alloc: Global) -> Result<Names, Fail> {
+    let mut names = Names::new(alloc);
+    for i in 0..128 {
+        names.insert(name_of(&[b'A' + i % 16, b'a' + i / 16])?)?;
+    }
+    Ok(names)
+}
+
+// What comes of one name more, and how many there are then.
+fn added(alloc: Global, text: &[u8]) -> Result<(Result<bool, NamesFault>, usize), Fail> {
+    let mut names = most_names(alloc)?;
+    let added = names.insert(name_of(text)?);
+    Ok((added, names.len()))
+}
+
 #[test]
 fn the_129th_name(rt: HostRuntime) -> Result<(), Fail> {
-    let mut names = Names::new(rt.alloc());
-    assert!(rt; names.is_empty());
-    for i in 0..128 {
-        let name = Name::new(&[b'A' + i % 16, b'a' + i / 16]).ok_or("no name")?;
-        assert!(rt; names.insert(name)?);
+    assert!(rt; Names::new(rt.alloc()).is_empty());
+    for (text, want) in [
+        (b"z".as_slice(), Err(NamesFault::TooMany)),
+        (b"Aa", Ok(false)),
+    ] {
+        assert_eq!(rt; added(rt.alloc(), text)?, (want, 128));
     }
-    let last = Name::new(b"z").ok_or("no name")?;
-    let first = Name::new(b"Aa").ok_or("no name")?;
-    assert_eq!(rt; names.insert(last.copy()), Err(NamesFault::TooMany));
-    assert!(rt; !names.insert(first.copy())?);
-    assert_eq!(rt; names.len(), 128);
-    assert_eq!(rt; names.find(&last), None);
-    assert_eq!(rt; names.find(&first), Some(0));
-    assert_eq!(rt; names.find_text(b"Aa"), Some(0));
-    assert_eq!(rt; names.find_text(b"Ph"), Some(127));
-    assert_eq!(rt; names.find_text(b"A"), None);
-    let copied = names.copy()?;
-    assert_eq!(rt; copied.len(), 128);
-    assert_eq!(rt; copied.name(127).text(), b"Ph".as_slice());
+    Ok(())
+}
+
+// Where a name is found, and its text.
+fn found(alloc: Global, text: &[u8]) -> Result<(Option<u8>, Option<u8>), Fail> {
+    let names = most_names(alloc)?;
+    Ok((names.find(&name_of(text)?), names.find_text(text)))
+}
+
+#[test]
+fn names_are_found(rt: HostRuntime) -> Result<(), Fail> {
+    for (text, want) in [
+        (b"z".as_slice(), None),
+        (b"Aa", Some(0)),
+        (b"Ph", Some(127)),
+        (b"A", None),
+    ] {
+        assert_eq!(rt; found(rt.alloc(), text)?, (want, want));
+    }
+    Ok(())
+}
+
+// Whether a copy of all names ends with this one.
+fn copy_ends(alloc: Global, text: &[u8]) -> Result<bool, Fail> {
+    let copied = most_names(alloc)?.copy()?;
+    Ok(copied.len() == 128 && copied.name(127).text() == text)
+}
+
+#[test]
+fn names_are_copied(rt: HostRuntime) -> Result<(), Fail> {
+    assert!(rt; copy_ends(rt.alloc(), b"Ph")?);
     Ok(())
 }
 

@@ -1,4 +1,4 @@
-//! Worked rows of labels, configurations and constraints, of maximal rows and of zero rounds.
+//! Worked rows of labels, configurations and constraints, and of maximal rows.
 #![tactic(auto)]
 
 #[cfg(test)]
@@ -15,7 +15,3 @@ mod maximal_rows;
 mod rests;
 #[cfg(test)]
 mod set_rows;
-#[cfg(test)]
-mod universal;
-#[cfg(test)]
-mod zero_rounds;

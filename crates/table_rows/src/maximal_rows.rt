@@ -50,25 +50,28 @@ const THREE: [[u8; 2]; 4] = [[0, 1], [0, 2], [1, 2], [2, 2]];
 // A label i alone is the set with the number 2 to the i.
 #[test]
 fn small_constraints(rt: HostRuntime) -> Result<(), Fail> {
-    let alloc = rt.alloc();
-    assert!(rt; judged(alloc, &SINKLESS, &[[2, 3]])?);
-    assert!(rt; !judged(alloc, &SINKLESS, &[])?);
-    assert!(rt; !judged(alloc, &SINKLESS, &[[2, 2]])?);
-    assert!(rt; !judged(alloc, &SINKLESS, &[[1, 2]])?);
-    assert!(rt; !judged(alloc, &SINKLESS, &[[3, 3]])?);
-    assert!(rt; judged(alloc, &COLOURS, &[[1, 6], [2, 5], [3, 4]])?);
-    assert!(rt; !judged(alloc, &COLOURS, &[[1, 6], [2, 5]])?);
-    assert!(rt; !judged(alloc, &COLOURS, &[[1, 6], [3, 4]])?);
-    assert!(rt; !judged(alloc, &COLOURS, &[[2, 5], [3, 4]])?);
-    assert!(rt; !judged(alloc, &COLOURS, &[[2, 5], [1, 6], [3, 4]])?);
-    assert!(rt; !judged(alloc, &COLOURS, &[[1, 6], [2, 5], [2, 5], [3, 4]])?);
-    assert!(rt; !judged(alloc, &COLOURS, &[[1, 2], [1, 6], [2, 5], [3, 4]])?);
-    assert!(rt; !judged(alloc, &COLOURS, &[[1, 2], [2, 5], [3, 4]])?);
-    assert!(rt; judged(alloc, &THREE, &[[4, 7], [5, 6]])?);
-    assert!(rt; !judged(alloc, &THREE, &[[4, 7]])?);
-    assert!(rt; !judged(alloc, &THREE, &[[5, 6]])?);
-    assert!(rt; judged(alloc, &[], &[])?);
-    assert!(rt; !judged(alloc, &[], &[[1, 1]])?);
+    for (pairs, rows, want) in [
+        (SINKLESS.as_slice(), [[2, 3]].as_slice(), true),
+        (&SINKLESS, &[], false),
+        (&SINKLESS, &[[2, 2]], false),
+        (&SINKLESS, &[[1, 2]], false),
+        (&SINKLESS, &[[3, 3]], false),
+        (&COLOURS, &[[1, 6], [2, 5], [3, 4]], true),
+        (&COLOURS, &[[1, 6], [2, 5]], false),
+        (&COLOURS, &[[1, 6], [3, 4]], false),
+        (&COLOURS, &[[2, 5], [3, 4]], false),
+        (&COLOURS, &[[2, 5], [1, 6], [3, 4]], false),
+        (&COLOURS, &[[1, 6], [2, 5], [2, 5], [3, 4]], false),
+        (&COLOURS, &[[1, 2], [1, 6], [2, 5], [3, 4]], false),
+        (&COLOURS, &[[1, 2], [2, 5], [3, 4]], false),
+        (&THREE, &[[4, 7], [5, 6]], true),
+        (&THREE, &[[4, 7]], false),
+        (&THREE, &[[5, 6]], false),
+        (&[], &[], true),
+        (&[], &[[1, 1]], false),
+    ] {
+        assert_eq!(rt; judged(rt.alloc(), pairs, rows)?, want);
+    }
     Ok(())
 }
 
@@ -140,21 +143,42 @@ fn sum_rows(alloc: Global) -> Result<Vec<Row>, AllocError> {
     Ok(rows)
 }
 
-#[test]
-fn many_rows(rt: HostRuntime) -> Result<(), Fail> {
-    let alloc = rt.alloc();
+// Whether the halves, all or all but the last, are the maximal rows of eleven colours.
+fn judged_halves(alloc: Global, all: bool) -> Result<(usize, bool), Fail> {
     let eleven = different(alloc, 11)?;
     let mut rows = halves(alloc)?;
-    assert_eq!(rt; rows.len(), 1023);
-    assert!(rt; are_rows(&eleven, rows.as_slice()));
-    let full = sums(alloc, false)?;
-    let over = sums(alloc, true)?;
-    let ones = sum_rows(alloc)?;
-    assert_eq!(rt; ones.len(), 1024);
-    assert!(rt; are_rows(&full, ones.as_slice()));
-    assert!(rt; !are_rows(&over, ones.as_slice()));
-    assert!(rt; !are_rows(&full, rows.as_slice()));
-    let _ = rows.pop();
-    assert!(rt; !are_rows(&eleven, rows.as_slice()));
+    if !all {
+        let _ = rows.pop();
+    }
+    Ok((rows.len(), are_rows(&eleven, rows.as_slice())))
+}
+
+#[test]
+fn rows_of_colours(rt: HostRuntime) -> Result<(), Fail> {
+    assert_eq!(rt; judged_halves(rt.alloc(), true)?, (1023, true));
+    assert_eq!(rt; judged_halves(rt.alloc(), false)?, (1022, false));
+    Ok(())
+}
+
+// Whether these rows, the halves or those of one-label sets, are the maximal rows of the sums.
+fn judged_sums(alloc: Global, one_more: bool, ones: bool) -> Result<(usize, bool), Fail> {
+    let constraint = sums(alloc, one_more)?;
+    let rows = if ones {
+        sum_rows(alloc)?
+    } else {
+        halves(alloc)?
+    };
+    Ok((rows.len(), are_rows(&constraint, rows.as_slice())))
+}
+
+#[test]
+fn rows_of_sums(rt: HostRuntime) -> Result<(), Fail> {
+    for (one_more, ones, want) in [
+        (false, true, (1024, true)),
+        (true, true, (1024, false)),
+        (false, false, (1023, false)),
+    ] {
+        assert_eq!(rt; judged_sums(rt.alloc(), one_more, ones)?, want);
+    }
     Ok(())
 }

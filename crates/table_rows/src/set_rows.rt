@@ -29,7 +29,38 @@ fn domination(rt: HostRuntime) -> Result<(), Fail> {
     Ok(())
 }
 
-// A row that is wanted as `[0, 0]` isn't there.
+fn numbers_of(row: &Row) -> Result<[u128; 2], Fail> {
+    match row.sets() {
+        [first, second] => Ok([first.number(), second.number()]),
+        _ => Err("no pair".into()),
+    }
+}
+
+// The sets of the combination of two rows in this order at this place, by their numbers, which are 0 where there is none.
+fn combined(
+    row: [u128; 2],
+    other: [u128; 2],
+    order: [u8; 2],
+    place: usize,
+) -> Result<[u128; 2], Fail> {
+    let row = pair(row).ok_or("no set is empty")?;
+    let other = pair(other).ok_or("no set is empty")?;
+    for placement in Placements::new(2) {
+        if place < 2
+            && placement.places() == order.as_slice()
+            && placement.places().len() == 2
+            && row.sets().len() == 2
+            && other.sets().len() == 2
+        {
+            return match row.combine(&other, &placement, place) {
+                Some(got) => numbers_of(&got),
+                None => Ok([0, 0]),
+            };
+        }
+    }
+    Err("no such order".into())
+}
+
 #[test]
 fn combinations(rt: HostRuntime) -> Result<(), Fail> {
     for (row, other, order, place, want) in [
@@ -43,20 +74,7 @@ fn combinations(rt: HostRuntime) -> Result<(), Fail> {
         ([1, 6], [2, 5], [0, 1], 0, [3, 4]),
         ([1, 6], [1, 6], [1, 0], 0, [0, 0]),
     ] {
-        let row = pair(row).ok_or("no set is empty")?;
-        let other = pair(other).ok_or("no set is empty")?;
-        assert_eq!(rt; row.sets().len(), 2);
-        assert_eq!(rt; other.sets().len(), 2);
-        for placement in Placements::new(2) {
-            if placement.places() != order.as_slice() {
-                continue;
-            }
-            assert_eq!(rt; placement.places().len(), 2);
-            match (row.combine(&other, &placement, place), pair(want)) {
-                (Some(got), Some(want)) => assert!(rt; got.sets() == want.sets()),
-                (got, want) => assert!(rt; got.is_none() && want.is_none()),
-            }
-        }
+        assert_eq!(rt; combined(row, other, order, place)?, want);
     }
     Ok(())
 }

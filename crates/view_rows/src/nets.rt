@@ -180,6 +180,15 @@ fn standing(alloc: Global, net: &Net) -> Result<Vec<u8>, NoMemory> {
     Ok(list)
 }
 
+// All messages, in the one order or in the other.
+fn deliver_all(net: &mut Net, in_order: bool, times: u8) -> Result<(), NoMemory> {
+    if in_order {
+        deliver_in_order(net, times)
+    } else {
+        deliver_mixed(net, times)
+    }
+}
+
 // How the nodes stand when all messages were delivered.
 fn standing_at_the_end(
     alloc: Global,
@@ -192,11 +201,7 @@ fn standing_at_the_end(
     requires most { fan ≤ 5 }
 {
     let mut net = net_of(alloc, grown(alloc, fan, nodes)?, 3)?;
-    if in_order {
-        deliver_in_order(&mut net, times)?;
-    } else {
-        deliver_mixed(&mut net, times)?;
-    }
+    deliver_all(&mut net, in_order, times)?;
     Ok(standing(alloc, &net)?)
 }
 
@@ -250,14 +255,30 @@ fn one_end_whatever_the_order(rt: HostRuntime) -> Result<(), Fail> {
     Ok(())
 }
 
+// What comes of one node more, at this port of the last one.
+fn joined_at(alloc: Global, port: u8) -> Result<Result<(), JoinFault>, Fail> {
+    let mut tree = grown(alloc, 2, MAX_NODES)?;
+    Ok(tree.join(4_095, port, 1))
+}
+
+#[test]
+fn one_node_too_many(rt: HostRuntime) -> Result<(), Fail> {
+    for (port, fault) in [(1, JoinFault::NoPlace), (2, JoinFault::TooManyNodes)] {
+        assert_eq!(rt; joined_at(rt.alloc(), port)?, Err(fault));
+    }
+    Ok(())
+}
+
+// The rounds of as many nodes as there may be, when all messages of two rounds were delivered.
+fn rounds_at_the_end(alloc: Global) -> Result<Vec<u8>, Fail> {
+    let mut net = net_of(alloc, grown(alloc, 2, MAX_NODES)?, 2)?;
+    deliver_mixed(&mut net, 2)?;
+    Ok(rounds_of(alloc, &net)?)
+}
+
 #[test]
 fn as_many_nodes_as_there_may_be(rt: HostRuntime) -> Result<(), Fail> {
-    let mut tree = grown(rt.alloc(), 2, MAX_NODES)?;
-    assert_eq!(rt; tree.join(4_095, 1, 1), Err(JoinFault::NoPlace));
-    assert_eq!(rt; tree.join(4_095, 2, 1), Err(JoinFault::TooManyNodes));
-    let mut net = net_of(rt.alloc(), tree, 2)?;
-    deliver_mixed(&mut net, 2)?;
-    for round in &rounds_of(rt.alloc(), &net)? {
+    for round in &rounds_at_the_end(rt.alloc())? {
         assert_eq!(rt; *round, 2);
     }
     Ok(())

@@ -95,8 +95,8 @@ fn padded_leaf(rt: HostRuntime) -> Result<(), Fail> {
     Ok(())
 }
 
-#[test]
-fn payloads(rt: HostRuntime) -> Result<(), Fail> {
+// A view of radius 2 with a number on each edge.
+fn numbered(alloc: Global) -> Result<View<u8>, Fail> {
     let leaf = |back: u8, payload: u8| Child {
         back,
         payload,
@@ -105,18 +105,29 @@ fn payloads(rt: HostRuntime) -> Result<(), Fail> {
     let first = Child {
         back: 2,
         payload: 10,
-        branch: Branch::Node(vec![in rt.alloc(); leaf(1, 11), leaf(2, 12)]?),
+        branch: Branch::Node(vec![in alloc; leaf(1, 11), leaf(2, 12)]?),
     };
     let second = Child {
         back: 1,
         payload: 20,
-        branch: Branch::Node(vec![in rt.alloc(); leaf(2, 21), leaf(2, 22)]?),
+        branch: Branch::Node(vec![in alloc; leaf(2, 21), leaf(2, 22)]?),
     };
-    let view = View::Node(vec![in rt.alloc(); first, second]?);
-    assert!(rt; is_view(&view, DEGREES, Side::Passive, 2));
+    Ok(View::Node(vec![in alloc; first, second]?))
+}
+
+#[test]
+fn payloads_that_are_near(rt: HostRuntime) -> Result<(), Fail> {
+    let view = numbered(rt.alloc())?;
     let near = edges_of(rt.alloc(), &cut(rt.alloc(), &view, 1)?)?;
     assert_eq!(rt; near.backs.as_slice(), [2, 1].as_slice());
     assert_eq!(rt; near.payloads.as_slice(), [10, 20].as_slice());
+    Ok(())
+}
+
+#[test]
+fn payloads_over_a_port(rt: HostRuntime) -> Result<(), Fail> {
+    let view = numbered(rt.alloc())?;
+    assert!(rt; is_view(&view, DEGREES, Side::Passive, 2));
     let over = edges_of(rt.alloc(), &shift(rt.alloc(), &view, 1)?)?;
     assert_eq!(rt; over.backs.as_slice(), [1, 1, 2].as_slice());
     assert_eq!(rt; over.payloads.as_slice(), [11, 10, 12].as_slice());

@@ -1,0 +1,15 @@
+use Rattle.std.proofs.Common.{◌≡◌, ◌∙◌, ◌+◌, ◌++◌, ◌∷◌, [], ap, append_assoc, cond, codes, sym, arith, ℕ, ◌<◌}
+use Rattle.std.specs.Fmt.{decimal}
+use Rattle.re_labels.proofs.Tests.{eqb-apart}
+use Rattle.std.proofs.lemmas.Fmt.{decimal_digit}
+use Rattle.re_problem.specs.CanonicalTexts.{power_text}
+use Rattle.re_problem.proofs.printing.add_power.Goals as goal
+
+digit_power : (count : ℕ) → 1 < count → count < 10 → 94 ∷ (48 + count) ∷ [] ≡ power_text count
+digit_power count some few =
+    ap (λ l. 94 ∷ l) (sym (decimal_digit count few)) ∙ ap (λ b. cond b [] (codes "^" ++ decimal count)) (sym (eqb-apart count 1 (λ e. absurd (omega arith))))
+
+pub returns-then-count-gt1-clause-power : goal.returns-then-count-gt1-clause-power
+returns-then-count-gt1-clause-power c =
+    c.push-then-count-gt1.ensures.items ∙ ap (λ l. l ++ (48 + c.args.count) ∷ []) c.push.ensures.items ∙ append_assoc c.args.line.now.items (94 ∷ []) ((48 + c.args.count) ∷ [])
+    ∙ ap (λ l. c.args.line.now.items ++ l) (digit_power c.args.count c.if-count-gt1.true c.requires.few)

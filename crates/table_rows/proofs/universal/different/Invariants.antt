@@ -1,8 +1,0 @@
-use Rattle.std.proofs.Common.{◌≡◌}
-use Rattle.table_rows.proofs.universal.different.Given as goal
-
-abbrev pub invariant-loop-label : goal.invariant-loop-label
-invariant-loop-label l = l.constraint.degree ≡ 2
-
-abbrev pub invariant-loop-other : goal.invariant-loop-other
-invariant-loop-other l = l.constraint.degree ≡ 2

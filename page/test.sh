@@ -3,7 +3,8 @@
 #
 #     page/test.sh [PART..]
 #
-# PART is file, program, texts, chains, page, access, damage or large; none: all. The program is $RE, or crates/re/out/re as `rt run`
+# PART is file, program, texts, chains, page, access, damage or large; none: all of them. firefox is a further one, for a machine with
+# Debian's firefox-esr. The program is $RE, or crates/re/out/re as `rt run`
 # leaves it, or page/out/re of `page/build.sh --unproved`. PICTURES=folder keeps the pictures of README. DAMAGED and CHAINS are how many
 # certificates are damaged and chains made. PAUSE is the longest pause in ms that `large` lets pass.
 set -uo pipefail
@@ -26,7 +27,9 @@ for part in "$@"; do
         damage) test=damage.test.mjs more=("${DAMAGED:-100}") ;;
         *) test=$part.test.mjs more=() ;;
     esac
-    said=$(node "test/$test" "${more[@]}" 2>&1)
+    flags=()
+    [ "$part" != firefox ] || flags=(--experimental-websocket)
+    said=$(node "${flags[@]}" "test/$test" "${more[@]}" 2>&1)
     line=$(grep -E "^$part: [0-9]+ passed, [0-9]+ failed" <<< "$said" | tail -1)
     if [[ $line =~ ^$part:\ ([0-9]+)\ passed,\ ([0-9]+)\ failed ]]; then
         passed=$((passed + BASH_REMATCH[1])) failed=$((failed + BASH_REMATCH[2]))

@@ -74,7 +74,8 @@ export class Auto {
         for (const {text: left, labels, configs, map, rest} of await this.reduced(start, step)) {
             const change = {kind: 'change', title: `merged ${mergesText(map)}`, problem: left, relax: Object.fromEntries(map)};
             const cards = [...state.cards, base, ...(left === text ? [] : [change])].map(card => ({...card}));
-            results.push({text: left, cards, texts: [...state.texts, left], back: await this.earlierOne(left, state.texts), score: rest * 10000 + labels.length * 100 + Math.log(configs)});
+            results.push({text: left, cards, texts: [...state.texts, left], back: await this.earlierOne(left, state.texts),
+                score: rest * 10000 + labels.length * 100 + Math.log(configs)});
         }
         return results;
     }

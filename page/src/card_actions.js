@@ -55,9 +55,11 @@ function moreMenu(bench, card, view) {
 
 export function selectionActions({changes}, card, view) {
     const labels = view.selected, names = labels.join(', '), isPair = labels.length === 2;
-    const merges = labels.length > 1 ? labels.map(to => act(`Merge into ${to}`, () => changes.merge(card, view, labels, to), `each of ${names} becomes ${to}: a relaxation, for lower bounds`)) : [];
+    const merges = labels.length > 1 ? labels.map(to =>
+        act(`Merge into ${to}`, () => changes.merge(card, view, labels, to), `each of ${names} becomes ${to}: a relaxation, for lower bounds`)) : [];
     const arrows = isPair ? SIDES.flatMap(side => [labels, [...labels].reverse()].filter(([weak, strong]) => !view.isStronger(side, weak, strong)).map(([weak, strong]) =>
-        act(`${side}: ${weak} → ${strong}`, () => changes.addArrow(card, view, side, weak, strong), `add ${side} configurations so that ${strong} may take the place of ${weak}: a relaxation, for lower bounds`))) : [];
+        act(`${side}: ${weak} → ${strong}`, () => changes.addArrow(card, view, side, weak, strong),
+            `add ${side} configurations so that ${strong} may take the place of ${weak}: a relaxation, for lower bounds`))) : [];
     const leaveOut = labels.length < view.facts.problem.labels.length
         ? act('Leave out', () => changes.leaveOut(card, view, labels), `leave out ${names} and the configurations with them: a restriction, for upper bounds`) : null;
     return [element('strong', {}, labels.length === 1 ? `Label ${names}` : `Labels ${names}`), ...merges, leaveOut,

@@ -8,6 +8,8 @@ import {DiagramView} from './diagram_view.js';
 import {LabelsView} from './labels_view.js';
 import {lineParts, LinesView} from './lines_view.js';
 
+const MOST_WRITTEN_LINES = 300;
+
 const labelAt = event => event.target.closest?.('[data-label]')?.getAttribute('data-label');
 
 export class CardView {
@@ -29,9 +31,11 @@ export class CardView {
         this.branches = element('div.branches', {});
         this.comment = element('p.comment', {hidden: true});
         this.back = element('p.back', {hidden: true});
-        this.written = element('details.written', {hidden: true, ontoggle: () => this.fillWritten()}, element('summary', {}, 'The step as the certificate has it'), element('div.parts', {}));
+        this.written = element('details.written', {hidden: true, ontoggle: () => this.fillWritten()},
+            element('summary', {}, 'The step as the certificate has it'), element('div.parts', {}));
         const constraints = element('div.constraints', {}, SIDES.map(side => this.constraint(side)));
-        const body = element('div.body', {}, this.comment, element('div.problem', {}, constraints, element('div.diagrams', {}, SIDES.map(side => this.diagrams[side].node))),
+        const pictures = element('div.diagrams', {}, SIDES.map(side => this.diagrams[side].node));
+        const body = element('div.body', {}, this.comment, element('div.problem', {}, constraints, pictures),
             this.labels.node, this.written, this.back, this.selection, cardActions(this.workbench, card, this), this.remarks);
         this.node = element('article.card', {tabIndex: -1, id: `card-${card.id}`}, this.head(), this.fault, body, this.branches);
     }
@@ -50,7 +54,8 @@ export class CardView {
     constraint(side) {
         const {degree, count} = this.facts.problem[side];
         return element('section', {'aria-label': `${side} constraint`},
-            element('h4', {}, side === 'active' ? 'Active' : 'Passive', element('small', {}, ` degree ${degree}, ${plural(count, 'configuration')}`)), this.lines[side].node);
+            element('h4', {}, side === 'active' ? 'Active' : 'Passive',
+                element('small', {}, ` degree ${degree}, ${plural(count, 'configuration')}`)), this.lines[side].node);
     }
 
     get fileName() { return `problem-${this.number.textContent.replace(/′/g, '-')}`; }
@@ -136,7 +141,10 @@ export class CardView {
         const {written} = this.card, show = blocks => {
             for (const side of SIDES) this.lines[side].show(blocks[side], `%${this.facts.problem[side].degree} (none)`);
         };
-        if (written && SIDES.some(side => written[side].some(line => line.includes('[')))) { show({active: blockOf(written.active), passive: blockOf(written.passive)}); return; }
+        if (written && SIDES.some(side => written[side].some(line => line.includes('[')))) {
+            show({active: blockOf(written.active), passive: blockOf(written.passive)});
+            return;
+        }
         show(this.facts.plain());
         await this.facts.grouped().then(show, () => {});
         await this.facts.condensed().then(show, () => {});
@@ -147,8 +155,10 @@ export class CardView {
         if (!this.written.open) return;
         const {verdict} = this.workbench.claim, number = stagesOf(this.path).findIndex(stage => stage.includes(this.card));
         const step = verdict?.certificate && readCertificate(verdict.certificate).steps[number - 1];
-        const part = (title, lines) => lines.length ? element('div', {}, element('h4', {}, title), element('pre', {tabIndex: 0}, lines.slice(0, 300).join('\n') + (lines.length > 300 ? '\n…' : ''))) : null;
-        replace(this.written.lastChild, step ? [part(plural(step.rows.length, 'row'), step.rows), part(`${plural(step.map.length, 'line')} of the map`, step.map)] : hint('Not judged yet.'));
+        const shown = lines => lines.slice(0, MOST_WRITTEN_LINES).join('\n') + (lines.length > MOST_WRITTEN_LINES ? '\n…' : '');
+        const part = (title, lines) => lines.length ? element('div', {}, element('h4', {}, title), element('pre', {tabIndex: 0}, shown(lines))) : null;
+        const parts = step && [part(plural(step.rows.length, 'row'), step.rows), part(`${plural(step.map.length, 'line')} of the map`, step.map)];
+        replace(this.written.lastChild, parts || hint('Not judged yet.'));
     }
 
     // ---- Where the card stands: its path, and what comes behind it.
@@ -170,7 +180,10 @@ export class CardView {
         }
         this.wasLast = isLast;
         this.back.hidden = !(isLast && card.back);
-        if (isLast && card.back) replace(this.back, element('strong', {}, `Back to problem ${card.back.number}: `), code(card.back.pairs.map(pair => pair.join(' → ')).join(', ')));
+        if (isLast && card.back) {
+            const {number, pairs} = card.back;
+            replace(this.back, element('strong', {}, `Back to problem ${number}: `), code(pairs.map(pair => pair.join(' → ')).join(', ')));
+        }
         this.comment.hidden = !card.note;
         this.comment.textContent = card.note || '';
         this.refuse(null);
@@ -203,7 +216,8 @@ export class CardView {
     }
 
     noteText(title, text, more = []) {
-        return this.note(element('strong', {}, title), button('Copy', event => copy(text, event.currentTarget), {class: 'link'}), element('pre', {tabIndex: 0}, text.trim() || '(none)'), ...more);
+        return this.note(element('strong', {}, title), button('Copy', event => copy(text, event.currentTarget), {class: 'link'}),
+            element('pre', {tabIndex: 0}, text.trim() || '(none)'), ...more);
     }
 
     complain(text) { this.note(faulty(text)); say(text, true); }

@@ -10,6 +10,9 @@ import {openRenameDialog} from './rename_dialog.js';
 // The program reads no more bytes than these.
 const MOST_BYTES = 16777216;
 
+// The restriction to some labels.
+const kept = labels => Object.fromEntries(labels.map(label => [label, [label]]));
+
 export class Changes {
     constructor(workbench) { this.workbench = workbench; }
 
@@ -51,7 +54,8 @@ export class Changes {
     // A relaxation by a map of labels, after `re relax` said yes. Two problems written out may be more than it reads, so they
     // are given as they were written, where they were.
     async relaxTo(card, problem, pairs, title, written) {
-        const {workbench} = this, view = workbench.view(card), textOf = (text, lines) => lines ? problemText(view.facts.problem, blockOf(lines.active), blockOf(lines.passive)) : text;
+        const {workbench} = this, view = workbench.view(card);
+        const textOf = (text, lines) => lines ? problemText(view.facts.problem, blockOf(lines.active), blockOf(lines.passive)) : text;
         const answer = await workbench.ask(view, ['relax'], mapInput(textOf(card.problem, card.written), textOf(problem, written), pairLines(pairs)), title);
         if (!answer) return null;
         if (answer.text.trim() !== 'yes') { view.complain(`re relax: ${answer.text.trim()}`); return null; }
@@ -63,7 +67,8 @@ export class Changes {
         const title = `merged ${labels.filter(label => label !== to).join(', ')} into ${to}`;
         // A large problem is merged as it was written.
         const written = view.facts.isLarge && card.written ? mappedLines(card.written, pairs) : undefined;
-        const made = written ? problemText(view.facts.problem, blockOf(written.active), blockOf(written.passive)) : await this.workbench.work(view, title, 'mapped', card.problem, pairs);
+        const made = written ? problemText(view.facts.problem, blockOf(written.active), blockOf(written.passive))
+            : await this.workbench.work(view, title, 'mapped', card.problem, pairs);
         const text = await this.canonical(view, made, title);
         if (text) await this.relaxTo(card, text, pairs, title, written);
     }
@@ -81,7 +86,7 @@ export class Changes {
         const left = (await workbench.facts.learn(text)).problem.labels;
         // Labels that stand in no configuration any more go with them.
         const gone = view.facts.problem.labels.filter(label => !left.includes(label));
-        await workbench.append(card, {kind: 'change', title: `without ${gone.join(', ')}`, problem: text, restrict: Object.fromEntries(left.map(label => [label, [label]]))});
+        await workbench.append(card, {kind: 'change', title: `without ${gone.join(', ')}`, problem: text, restrict: kept(left)});
     }
 
     mergeEqual(card, view) { return this.simplify(card, view, 'merge', 'equal labels merged', 'no two labels are equally strong on both sides'); }
@@ -103,7 +108,7 @@ export class Changes {
             const judged = await workbench.ask(view, ['relax'], mapInput(card.problem, answer.text, pairLines(pairs)));
             if (judged?.text.trim() === 'yes') relax = Object.fromEntries(pairs);
         }
-        await workbench.append(card, {kind: 'change', title: `${title} (${gone})`, problem: answer.text, relax, restrict: Object.fromEntries(left.map(label => [label, [label]]))});
+        await workbench.append(card, {kind: 'change', title: `${title} (${gone})`, problem: answer.text, relax, restrict: kept(left)});
     }
 
     // The same problem under other names, after `re rename` said yes.

@@ -28,11 +28,14 @@ export class Claim {
         replace($('#verdict'), path.length ? hint('checking…') : '');
         replace($('#offers'));
         $('#claim').hidden = !path.length;
+        $('#claim').className = 'none';
+        $('#algorithm').hidden = true;
         if (!path.length) return;
         const check = async (certificate, title) => (await this.forThis(engine.start('re', ['check'], certificate, {quiet: true, title}))).text;
         let verdict;
         try { verdict = await judge(check, this.facts, path); } catch (error) {
-            if (turn === this.turn) replace($('#verdict'), hint(error instanceof Stopped ? 'The check was stopped. ' : `${error.message} `), button('Check again', () => this.check(path)));
+            const why = error instanceof Stopped ? 'The check was stopped. ' : `${error.message} `;
+            if (turn === this.turn) replace($('#verdict'), hint(why), button('Check again', () => this.check(path)));
             return;
         }
         if (turn !== this.turn) return;
@@ -61,7 +64,8 @@ export class Claim {
         const found = await relation(this.workbench.engine, this.facts, path).catch(() => null);
         if (!found || turn !== this.turn) return;
         const {from, to, isYes, line} = found;
-        $('#verdict').append(element('div.hint', {}, `re relax: ${line}: problem ${numberOf(path, to)} ${isYes ? 'is' : 'is not, by this map,'} a relaxation of problem ${numberOf(path, from)}.`));
+        const is = isYes ? 'is' : 'is not, by this map,';
+        $('#verdict').append(element('div.hint', {}, `re relax: ${line}: problem ${numberOf(path, to)} ${is} a relaxation of problem ${numberOf(path, from)}.`));
     }
 
     async showRefusal(path, turn, verdict) {
@@ -100,8 +104,10 @@ export class Claim {
         if (turn !== this.turn) return true;
         if (text.trim() !== 'yes') return false;
         const shown = pairs.map(([from, image]) => `${from}→${image}`);
-        $('#offers').append(button(`Relax problem ${numberOf(path, last)} to problem ${numberOf(path, target)}: ${shown.slice(0, 6).join(' ')}${shown.length > 6 ? ' …' : ''}`,
-            () => changes.relaxTo(last, target.problem, pairs, `relaxed to problem ${numberOf(path, target)}`, target.written), {title: 're relax: yes. This leads back to the earlier problem.'}));
+        const number = numberOf(path, target), map = shown.slice(0, 6).join(' ') + (shown.length > 6 ? ' …' : '');
+        $('#offers').append(button(`Relax problem ${numberOf(path, last)} to problem ${number}: ${map}`,
+            () => changes.relaxTo(last, target.problem, pairs, `relaxed to problem ${number}`, target.written),
+            {title: 're relax: yes. This leads back to the earlier problem.'}));
         return true;
     }
 }

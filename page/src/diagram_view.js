@@ -17,8 +17,8 @@ export class DiagramView {
     isStronger(weak, strong) { return Boolean(this.above.get(weak)?.has(strong)); }
 
     async fill() {
-        if (this.facts.isLarge) { replace(this.content, button('Ask for the diagram', () => this.ask(), {title: 'the problem has many configurations, so this takes a while'})); return; }
-        await this.ask();
+        if (!this.facts.isLarge) await this.ask();
+        else replace(this.content, button('Ask for the diagram', () => this.ask(), {title: 'the problem has many configurations, so this takes a while'}));
     }
 
     async ask() {
@@ -52,7 +52,8 @@ export class DiagramView {
             return element('div.line', {}, ...words(labels), ...(stronger.length ? [' → ', ...words(stronger)] : []));
         };
         replace(this.content,
-            element('p', {}, hint(`${plural(classes.length, 'class', 'classes')}, ${plural(edges.length, 'arrow')}. `), button('Draw it', () => this.draw(diagram), {title: 'a large picture'})),
+            element('p', {}, hint(`${plural(classes.length, 'class', 'classes')}, ${plural(edges.length, 'arrow')}. `),
+                button('Draw it', () => this.draw(diagram), {title: 'a large picture'})),
             element('div.classes', {tabIndex: 0, role: 'group', 'aria-label': `${this.side} diagram as a list`}, classes.map(row)));
         this.onDraw();
     }
@@ -66,7 +67,9 @@ export class DiagramView {
         this.content.tabIndex = 0;
         this.content.setAttribute('role', 'group');
         this.content.setAttribute('aria-label', `${this.side} diagram, a picture`);
-        replace(this.caption, `${this.side} diagram`, button('SVG', () => download(`${this.name()}-${this.side}.svg`, pictureFile(picture), 'image/svg+xml'), {class: 'link save', title: 'download the picture', 'aria-label': `download the ${this.side} diagram as SVG`}));
+        const save = () => download(`${this.name()}-${this.side}.svg`, pictureFile(picture), 'image/svg+xml');
+        replace(this.caption, `${this.side} diagram`,
+            button('SVG', save, {class: 'link save', title: 'download the picture', 'aria-label': `download the ${this.side} diagram as SVG`}));
         this.onDraw();
     }
 }

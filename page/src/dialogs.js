@@ -1,5 +1,5 @@
 // The windows over the page: the frame of all of them, and the plain ones.
-import {$, button, copy, cut, download, element, faulty, hint, plural, replace} from './dom.js';
+import {$, button, copy, cut, download, element, faulty, hint, plural, replace, say} from './dom.js';
 import {LONGEST_SHOWN, NumberedArea} from './numbered_area.js';
 
 // Larger files are no texts of this page.
@@ -32,14 +32,16 @@ export function openNoteDialog(note, onKeep) {
 }
 
 export function openCertificateDialog(verdict, bench) {
-    if (!verdict?.certificate) return;
+    if (!verdict?.certificate) { say(verdict ? 'This chain is neither a lower nor an upper bound.' : 'There is no certificate yet.'); return; }
     const {certificate, line, accepted, kind} = verdict, file = kind === 'fixed' ? 'fixed-point' : `${kind}-bound`, isLong = certificate.length > LONGEST_SHOWN;
     const text = element('textarea.code', {readOnly: true, rows: 20, 'aria-label': 'certificate'});
     text.value = cut(certificate, LONGEST_SHOWN);
     const dialog = openDialog('Certificate',
-        element('p', {}, element('span', {class: accepted ? 'good line' : 'faulty line'}, line), hint(` is what re check prints of this text, here and on the command line: re check < ${file}.txt`)),
+        element('p', {}, element('span', {class: accepted ? 'good line' : 'faulty line'}, line),
+            hint(` is what re check prints of this text, here and on the command line: re check < ${file}.txt`)),
         text, isLong ? element('p', {}, hint(`The first ${LONGEST_SHOWN.toLocaleString('en')} of ${plural(certificate.length, 'character')}; Copy and Download give all.`)) : null,
-        element('footer', {}, button('Copy', event => copy(certificate, event.currentTarget), {class: 'primary', autofocus: true}), button('Download', () => download(`${file}.txt`, certificate)),
+        element('footer', {}, button('Copy', event => copy(certificate, event.currentTarget), {class: 'primary', autofocus: true}),
+            button('Download', () => download(`${file}.txt`, certificate)),
             button('Change it', () => { dialog.close(); openTextDialog(bench, certificate); }, {title: 'edit the text and open it as a new chain'})));
 }
 
@@ -48,8 +50,14 @@ export function openTextDialog(bench, text = '') {
     // A text that is too long to be shown is held beside the area.
     let held = null;
     const state = element('div.state', {role: 'status'});
-    const hold = large => { held = large; area.value = ''; replace(state, hint(`${plural(large.length, 'character')} are held, too many to be shown. `), button('Let them go', () => { held = null; replace(state); area.text.focus(); }, {class: 'link'})); };
-    const area = new NumberedArea({label: 'text to open', placeholder: '== certificate 1 lower\n…\n\nA certificate, a problem, or a saved session.', fewest: 18, most: 18, onLarge: hold});
+    const hold = large => {
+        held = large;
+        area.value = '';
+        const letGo = () => { held = null; replace(state); area.text.focus(); };
+        replace(state, hint(`${plural(large.length, 'character')} are held, too many to be shown. `), button('Let them go', letGo, {class: 'link'}));
+    };
+    const placeholder = '== certificate 1 lower\n…\n\nA certificate, a problem, or a saved session.';
+    const area = new NumberedArea({label: 'text to open', placeholder, fewest: 18, most: 18, onLarge: hold});
     const set = given => { if (given.length > LONGEST_SHOWN) hold(given); else { held = null; area.value = given; } };
     const open = async () => {
         const isHeld = held !== null, fault = await bench.sessions.openText(isHeld ? held : area.value);

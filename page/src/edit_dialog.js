@@ -29,7 +29,8 @@ function readMap(mode, lines, degree) {
     }
     if (mode === 'restrict') {
         const entries = lines.map(itemsOf);
-        return entries.every(items => items?.length === 2) ? {restrict: Object.fromEntries(entries.map(([label, set]) => [label.labels[0], sortedSet(set.labels)]))} : null;
+        if (!entries.every(items => items?.length === 2)) return null;
+        return {restrict: Object.fromEntries(entries.map(([label, set]) => [label.labels[0], sortedSet(set.labels)]))};
     }
     const labelsOf = text => itemsOf(text)?.flatMap(item => Array(item.power).fill(item.labels[0]));
     const images = lines.map(line => line.split('|').map(labelsOf));
@@ -52,14 +53,20 @@ class EditDialog {
         this.find = button('Find a map', () => this.findMap(), {title: 'look for a map of labels that makes the new problem a relaxation of this one'});
         this.apply = button('Make the card', () => this.make(), {class: 'primary', disabled: true});
         this.dialog = openWideDialog(`Edit problem ${view.number.textContent}`,
-            element('div.columns', {}, this.editor.node, element('div.map', {}, element('div.group', {role: 'radiogroup', 'aria-label': 'kind of edit'}, this.radios()), hint(this.help), this.map)),
+            element('div.columns', {}, this.editor.node,
+                element('div.map', {}, element('div.group', {role: 'radiogroup', 'aria-label': 'kind of edit'}, this.radios()), hint(this.help), this.map)),
             this.state, element('footer', {}, this.apply, this.find));
     }
 
     radios() {
         const isBehindStep = this.bench.cards.path(this.card.id).at(-1).kind === 'step';
         return Object.entries(MODES).filter(([mode]) => mode !== 'rows' || isBehindStep).map(([mode, {name}]) => element('label.radio', {},
-            element('input', {type: 'radio', name: 'mode', value: mode, checked: mode === this.mode, onchange: () => { Object.assign(this, {mode, isTouched: false}); this.suggest(); }}), name));
+            element('input', {type: 'radio', name: 'mode', value: mode, checked: mode === this.mode, onchange: () => this.choose(mode)}), name));
+    }
+
+    choose(mode) {
+        Object.assign(this, {mode, isTouched: false});
+        this.suggest();
     }
 
     get lines() { return filledLines(this.map.value); }
@@ -82,7 +89,8 @@ class EditDialog {
         const answer = await this.bench.engine.ask('re', ['relax'], text, {quiet: true}).catch(error => ({text: error.message}));
         if (turn !== this.turn) return;
         const isYes = answer.text.trim() === 'yes', line = faultLine(answer.text), offset = text.split('\n').indexOf('== map') + 1;
-        replace(this.state, isYes ? element('span.good', {}, 're relax: yes') : faulty(`re relax: ${line ? `map line ${line - offset}: ${answer.text.trim().replace(/.*: /, '')}` : answer.text.trim()}`));
+        const said = line ? `map line ${line - offset}: ${answer.text.trim().replace(/.*: /, '')}` : answer.text.trim();
+        replace(this.state, isYes ? element('span.good', {}, 're relax: yes') : faulty(`re relax: ${said}`));
         this.apply.disabled = !isYes;
     }
 

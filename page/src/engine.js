@@ -84,7 +84,8 @@ export class Engine {
     lose(worker, fault = '') {
         this.idle = this.idle.filter(other => other !== worker);
         const job = [...this.running].find(other => other.worker === worker);
-        if (job) this.end(job, () => job.reject(new Error(`${fault ? `its worker failed (${fault})` : 'the browser ended its worker'}. Nothing else is lost: ask again.`)), false);
+        const what = fault ? `its worker failed (${fault})` : 'the browser ended its worker';
+        if (job) this.end(job, () => job.reject(new Error(`${what}. Nothing else is lost: ask again.`)), false);
     }
 
     end(job, settle, keepsWorker = true) {

@@ -31,7 +31,8 @@ function cardKeys(bench) {
     };
     return {
         j: () => move(1), k: () => move(-1),
-        s: () => changes.step(card, view), u: () => changes.universal(card, view), t: () => changes.tryMerges(card, view), r: () => changes.rename(card, view), e: () => changes.edit(card, view),
+        s: () => changes.step(card, view), u: () => changes.universal(card, view), t: () => changes.tryMerges(card, view),
+        r: () => changes.rename(card, view), e: () => changes.edit(card, view),
         c: () => bench.copyProblem(card, view.node),
         m: () => { if (view.selected.length > 1) changes.merge(card, view, view.selected, view.selected.at(-1)); },
         Escape: () => view.select([]),

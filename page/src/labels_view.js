@@ -21,9 +21,14 @@ export class LabelsView {
         const rows = this.labels.map(label => element('div.meaning', {},
             element('button.chip', {type: 'button', 'data-label': label, 'aria-pressed': String(this.isPicked(label))}, label),
             isFirst ? null : code(cut(this.meaning(label), 160))));
-        const turn = button(isUnrolled ? 'one step back' : 'unrolled to the first problem', () => { this.isUnrolled = !isUnrolled; this.draw(); this.node.querySelector('button').focus(); }, {class: 'link', 'aria-pressed': String(isUnrolled)});
+        const turn = () => {
+            this.isUnrolled = !isUnrolled;
+            this.draw();
+            this.node.querySelector('button').focus();
+        };
+        const turnButton = button(isUnrolled ? 'one step back' : 'unrolled to the first problem', turn, {class: 'link', 'aria-pressed': String(isUnrolled)});
         replace(this.node,
-            element('h4', {}, isFirst ? 'Labels' : 'Labels and what they stand for', isFirst ? null : turn),
+            element('h4', {}, isFirst ? 'Labels' : 'Labels and what they stand for', isFirst ? null : turnButton),
             element(isUnrolled ? 'div.list.long' : 'div.list', {}, rows));
         this.onDraw();
     }

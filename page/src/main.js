@@ -59,7 +59,9 @@ function startFamilies(bench, setText) {
 
 function startExamples(bench, setText) {
     const examples = JSON.parse($('#examples').textContent), list = $('#gallery');
-    for (const [group, texts] of Object.entries(examples)) list.append(element('optgroup', {label: group}, Object.keys(texts).map(name => element('option', {value: `${group}\n${name}`}, name))));
+    for (const [group, texts] of Object.entries(examples)) {
+        list.append(element('optgroup', {label: group}, Object.keys(texts).map(name => element('option', {value: `${group}\n${name}`}, name))));
+    }
     const openAsCards = async (text, name) => { const fault = await bench.sessions.openText(text, name); if (fault) say(fault.fault, true); };
     list.addEventListener('change', async () => {
         const [group, name] = list.value.split('\n'), text = examples[group]?.[name];
@@ -76,10 +78,11 @@ function startExamples(bench, setText) {
 }
 
 function startBars(bench) {
+    const openAll = isOpen => bench.cards.path().forEach(card => bench.view(card).open(isOpen));
     const act = {
         '#undo': () => bench.cards.undo(), '#redo': () => bench.cards.redo(), '#open': () => openTextDialog(bench), '#save': () => bench.sessions.saveFile(),
         '#help-button': openHelpDialog, '#theme': changeTheme, '#report': () => bench.report(), '#certificate': () => bench.certificate(), '#algorithm': () => bench.tree(),
-        '#open-all': () => bench.cards.path().forEach(card => bench.view(card).open(true)), '#close-all': () => bench.cards.path().forEach(card => bench.view(card).open(false)),
+        '#open-all': () => openAll(true), '#close-all': () => openAll(false),
     };
     for (const [id, run] of Object.entries(act)) $(id).addEventListener('click', () => run());
 }

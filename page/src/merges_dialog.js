@@ -60,7 +60,8 @@ class MergesDialog {
         if (turn !== this.turn) return;
         this.show();
         const good = this.rows.filter(row => !row.isSolvable).length;
-        replace(this.state, `${plural(this.rows.length, 'merge')} tried${this.isStopped ? ' (stopped)' : ''}: ${good} ${good === 1 ? 'leaves' : 'leave'} a problem that is not solvable in 0 rounds.`);
+        const tried = `${plural(this.rows.length, 'merge')} tried${this.isStopped ? ' (stopped)' : ''}`;
+        replace(this.state, `${tried}: ${good} ${good === 1 ? 'leaves' : 'leave'} a problem that is not solvable in 0 rounds.`);
     }
 
     async isSolvable(text) { return (await this.ask(['zero'], text)).text.startsWith('yes'); }

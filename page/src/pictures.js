@@ -26,8 +26,8 @@ export function drawDiagram(placed, free, title) {
     const {width, height, nodes, lines} = beside(placed, free);
     // Large pictures are drawn smaller, as long as they can be read.
     const scale = Math.max(.62, Math.min(1, 470 / height, 560 / width));
-    const picture = svg('svg', {class: 'diagram', viewBox: `0 0 ${width.toFixed(0)} ${height}`, width: (width * scale).toFixed(0), height: (height * scale).toFixed(0), role: 'img'},
-        svg('title', {}, title));
+    const size = {width: (width * scale).toFixed(0), height: (height * scale).toFixed(0)};
+    const picture = svg('svg', {class: 'diagram', viewBox: `0 0 ${width.toFixed(0)} ${height}`, ...size, role: 'img'}, svg('title', {}, title));
     picture.append(...lines.map(arrowNode), ...nodes.map(classNode));
     return picture;
 }
@@ -57,7 +57,8 @@ function beside(placed, others) {
     const columns = Math.ceil(others.length / rows), widest = Math.max(...others.map(node => node.width)) + 10;
     const left = placed.width ? placed.width + 8 : 0;
     const nodes = others.map((node, i) => ({...node, x: left + 6 + widest * (i % columns) + widest / 2, y: 22 + 36 * Math.floor(i / columns)}));
-    return {width: left + widest * columns + 12, height: Math.max(placed.height, 36 * Math.ceil(others.length / columns) + 8), nodes: [...placed.nodes, ...nodes], lines: placed.lines};
+    const height = Math.max(placed.height, 36 * Math.ceil(others.length / columns) + 8);
+    return {width: left + widest * columns + 12, height, nodes: [...placed.nodes, ...nodes], lines: placed.lines};
 }
 
 // A smooth line through the points.
@@ -75,10 +76,13 @@ function arrowHead([x, y], [fromX, fromY]) {
     return svg('polygon', {class: 'head', points: `${point(0, 0)} ${point(-8, 3.5)} ${point(-8, -3.5)}`});
 }
 
+const FILE_STYLE = `text { font: 14px monospace; fill: #111 } rect { fill: #fff; stroke: #333 } .line { fill: none; stroke: #333 }
+.near { display: none } .head { fill: #333 } circle { fill: #fff; stroke: #333 } .passive { fill: #ddd } .small { font-size: 11px; fill: #555 }`;
+
 // The picture as a file of its own, without the page's style.
 export function pictureFile(picture) {
     const copied = picture.cloneNode(true);
     copied.setAttribute('xmlns', SVG);
-    copied.prepend(svg('style', {}, 'text{font:14px monospace;fill:#111}rect{fill:#fff;stroke:#333}.line{fill:none;stroke:#333}.near{display:none}.head{fill:#333}circle{fill:#fff;stroke:#333}.passive{fill:#ddd}.small{font-size:11px;fill:#555}'));
+    copied.prepend(svg('style', {}, FILE_STYLE));
     return new XMLSerializer().serializeToString(copied);
 }

@@ -4,6 +4,9 @@ import {Auto} from './auto.js';
 import {openDialog} from './dialogs.js';
 import {stagesOf} from './chains.js';
 
+const AUTO_HELP = `Takes steps, and merges labels along the diagrams where there are more than N. It keeps the most promising problems that are \
+not solvable in 0 rounds, and stops where one comes back: a fixed point.`;
+
 export class Searches {
     constructor(workbench) { this.workbench = workbench; }
 
@@ -19,7 +22,8 @@ export class Searches {
     }
 
     noteNothing(view, what, text, time) {
-        const more = text.startsWith('not found') ? `That nothing is found says nothing of the problem.${/cut [1-9]/.test(text) ? ' Cut: problems whose derived problem passes a limit.' : ''}` : '';
+        const cut = /cut [1-9]/.test(text) ? ' Cut: problems whose derived problem passes a limit.' : '';
+        const more = text.startsWith('not found') ? `That nothing is found says nothing of the problem.${cut}` : '';
         view.note(element('strong', {}, what), ` ${text} `, hint(`${more} ${seconds(time)}`));
     }
 
@@ -50,7 +54,7 @@ export class Searches {
         const labels = number(10, 'greatest number of labels', 60), steps = number(12, 'greatest number of steps', 60), width = number(2, 'problems kept at each step', 10);
         const start = () => { dialog.close(); this.runAuto(card, view, Number(labels.value), Number(steps.value), Number(width.value)); };
         const dialog = openDialog(`Lower bound by itself, from problem ${view.number.textContent}`,
-            element('p', {}, 'Takes steps, and merges labels along the diagrams where there are more than N. It keeps the most promising problems that are not solvable in 0 rounds, and stops where one comes back: a fixed point.'),
+            element('p', {}, AUTO_HELP),
             element('div.group', {}, element('label', {}, 'labels at most N', labels), element('label', {}, 'steps at most', steps), element('label', {}, 'problems kept', width)),
             element('footer', {}, button('Start', start, {class: 'primary', autofocus: true})));
     }
@@ -64,7 +68,8 @@ export class Searches {
         const found = await auto.run().catch(error => { view.complain(error.message); return null; });
         clearInterval(clock);
         note.remove();
-        const count = found?.texts.length || 0, end = found?.back ? `came back to problem ${found.back.number} in ${plural(count, 'step')}` : `${plural(count, 'step')}${auto.isStopped ? ', stopped' : ''}`;
+        const count = found?.texts.length || 0, taken = plural(count, 'step');
+        const end = found?.back ? `came back to problem ${found.back.number} in ${taken}` : `${taken}${auto.isStopped ? ', stopped' : ''}`;
         view.note(element('strong', {}, 'auto '), end, hint(` ${seconds(performance.now() - started)}`));
         if (!count) return;
         if (found.back) found.cards.at(-1).back = found.back;

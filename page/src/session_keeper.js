@@ -59,7 +59,10 @@ export class Sessions {
         await Promise.all(cards.map(async (card, i) => {
             if (await read(card.problem) !== card.problem) throw new Error(`card ${i + 1} of the session: its problem is no canonical text`);
             const {problem} = await this.workbench.facts.learn(card.problem);
-            if (card.written && await read(problemText(problem, blockOf(card.written.active), blockOf(card.written.passive))) !== card.problem) throw new Error(`card ${i + 1} of the session: what was written is another problem`);
+            const {written} = card;
+            if (written && await read(problemText(problem, blockOf(written.active), blockOf(written.passive))) !== card.problem) {
+                throw new Error(`card ${i + 1} of the session: what was written is another problem`);
+            }
         }));
     }
 

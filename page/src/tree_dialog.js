@@ -24,10 +24,16 @@ class TreeDialog {
         openWideDialog('The algorithm of the upper bound',
             element('p', {}, element('span.good.line', {}, verdict.line), hint(' Squares are active nodes, circles passive ones; small numbers are ports.')),
             this.picture, this.state,
-            element('footer', {}, button('Other port numbers', () => { this.seed += 1; this.draw(); }, {class: 'primary'}), this.wholeLabel, button('Extract the table', () => this.extract()),
+            element('footer', {}, button('Other port numbers', () => { this.seed += 1; this.draw(); }, {class: 'primary'}), this.wholeLabel,
+                button('Extract the table', () => this.extract()),
                 button('Copy the input of re run', event => copy(this.input, event.currentTarget)),
-                button('SVG', () => { const drawn = this.picture.querySelector('svg'); if (drawn) download('run.svg', pictureFile(drawn), 'image/svg+xml'); }, {'aria-label': 'download the tree as SVG'})),
+                button('SVG', () => this.save(), {'aria-label': 'download the tree as SVG'})),
             this.table);
+    }
+
+    save() {
+        const drawn = this.picture.querySelector('svg');
+        if (drawn) download('run.svg', pictureFile(drawn), 'image/svg+xml');
     }
 
     async draw() {
@@ -49,7 +55,8 @@ class TreeDialog {
         replace(this.table, hint('asking…'));
         const {text} = await this.bench.engine.ask('re', ['extract'], this.verdict.certificate).catch(error => ({text: error.message}));
         const lines = text.split('\n', FEW_LINES + 1), isLong = lines.length > FEW_LINES;
-        replace(this.table, element('div.group', {}, element('strong', {}, 'Table, view by view'), button('Copy', event => copy(text, event.currentTarget), {class: 'link'}), button('Download', () => download('algorithm.txt', text), {class: 'link'})),
+        replace(this.table, element('div.group', {}, element('strong', {}, 'Table, view by view'),
+            button('Copy', event => copy(text, event.currentTarget), {class: 'link'}), button('Download', () => download('algorithm.txt', text), {class: 'link'})),
             element('pre', {tabIndex: 0}, lines.slice(0, FEW_LINES).join('\n') + (isLong ? '\n… Copy and Download give all lines.' : '')));
     }
 }
@@ -58,7 +65,8 @@ class TreeDialog {
 function drawRun(nodes, standing) {
     const at = ringPlaces(nodes), xs = at.map(({x}) => x), ys = at.map(({y}) => y), margin = 24;
     const [left, top] = [Math.min(...xs) - margin, Math.min(...ys) - margin], [width, height] = [Math.max(...xs) + margin - left, Math.max(...ys) + margin - top];
-    const picture = svg('svg', {class: 'run', viewBox: [left, top, width, height].map(n => n.toFixed(0)).join(' '), width: width.toFixed(0), height: height.toFixed(0), role: 'img'},
+    const box = [left, top, width, height].map(n => n.toFixed(0));
+    const picture = svg('svg', {class: 'run', viewBox: box.join(' '), width: box[2], height: box[3], role: 'img'},
         svg('title', {}, 'The tree with what its active nodes output'));
     const edges = nodes.map((node, v) => ({node, v})).filter(({node}) => node.parent !== null);
     for (const {node, v} of edges) picture.append(svg('line', {class: 'line', x1: at[v].x, y1: at[v].y, x2: at[node.parent].x, y2: at[node.parent].y}));

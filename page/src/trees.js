@@ -43,7 +43,10 @@ export function deliveriesOf(nodes, rounds) {
     return lines;
 }
 
-export const runInput = (certificate, nodes, deliveries) => [`${certificate.trimEnd()}\n== tree\npassive`, ...nodes.slice(1).map(node => `${node.parent} ${node.port} ${node.own}`), '== deliveries', ...deliveries].join('\n') + '\n';
+export function runInput(certificate, nodes, deliveries) {
+    const joins = nodes.slice(1).map(({parent, port, own}) => `${parent} ${port} ${own}`);
+    return [certificate.trimEnd(), '== tree', 'passive', ...joins, '== deliveries', ...deliveries].join('\n') + '\n';
+}
 
 // The lines `node v round r: A B` of `re run`: {round, labels} of each node, labels null where it doesn't output.
 export const readRun = text => text.trim().split('\n').map(line => {

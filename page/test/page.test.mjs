@@ -1,7 +1,7 @@
 // A user in a headless Chromium, with real clicks and keys. `ONLY=word` picks sessions. `PICTURES=folder` keeps the pictures for the pages.
 import {mkdirSync} from 'fs';
 import {join} from 'path';
-import {openBrowser} from './browser.mjs';
+import {openBrowser, wait} from './browser.mjs';
 import {Tally} from './tally.mjs';
 import {User} from './user.mjs';
 import {tenSessions} from './ten_sessions.mjs';
@@ -11,9 +11,14 @@ import {robustness} from './robustness.mjs';
 const tally = new Tally('page'), page = await openBrowser({height: 900}), user = new User(page, tally);
 const pictures = process.env.PICTURES;
 if (pictures) mkdirSync(pictures, {recursive: true});
-// A picture of some elements of the page, with a margin.
+// A picture of some elements of the page, with a margin; none: of all that is seen.
 const picture = async (name, ...selectors) => {
     if (!pictures) return;
+    // No mouse, no message.
+    await page.mouse('mouseMoved', {x: 2, y: 2});
+    await page.value(`document.querySelector('#message').className = ''`);
+    await wait(400);
+    if (!selectors.length) { await page.picture(join(pictures, `${name}.png`)); return; }
     const box = await page.value(`(() => {
         const boxes = ${JSON.stringify(selectors)}.flatMap(selector => [...document.querySelectorAll(selector)].map(node => node.getBoundingClientRect()));
         const [left, top] = [Math.min(...boxes.map(box => box.left)) - 8, Math.min(...boxes.map(box => box.top)) - 8];

@@ -21,7 +21,7 @@ export const tenSessions = {
         await user.act('Universal rows');
         tally.equal('universal rows', (await page.until(`document.querySelector('.card.last .note pre')?.textContent`)).trim(), answer(['universal'], await user.problem()).trim());
         await page.click('.card.last .note .close');
-        await page.hover('.bar h1');
+        await page.value(`document.querySelector('.card.last').scrollIntoView()`);
         await picture('card', '.card.last');
         for (const k of [3, 4, 5]) { await user.step(k + 1); await user.says(`accepted: not solvable in ${k} or fewer rounds`); }
     },
@@ -39,10 +39,9 @@ export const tenSessions = {
         await user.says('accepted: not solvable in any number of rounds');
         tally.check('it goes back', (await page.value(`document.querySelector('.card.last .back').textContent`)).includes('Back to problem'));
         await page.click('#close-all');
-        await page.click('.card .toggle');
-        await page.value(`scrollTo({top: 0, behavior: 'instant'})`);
-        await wait(200);
-        await picture('chain', 'aside', '#chain', '#claim');
+        await page.click('.card.last .toggle');
+        await page.value('scrollTo(0, 0)');
+        await picture('chain');
     },
 
     async 'sinkless orientation, closed as a fixed point by hand'(user, page, tally) {
@@ -176,7 +175,6 @@ export const tenSessions = {
         const state = await page.until(`document.querySelector('dialog .state code, dialog .state .code')?.textContent`);
         const first = await page.value('bench.cards.path()[0].problem'), around = answer(['read'], `${first.split('\n\n')[0]}\n\n${state}\n`).split('\n\n')[1].trim();
         tally.check(`around the passive node: ${state} ${line}`, first.split('\n\n')[1].split('\n').includes(around));
-        await picture('algorithm', 'dialog');
         await user.watchCopies();
         await page.click('dialog button', 'Copy the input of re run');
         tally.equal('nodes of the native run', answer(['run'], await user.copied()).split('\n').filter(row => row.startsWith('node')).length > 3, true);
@@ -193,6 +191,13 @@ export const tenSessions = {
         await user.actOnSelected('Leave out');
         await page.until(cardsAre(5));
         await user.says('accepted: solvable in 3 rounds');
+        // One of the gallery.
+        await page.choose('#gallery', 'proposals 3 upper');
+        await page.until(`bench.cards.path()[0].title === 'proposals 3 upper'`);
+        await user.says(answer(['check'], example('gallery/proposals-3-upper.txt')).trim());
+        await page.click('#algorithm');
+        await page.until(`document.querySelector('dialog svg.run')`);
+        await picture('algorithm', 'dialog');
     },
 
     async 'copy, and check again natively'(user, page, tally) {

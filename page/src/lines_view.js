@@ -1,7 +1,7 @@
 // The configurations of one side: the first few, and behind a button all of them, of which only those in view are drawn.
 import {button, element, plural, replace} from './dom.js';
 
-const FEW = 14, DIRECT = 200, ROW = 22, SHOWN = 18, TALLEST = 8000000;
+const FEW = 14, ROOM = 3000, DIRECT = 200, DIRECT_ROOM = 20000, ROW = 22, SHOWN = 18, TALLEST = 8000000;
 
 // A line of a problem, its labels marked so that they can be pointed at.
 export function lineParts(line) {
@@ -14,10 +14,10 @@ export function lineParts(line) {
 
 const lineNode = line => element('div.line', {}, ...lineParts(line));
 
-// The first lines of a text, without cutting all of it.
-function firstLines(text, most) {
+// The first lines of a text, without cutting all of it: so many, and no more past so many characters.
+function firstLines(text, most, room) {
     const lines = [];
-    for (let at = 0; at <= text.length && lines.length < most;) {
+    for (let at = 0; at <= text.length && lines.length < most && at < room;) {
         const end = text.indexOf('\n', at);
         lines.push(text.slice(at, end < 0 ? text.length : end));
         at = end < 0 ? text.length + 1 : end + 1;
@@ -37,13 +37,17 @@ export class LinesView {
         if (this.text === text) return;
         Object.assign(this, {text, count});
         if (!count) { replace(this.node, element('div.line.empty', {}, nothing)); return; }
-        const rest = count - FEW;
-        replace(this.node, firstLines(text, FEW).map(lineNode), rest > 0 ? button(plural(rest, 'more line'), () => this.showAll(), {class: 'link'}) : null);
+        const lines = firstLines(text, FEW, ROOM), rest = count - lines.length;
+        replace(this.node, lines.map(lineNode), rest > 0 ? button(plural(rest, 'more line'), () => this.showAll(), {class: 'link'}) : null);
         this.onDraw();
     }
 
     async showAll() {
-        if (this.count <= DIRECT) { replace(this.node, firstLines(this.text, DIRECT).map(lineNode)); this.onDraw(); return; }
+        if (this.count <= DIRECT && this.text.length <= DIRECT_ROOM) {
+            replace(this.node, firstLines(this.text, DIRECT, DIRECT_ROOM).map(lineNode));
+            this.onDraw();
+            return;
+        }
         const starts = await this.engine.work('lineStarts', this.text);
         this.window(starts);
     }

@@ -31,7 +31,8 @@ const click = (selector, says) => () => page.click(selector, says);
 
 await page.go();
 await page.value(WATCH);
-await timed('colouring 6 6 16: 54,264 passive configurations', openText(answer(['family', 'colouring', '6', '6', '16'])), judged);
+await timed('colouring 6 6 16: 8,024 configurations', openText(answer(['family', 'colouring', '6', '6', '16'])), judged);
+await timed('108,528 configurations', open(`() => { const side = '[ABCDEFGHIJKLMNOP]^6'; return side + '\\n\\n' + side + '\\n'; }`), `bench.facts.of(bench.cards.path()[0].problem).count === 108528 && ${judged}`);
 await timed('a diagram of them', click('.card.last figure[data-side=passive] button', 'Ask for the diagram'), `document.querySelectorAll('.card.last svg.diagram').length === 1`);
 await timed('128 labels, all pairs', open(`() => { const names = Array.from({length: 128}, (_, i) => '(L' + i + ')'); return names.map(x => '[' + names.join('') + '] ' + x).join('\\n') + '\\n\\n' + names.map(x => x + '^2').join('\\n') + '\\n'; }`), judged);
 await timed('a step of 128 labels', click('.card.last .actions button', 'Step'), `bench.cards.path().length === 2 && ${judged} || document.querySelector('.card.last .remarks .faulty')`);

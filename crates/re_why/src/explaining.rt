@@ -28,6 +28,7 @@ pub fn names_why(words: &[String]) -> bool
 }
 
 /// The line of help.
+#[tactic(auto, unfolding(crate::specs::Explaining::why_help))]
 pub fn why_help() -> &'static str
     ensures { result.now ≡ why_help }
 {

@@ -1,0 +1,64 @@
+//! What the calls of this crate answer.
+ghost use Rattle.std.specs.Prelude.{◌≡◌};
+
+use re_cert::Certificate;
+use re_labels::{LabelSet, NoMemory};
+use std::alloc::{AllocError, AllocFailed};
+
+/// What the closure of a problem comes to.
+#[derive(Drop)]
+pub enum Closing {
+    /// The certificate that the closure comes back, and isn't solvable without communication.
+    Found(Certificate),
+    /// The closure is solvable without communication: the right-closed sets of the labels of its first active configuration that fits.
+    /// This says nothing of the problem.
+    Solvable(Vec<LabelSet>),
+    /// No certificate came of it. From the closure of a problem one always does (`re_lines::chain_law`); that what is computed is the closure, no clause says.
+    NotFound,
+}
+
+/// What the closure of a problem has too many of.
+#[derive(Clone, Copy, Debug, PartialEq, Eq)]
+pub enum ClosureLimit {
+    /// More than `re_config::MAX_ROWS` rows of one side at a time, or more than `MAX_COMBINATIONS` that had to be looked at.
+    Rows,
+    /// More than `re_labels::MAX_LABELS` labels, and how many.
+    Labels(u32),
+    /// More than `re_table::MAX_CONFIGURATIONS` configurations of one side.
+    Configurations,
+}
+
+/// Why there is no answer.
+#[derive(Clone, Copy, Debug, PartialEq, Eq)]
+pub enum ClosureFault {
+    /// The closure passes this limit.
+    Limit(ClosureLimit),
+    /// There was no memory.
+    NoMemory,
+}
+
+impl From<NoMemory> for ClosureFault {
+    ghost use Rattle.re_closure.specs.declared.types.ClosureFault.TheVariants.{NoMemory as no_memory};
+
+    ghost from_gives = { λ _ e. e ≡ no_memory };
+
+    fn from(_: NoMemory) -> Self {
+        ClosureFault::NoMemory
+    }
+}
+
+impl From<AllocError> for ClosureFault {
+    ghost use Rattle.re_closure.specs.declared.types.ClosureFault.TheVariants.{NoMemory as no_memory};
+
+    ghost from_gives = { λ _ e. e ≡ no_memory };
+
+    fn from(_: AllocError) -> Self {
+        ClosureFault::NoMemory
+    }
+}
+
+impl<T: Drop> From<AllocFailed<T>> for ClosureFault {
+    fn from(_fault: AllocFailed<T>) -> ClosureFault {
+        ClosureFault::NoMemory
+    }
+}

@@ -1,0 +1,15 @@
+pub mod Unders
+pub mod Below
+pub mod MaximalLines
+pub mod Entries
+pub mod Steps
+pub mod UpSets
+pub mod FirstSteps
+pub mod Returning
+pub mod Generated
+pub mod Closing
+pub mod Monotone
+pub mod Existing
+pub mod Unique
+pub mod Marks
+pub mod Itself

@@ -7,7 +7,7 @@ use re_cert::read_certificate;
 use re_check::{Kind, Verdict, check, upper_steps};
 use re_extract::Extractor;
 use re_io::MAX_BYTES;
-use re_labels::{Degrees, NoMemory, Side};
+use re_labels::{Degrees, NoMemory, PortLabels, Side};
 use re_pool::{NodeId, Pool, Rule, narrow_law};
 use re_views::{View, is_view, pad};
 use std::alloc::Global;
@@ -59,24 +59,59 @@ fn path(alloc: Global, steps: u8) -> Result<String, NoMemory> {
     Ok(text)
 }
 
-// A view on a path that shows 64 rounds: each level has few different views, and the tree of calls would have 2^64.
-#[test]
-fn far_on_a_path(rt: HostRuntime) -> Result<(), Fail> {
-    let text = path(rt.alloc(), 64)?;
-    let Some(mut extractor) = extractor(rt.alloc(), text.as_str()) else {
-        return Err("no upper bound".into());
-    };
+// What the algorithm gives at the view.
+fn extracted(
+    rt: &impl Abort,
+    pool: &mut Pool,
+    extractor: &mut Extractor,
+    view: &View<()>,
+) -> Result<PortLabels, Fail> {
+    let id = placed(rt, pool, extractor, view)?;
+    Ok(extractor.extract(pool, id)?)
+}
+
+// The same, asked as a rule.
+fn ruled(
+    rt: &impl Abort,
+    pool: &mut Pool,
+    extractor: &mut Extractor,
+    view: &View<()>,
+) -> Result<PortLabels, Fail> {
+    let id = placed(rt, pool, extractor, view)?;
+    Ok(extractor.labels(pool, id)?)
+}
+
+// Whether both are label 0 at each port.
+fn are_zero(
+    rt: &impl Abort,
+    alloc: Global,
+    extractor: &mut Extractor,
+    view: &View<()>,
+) -> Result<bool, Fail> {
+    let mut pool = Pool::new(alloc);
+    let first = extracted(rt, &mut pool, extractor, view)?;
+    let again = ruled(rt, &mut pool, extractor, view)?;
+    Ok(first.labels() == [0, 0].as_slice() && again.labels() == [0, 0].as_slice())
+}
+
+fn far_view(alloc: Global) -> Result<View<()>, Fail> {
     let degrees = Degrees {
         active: 2,
         passive: 2,
     };
-    let view = pad(rt.alloc(), &View::Leaf, degrees, Side::Active, 64, ())?;
-    let mut pool = Pool::new(rt.alloc());
-    let id = placed(&rt, &mut pool, &extractor, &view)?;
-    let labels = extractor.extract(&mut pool, id)?;
-    assert_eq!(rt; labels.labels(), [0, 0].as_slice());
-    let again = placed(&rt, &mut pool, &extractor, &view)?;
-    let labels = extractor.labels(&mut pool, again)?;
-    assert_eq!(rt; labels.labels(), [0, 0].as_slice());
+    Ok(pad(alloc, &View::Leaf, degrees, Side::Active, 64, ())?)
+}
+
+fn far_extractor(alloc: Global) -> Result<Extractor, Fail> {
+    let text = path(alloc, 64)?;
+    Ok(extractor(alloc, text.as_str()).ok_or("no upper bound")?)
+}
+
+// A view on a path that shows 64 rounds: each level has few different views, and the tree of calls would have 2^64.
+#[test]
+fn far_on_a_path(rt: HostRuntime) -> Result<(), Fail> {
+    let view = far_view(rt.alloc())?;
+    let mut extractor = far_extractor(rt.alloc())?;
+    assert!(rt; are_zero(&rt, rt.alloc(), &mut extractor, &view)?);
     Ok(())
 }

@@ -1,7 +1,6 @@
 //! How many views there are, as numbers that were counted by hand.
 use re_labels::{Degrees, Side};
 use re_places::view_count;
-use std::test::Fail;
 
 const DEGREES: Degrees = Degrees {
     active: 3,
@@ -9,7 +8,7 @@ const DEGREES: Degrees = Degrees {
 };
 
 #[test]
-fn views_are_counted(rt: HostRuntime) -> Result<(), Fail> {
+fn views_are_counted(rt: HostRuntime) {
     for (side, radius, want) in [
         (Side::Active, 0, Some(1)),
         (Side::Active, 1, Some(8)),
@@ -23,18 +22,17 @@ fn views_are_counted(rt: HostRuntime) -> Result<(), Fail> {
         (Side::Passive, 3, Some(11_664)),
         (Side::Passive, 4, None),
     ] {
-        assert_eq!(rt;
-            view_count(DEGREES, side, radius),
-            want,
-            "at radius {radius}"
-        );
+        assert_eq!(rt; view_count(DEGREES, side, radius), want);
     }
-    // no more than are listed: 2 to the power of 16
+}
+
+// No more than are listed: 2 to the power of 16.
+#[test]
+fn views_on_paths(rt: HostRuntime) {
     let narrow = Degrees {
         active: 2,
         passive: 2,
     };
     assert_eq!(rt; view_count(narrow, Side::Active, 8), Some(65_536));
     assert_eq!(rt; view_count(narrow, Side::Active, 9), None);
-    Ok(())
 }

@@ -18,6 +18,8 @@ trap 'rm -rf "$folder"' EXIT
 mkdir "$folder/tmp"
 build=run
 [ "$how" != --unproved ] || build=try
+# Without its stamp a built program is built again, and not only run; what is proved stays so.
+rm -f "$crate/out/$(basename "$crate").stamp"
 (cd "$crate" && TMPDIR=$folder/tmp rt $build -- help < /dev/null > "$folder/log" 2>&1 || true) &
 building=$!
 while kill -0 $building 2> /dev/null; do

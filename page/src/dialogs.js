@@ -2,6 +2,8 @@
 import {$, button, copy, cut, download, element, faulty, hint, plural, replace, say} from './dom.js';
 import {LONGEST_SHOWN, NumberedArea} from './numbered_area.js';
 
+// So many characters of a certificate are shown; Copy and Download give all.
+const MOST_SHOWN_OF_CERTIFICATE = 20000;
 // Larger files are no texts of this page.
 const LARGEST_FILE = 64000000;
 
@@ -33,13 +35,13 @@ export function openNoteDialog(note, onKeep) {
 
 export function openCertificateDialog(verdict, bench) {
     if (!verdict?.certificate) { say(verdict ? 'This chain is neither a lower nor an upper bound.' : 'There is no certificate yet.'); return; }
-    const {certificate, line, accepted, kind} = verdict, file = kind === 'fixed' ? 'fixed-point' : `${kind}-bound`, isLong = certificate.length > LONGEST_SHOWN;
+    const {certificate, line, accepted, kind} = verdict, file = kind === 'fixed' ? 'fixed-point' : `${kind}-bound`, isLong = certificate.length > MOST_SHOWN_OF_CERTIFICATE;
     const text = element('textarea.code', {readOnly: true, rows: 20, 'aria-label': 'certificate'});
-    text.value = cut(certificate, LONGEST_SHOWN);
+    text.value = cut(certificate, MOST_SHOWN_OF_CERTIFICATE);
     const dialog = openDialog('Certificate',
         element('p', {}, element('span', {class: accepted ? 'good line' : 'faulty line'}, line),
             hint(` is what re check prints of this text, here and on the command line: re check < ${file}.txt`)),
-        text, isLong ? element('p', {}, hint(`The first ${LONGEST_SHOWN.toLocaleString('en')} of ${plural(certificate.length, 'character')}; Copy and Download give all.`)) : null,
+        text, isLong ? element('p', {}, hint(`The first ${MOST_SHOWN_OF_CERTIFICATE.toLocaleString('en')} of ${plural(certificate.length, 'character')}; Copy and Download give all.`)) : null,
         element('footer', {}, button('Copy', event => copy(certificate, event.currentTarget), {class: 'primary', autofocus: true}),
             button('Download', () => download(`${file}.txt`, certificate)),
             button('Change it', () => { dialog.close(); openTextDialog(bench, certificate); }, {title: 'edit the text and open it as a new chain'})));

@@ -27,6 +27,7 @@ export class Editor {
     set(active, passive) {
         this.active.value = active;
         this.passive.value = passive;
+        this.reading = null;
         return this.read();
     }
 
@@ -41,6 +42,7 @@ export class Editor {
 
     changed(area) {
         const {value} = area;
+        this.reading = null;
         if (this.onOther && isCertificate(value)) { area.value = ''; this.onOther(value); return; }
         // What is pasted with its empty line is cut there.
         if (area === this.active && !this.passive.value.trim() && /\S[^\n]*\n\s*\n\s*\S/.test(value)) { this.setText(value); return; }
@@ -48,9 +50,14 @@ export class Editor {
         this.timer = setTimeout(() => this.read(), DELAY);
     }
 
-    // Asks the program to read what stands there; answers the canonical text, or null.
-    async read() {
-        const {text} = this;
+    // Asks the program to read what stands there, once for each text; answers the canonical text, or null.
+    read() {
+        clearTimeout(this.timer);
+        this.reading ||= this.readAnew(this.text);
+        return this.reading;
+    }
+
+    async readAnew(text) {
         this.active.number();
         this.passive.number();
         this.problem = null;
@@ -58,7 +65,9 @@ export class Editor {
         if (!text.trim()) { replace(this.state, hint('One configuration a line: labels, groups [AB], powers A^2.')); this.onRead(null); return null; }
         this.job = this.engine.start('re', ['read'], text, {quiet: true});
         const answer = await this.job.answer.catch(() => null);
-        if (!answer || text !== this.text) return null;
+        if (text !== this.text) return null;
+        // Stopped, or its worker ended: it may be asked again.
+        if (!answer) { this.reading = null; return null; }
         if (answer.status !== 0) { this.complain(answer.text.trim()); this.onRead(null); return null; }
         return this.accept(text, answer.text);
     }

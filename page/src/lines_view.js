@@ -37,19 +37,23 @@ export class LinesView {
         if (this.text === text) return;
         Object.assign(this, {text, count});
         if (!count) { replace(this.node, element('div.line.empty', {}, nothing)); return; }
+        // Groups that come in later leave open what was opened.
+        if (this.isWhole) { this.showAll(); return; }
         const lines = firstLines(text, FEW, ROOM), rest = count - lines.length;
         replace(this.node, lines.map(lineNode), rest > 0 ? button(plural(rest, 'more line'), () => this.showAll(), {class: 'link'}) : null);
         this.onDraw();
     }
 
     async showAll() {
+        this.isWhole = true;
+        const {text} = this;
         if (this.count <= DIRECT && this.text.length <= DIRECT_ROOM) {
             replace(this.node, firstLines(this.text, DIRECT, DIRECT_ROOM).map(lineNode));
             this.onDraw();
             return;
         }
-        const starts = await this.engine.work('lineStarts', this.text);
-        this.window(starts);
+        const starts = await this.engine.work('lineStarts', text);
+        if (text === this.text) this.window(starts);
     }
 
     // A box to scroll in, whose lines are drawn as they come into view.

@@ -1,6 +1,7 @@
 // Drives a headless Chromium over its debugging pipe: clicks and keys as a user makes them.
 import {spawn} from 'child_process';
-import {mkdtempSync, rmSync, writeFileSync} from 'fs';
+import {mkdtempSync, writeFileSync} from 'fs';
+import {rm} from 'fs/promises';
 import {tmpdir} from 'os';
 import {join} from 'path';
 import {pageFile} from './place.mjs';
@@ -41,7 +42,7 @@ export async function openBrowser({width = 1366, height = 768, dark = false} = {
     await ask('Emulation.setDeviceMetricsOverride', {width, height, deviceScaleFactor: 1, mobile: false});
     if (dark) await ask('Emulation.setEmulatedMedia', {features: [{name: 'prefers-color-scheme', value: 'dark'}]});
     const close = () => new Promise(resolve => {
-        child.on('exit', () => { rmSync(profile, {recursive: true, force: true, maxRetries: 5}); resolve(); });
+        child.on('exit', () => rm(profile, {recursive: true, force: true, maxRetries: 20, retryDelay: 100}).catch(() => {}).then(resolve));
         child.kill();
     });
     return new Page(ask, events, close);

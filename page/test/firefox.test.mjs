@@ -1,6 +1,7 @@
 // The page in Firefox, from the disk: steps, a search that is stopped, a worker that ends, a reload. Debian's firefox-esr is needed.
 import {spawn} from 'child_process';
-import {mkdtempSync, rmSync} from 'fs';
+import {mkdtempSync} from 'fs';
+import {rm} from 'fs/promises';
 import {tmpdir} from 'os';
 import {join} from 'path';
 import {wait} from './browser.mjs';
@@ -78,5 +79,5 @@ socket?.close();
 const ended = new Promise(resolve => child.on('exit', resolve));
 child.kill();
 await ended;
-rmSync(profile, {recursive: true, force: true, maxRetries: 5});
+await rm(profile, {recursive: true, force: true, maxRetries: 20, retryDelay: 100}).catch(() => {});
 tally.end();

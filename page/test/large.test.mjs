@@ -1,26 +1,30 @@
-// Problems at the limits: the page is never still for more than 0.2 s, but for what the browser itself takes. PAUSE=ms changes the bound.
+// Problems at the limits: the page is never still for more than 0.2 s, beyond what the machine keeps an idle worker waiting in the same
+// time. PAUSE=ms changes the bound.
 import {openBrowser, wait} from './browser.mjs';
 import {answer} from './place.mjs';
 import {Tally} from './tally.mjs';
 
 const MOST = Number(process.env.PAUSE || 200), tally = new Tally('large'), page = await openBrowser();
-let longest = 0;
+let longest = 0, longestBeyond = 0;
 
 // The longest time in which nothing else of the page could run.
 const WATCH = `(() => { window.longest = 0; let last = performance.now(); const {port1, port2} = new MessageChannel();
     port1.onmessage = () => { const now = performance.now(); longest = Math.max(longest, now - last); last = now; setTimeout(() => { last = Math.max(last, performance.now() - 1); port2.postMessage(0); }, 4); };
     port2.postMessage(0);
+    const idle = new Worker(URL.createObjectURL(new Blob(['let last = performance.now(), longest = 0; setInterval(() => { const now = performance.now(); longest = Math.max(longest, now - last - 5); last = now; }, 5); onmessage = () => { postMessage(longest); longest = 0; };'])));
+    window.noise = () => new Promise(resolve => { idle.onmessage = ({data}) => resolve(data); idle.postMessage(0); });
     new PerformanceObserver(list => { for (const {duration} of list.getEntries()) window.longest = Math.max(window.longest, duration); }).observe({type: 'longtask'}); })()`;
 
 async function timed(name, act, done, limit = 300000) {
-    await page.value('window.longest = 0');
+    await page.value('noise().then(() => { window.longest = 0; })');
     const started = Date.now();
     await tally.run(name, async () => { await act(); await page.until(done, limit); });
     await wait(1500);
-    const pause = Math.round(await page.value('window.longest'));
+    const pause = Math.round(await page.value('window.longest')), noise = Math.round(await page.value('noise()'));
     longest = Math.max(longest, pause);
-    if (process.env.VERBOSE) console.log(`${name}: ${((Date.now() - started) / 1000 - 1.5).toFixed(1)} s, longest pause ${pause} ms, ${await page.value(`document.querySelector('#verdict')?.textContent`)}`);
-    tally.check(`${name}: longest pause ${pause} ms`, pause <= MOST);
+    longestBeyond = Math.max(longestBeyond, pause - noise);
+    if (process.env.VERBOSE) console.log(`${name}: ${((Date.now() - started) / 1000 - 1.5).toFixed(1)} s, longest pause ${pause} ms, of an idle worker ${noise} ms, ${await page.value(`document.querySelector('#verdict')?.textContent`)}`);
+    tally.check(`${name}: longest pause ${pause} ms, of an idle worker ${noise} ms`, pause - noise <= MOST);
 }
 
 // A text is made in the page, so that it need not come over the debugging pipe.
@@ -38,7 +42,7 @@ await timed('128 labels, all pairs', open(`() => { const names = Array.from({len
 await timed('a step of 128 labels', click('.card.last .actions button', 'Step'), `bench.cards.path().length === 2 && ${judged} || document.querySelector('.card.last .remarks .faulty')`);
 await timed('906,192 configurations', open(`() => '[ABCDEFGHIJKLMNOPQRSTUVWXYZa]^6\\n\\n[ABCDEFGHIJKLMNOPQRSTUVWXYZa]^2\\n'`), `bench.facts.of(bench.cards.path()[0].problem).problem.active.count === 906192 && ${judged}`);
 await timed('all lines of them', async () => {
-    await page.value(`(() => { const view = bench.view(bench.cards.path()[0]); view.lines.active.show(view.facts.plain().active, ''); })()`);
+    await page.value(`(() => { const view = bench.view(bench.cards.path()[0]); view.lines.active.isWhole = false; view.lines.active.show(view.facts.plain().active, ''); })()`);
     await page.click('.card.last .lines button', 'more lines');
 }, `document.querySelector('.card.last .window')`);
 await timed('scrolling through them', () => page.value(`(async () => { const box = document.querySelector('.card.last .window'); for (let i = 0; i <= 40; i++) { box.scrollTop = box.scrollHeight * i / 40; await new Promise(requestAnimationFrame); } })()`), `document.querySelector('.card.last .window .line:last-child').textContent === 'a6' || document.querySelector('.card.last .window').textContent.includes('a^6')`);
@@ -60,6 +64,6 @@ await timed('MIS of degree 6, three steps', async () => {
 await timed('undo and redo', async () => { for (const id of ['#undo', '#undo', '#redo', '#redo']) { await page.click(id); await wait(300); } }, judged);
 await timed('odd problems', async () => { for (const text of [answer(['family', 'colouring', '3', '5', '3']), '(IN_1)^3\n(OUT) [(IN_1)(OUT)]^2\n\n(IN_1) (OUT)\n', '%2\n\n%3\n', '[]\n\nA B\n']) await page.value(`bench.sessions.openText(${JSON.stringify(text)}, 'odd').catch(error => error.message)`); }, `document.querySelector('#verdict-line')`);
 tally.equal('no fault in the console', page.faults(), []);
-tally.note(`longest pause ${longest} ms`);
+tally.note(`longest pause ${longest} ms, beyond that of an idle worker ${longestBeyond} ms`);
 await page.close();
 tally.end();

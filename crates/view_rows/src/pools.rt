@@ -9,6 +9,7 @@ use arrayvec::ArrayVec;
 use re_labels::{Degrees, NoMemory, Side};
 use re_pool::{Link, NodeId, Pool, Shape, narrow_law};
 use re_views::{View, all_views, cut, is_view, shift};
+use std::alloc::Global;
 use std::process::Abort;
 use std::test::Fail;
 
@@ -62,6 +63,14 @@ fn shape_again(pool: &Pool, id: NodeId) -> Shape
     }
 }
 
+// Puts each active view of this radius into the pool.
+fn place_all(rt: &impl Abort, alloc: Global, pool: &mut Pool, radius: u8) -> Result<(), Fail> {
+    for view in &all_views(alloc, DEGREES, Side::Active, radius)? {
+        placed(rt, pool, view, radius)?;
+    }
+    Ok(())
+}
+
 // The node behind the first link, or the node itself where it has none.
 fn first_behind(pool: &Pool, id: NodeId) -> NodeId
     requires { id < length pool.now }
@@ -98,23 +107,50 @@ fn are_known(pool: &mut Pool, id: NodeId) -> Result<bool, NoMemory>
     Ok(view && below && is_known(pool, leaf)?)
 }
 
+// Whether each shape of a view of this radius is held once.
+fn each_is_held_once(
+    rt: &impl Abort,
+    alloc: Global,
+    pool: &mut Pool,
+    radius: u8,
+) -> Result<bool, Fail> {
+    for view in &all_views(alloc, DEGREES, Side::Active, radius)? {
+        let id = placed(rt, pool, view, radius)?;
+        if !are_known(pool, id)? {
+            return Ok(false);
+        }
+    }
+    Ok(true)
+}
+
 #[test]
 fn each_node_once(rt: HostRuntime) -> Result<(), Fail> {
     for (radius, nodes) in [(1, 9), (2, 220)] {
         let mut pool = Pool::new(rt.alloc());
         for _ in 0..2 {
-            for view in &all_views(rt.alloc(), DEGREES, Side::Active, radius)? {
-                placed(&rt, &mut pool, view, radius)?;
-            }
+            place_all(&rt, rt.alloc(), &mut pool, radius)?;
             assert_eq!(rt; pool.len(), nodes);
         }
-        for view in &all_views(rt.alloc(), DEGREES, Side::Active, radius)? {
-            let id = placed(&rt, &mut pool, view, radius)?;
-            assert!(rt; are_known(&mut pool, id)?);
-        }
+        assert!(rt; each_is_held_once(&rt, rt.alloc(), &mut pool, radius)?);
         assert_eq!(rt; pool.len(), nodes);
     }
     Ok(())
+}
+
+// Whether the view of radius 2 is shifted in the pool as it is by itself.
+fn is_shifted_alike(
+    rt: &impl Abort,
+    alloc: Global,
+    pool: &mut Pool,
+    view: &View<()>,
+    port: u8,
+) -> Result<bool, Fail>
+    requires least { 1 ≤ port }
+    requires most { port ≤ 3 }
+{
+    let id = placed(rt, pool, view, 2)?;
+    let over = pool.shift(id, port)?;
+    Ok(over == placed_over(rt, pool, &shift(alloc, view, port)?, 1)?)
 }
 
 #[test]
@@ -122,35 +158,51 @@ fn shift_as_written_out(rt: HostRuntime) -> Result<(), Fail> {
     let mut pool = Pool::new(rt.alloc());
     for view in &all_views(rt.alloc(), DEGREES, Side::Active, 2)? {
         for port in 1..4u8 {
-            let id = placed(&rt, &mut pool, view, 2)?;
-            let over = pool.shift(id, port)?;
-            let expected = placed_over(&rt, &mut pool, &shift(rt.alloc(), view, port)?, 1)?;
-            assert_eq!(rt; over, expected);
+            assert!(rt; is_shifted_alike(&rt, rt.alloc(), &mut pool, view, port)?);
         }
     }
     Ok(())
+}
+
+// Whether the view of radius 2 is cut in the pool as it is by itself.
+fn is_cut_alike(
+    rt: &impl Abort,
+    alloc: Global,
+    pool: &mut Pool,
+    view: &View<()>,
+) -> Result<bool, Fail> {
+    let id = placed(rt, pool, view, 2)?;
+    let near = pool.cut(id, 1)?;
+    Ok(near == placed(rt, pool, &cut(alloc, view, 1)?, 1)?)
 }
 
 #[test]
 fn cut_as_written_out(rt: HostRuntime) -> Result<(), Fail> {
     let mut pool = Pool::new(rt.alloc());
     for view in &all_views(rt.alloc(), DEGREES, Side::Active, 2)? {
-        let id = placed(&rt, &mut pool, view, 2)?;
-        let near = pool.cut(id, 1)?;
-        let expected = placed(&rt, &mut pool, &cut(rt.alloc(), view, 1)?, 1)?;
-        assert_eq!(rt; near, expected);
+        assert!(rt; is_cut_alike(&rt, rt.alloc(), &mut pool, view)?);
     }
     Ok(())
+}
+
+// Whether the view of radius 2 is read back from the pool, child by child.
+fn is_read_back(
+    rt: &impl Abort,
+    alloc: Global,
+    pool: &mut Pool,
+    view: &View<()>,
+) -> Result<bool, Fail> {
+    let id = placed(rt, pool, view, 2)?;
+    let again = seen_of(alloc, &pool.tree(id)?)?;
+    let seen = seen_of(alloc, view)?;
+    Ok(again.backs.as_slice() == seen.backs.as_slice())
 }
 
 #[test]
 fn read_back(rt: HostRuntime) -> Result<(), Fail> {
     let mut pool = Pool::new(rt.alloc());
     for view in &all_views(rt.alloc(), DEGREES, Side::Active, 2)? {
-        let id = placed(&rt, &mut pool, view, 2)?;
-        let again = seen_of(rt.alloc(), &pool.tree(id)?)?;
-        let seen = seen_of(rt.alloc(), view)?;
-        assert_eq!(rt; again.backs.as_slice(), seen.backs.as_slice());
+        assert!(rt; is_read_back(&rt, rt.alloc(), &mut pool, view)?);
     }
     Ok(())
 }

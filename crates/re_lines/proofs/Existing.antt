@@ -48,9 +48,6 @@ holds lines line = list_any (same_line line) lines
 holds-Contains : (lines : List (List (List ℕ))) (line : List (List ℕ)) → holds lines line ≡ true → Contains lines line
 holds-Contains lines line h = let (other, held, same) = any_found (same_line line) lines h in subst (Contains lines) (sym (same_line-same line other same)) held
 
-Contains-holds : (lines : List (List (List ℕ))) (line : List (List ℕ)) → Contains lines line → holds lines line ≡ true
-Contains-holds lines line held = any_true (same_line line) lines line held (same_line-refl line)
-
 -- ---- all lines
 abbrev all_label_sets : ℕ → List (List ℕ)
 all_label_sets n = map (set_of n) (count_from 0 (2 ^ n))

@@ -1,11 +1,11 @@
 -- What a run may say, by the words alone.
-use Rattle.std.proofs.Common.{◌≡◌, ℕ, List, Option, Some, None, Result, Ok, Err, refl, sym, ap, ◌∙◌, subst}
+use Rattle.std.proofs.Common.{◌≡◌, ◌≢◌, ℕ, List, Option, Some, None, Result, Ok, Err, refl, sym, ap, ◌∙◌, subst}
 use Rattle.std.specs.Prelude.{IfOk, IsTrue}
-use Rattle.re_frame.specs.Outcomes.{Outcome, outcome_of, status_of}
+use Rattle.re_frame.specs.Outcomes.{IsAnswer, Outcome, outcome_of, status_of}
 use Rattle.re_frame.specs.Runs.{MaySay}
 use Rattle.re_frame.specs.declared.output.Output.{Output}
 use Rattle.re_frame.specs.declared.status.Status.{Status}
-use Rattle.re_frame.specs.declared.status.Status.TheVariants.{BadWords, No}
+use Rattle.re_frame.specs.declared.status.Status.TheVariants.{BadInput, BadWords, Done, Limit, No, NoMemory, ReadFault, WriteFault}
 use Rattle.re_explore.specs.Commands.{bad_words, command_of, is_judging}
 use Rattle.re_explore.specs.Expected.{Says}
 use Rattle.re_explore.specs.declared.command.Command.{Command}
@@ -30,3 +30,14 @@ says_bad_words (Some command) answer result says is = (λ bad. absurd (subst (λ
 pub says_no : (command : Option Command) (answer result : Status) → Says answer command → result ≡ answer → result ≡ No → IsTrue (is_judging command)
 says_no None answer result says is said_no = absurd (let wrong : No ≡ BadWords = sym said_no ∙ is ∙ says in cc)
 says_no (Some command) answer result says is said_no = subst (λ s. MaySay s (is_judging (Some command))) (sym is ∙ said_no) says
+
+-- each status is an answer but for those of a fault, or of no memory
+pub is_answer : (status : Status) → status ≢ NoMemory → status ≢ ReadFault → status ≢ WriteFault → IsAnswer status
+is_answer Done memory read write = tt
+is_answer No memory read write = tt
+is_answer BadWords memory read write = tt
+is_answer BadInput memory read write = tt
+is_answer Limit memory read write = tt
+is_answer ReadFault memory read write = absurd (read refl)
+is_answer WriteFault memory read write = absurd (write refl)
+is_answer NoMemory memory read write = absurd (memory refl)

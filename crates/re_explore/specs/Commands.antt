@@ -1,5 +1,5 @@
 -- The commands of `explore`, and the words that name them. A family of words is an alternative of each definition here.
-use Rattle.std.specs.Prelude.{ℕ, Bool, true, false, List, [], ◌∷◌, ◌++◌, Option, None, Some, codes, if◌then◌else◌}
+use Rattle.std.specs.Prelude.{◌≡◌, ℕ, Bool, true, false, List, [], ◌∷◌, ◌++◌, Option, None, Some, codes, if◌then◌else◌}
 use Rattle.std.specs.Str.{bytes_eq}
 use Rattle.re_frame.specs.Outcomes.{Outcome, done, within_limit}
 use Rattle.re_frame.specs.declared.status.Status.TheVariants.{BadWords}
@@ -23,11 +23,11 @@ help_text = codes "help: reads nothing, gives these lines\n" ++ why_help
 unfoldable pub bad_words : Outcome
 bad_words = record { status = BadWords; text = codes "words: not a command\n" ++ help_text }
 
--- what a command answers, where it reads to these bytes
-unfoldable pub command_outcome : Option Command → List ℕ → Outcome
-command_outcome None bytes = bad_words
-command_outcome (Some Help) bytes = done help_text
-command_outcome (Some Explains) bytes = within_limit explaining_outcome bytes
+-- the outcomes that a command may have, where it reads these bytes: one alone, but where it searches
+abbrev pub IsOutcome : Option Command → List ℕ → Outcome → Type 0
+IsOutcome None bytes outcome = outcome ≡ bad_words
+IsOutcome (Some Help) bytes outcome = outcome ≡ done help_text
+IsOutcome (Some Explains) bytes outcome = outcome ≡ within_limit explaining_outcome bytes
 
 -- whether the command reads its input
 abbrev pub is_reading : Option Command → Bool

@@ -4,12 +4,12 @@ use Rattle.re_frame.specs.Outcomes.{Outcome}
 use Rattle.re_frame.specs.Runs.{MaySay}
 use Rattle.re_frame.specs.declared.status.Status.{Status}
 use Rattle.re_frame.specs.declared.status.Status.TheVariants.{BadWords}
-use Rattle.re_explore.specs.Commands.{command_of, command_outcome, is_judging, is_reading}
+use Rattle.re_explore.specs.Commands.{command_of, IsOutcome, is_judging, is_reading}
 use Rattle.re_explore.specs.declared.command.Command.{Command}
 
--- what is answered to these words and, where the command reads, these bytes
-unfoldable pub expected : List (List ℕ) → List ℕ → Outcome
-expected words bytes = command_outcome (command_of words) bytes
+-- the outcome is one that these words may have and, where the command reads, these bytes
+abbrev pub IsExpected : List (List ℕ) → List ℕ → Outcome → Type 0
+IsExpected words bytes outcome = IsOutcome (command_of words) bytes outcome
 
 -- the words name a command that reads its input
 abbrev pub reads_input : List (List ℕ) → Bool

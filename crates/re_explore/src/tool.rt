@@ -3,8 +3,8 @@ ghost use Rattle.std.specs.Prelude.{◌≡◌, ◌≤◌, ◌↔◌, List, ℕ, 
 ghost use Rattle.std.specs.Io.KnownBytes.{Keeps};
 ghost use Rattle.re_io.specs.Faults.{Rose};
 ghost use Rattle.re_explore.specs.Commands.{command_of, is_judging};
-ghost use Rattle.re_explore.specs.Expected.{IsInput, Says, expected, reads_input};
-ghost use Rattle.re_frame.specs.Outcomes.{IsAnswer, outcome_of, status_of};
+ghost use Rattle.re_explore.specs.Expected.{IsExpected, IsInput, Says, reads_input};
+ghost use Rattle.re_frame.specs.Outcomes.{IsAnswer, Outcome, outcome_of, status_of};
 ghost use Rattle.re_frame.specs.Runs.{Answers, StopsWithin, TakesInput};
 
 use crate::command::{Command, bad_words, command_from, help};
@@ -14,10 +14,9 @@ use re_why::Why;
 use std::alloc::Global;
 
 // The output for the words, from the source where the command reads.
-#[tactic(auto, unfolding(crate::specs::Expected::expected, crate::specs::Commands::command_outcome))]
 fn output_from<S: Source>(alloc: Global, words: &[String], source: &mut S) -> Result<Output, Stop>
     ensures output { IfOk result (λ output. (bytes : List ℕ) → IsInput (map string_bytes words.now) (S.left source.old) bytes →
-        outcome_of output ≡ expected (map string_bytes words.now) bytes) }
+        IsExpected (map string_bytes words.now) bytes (outcome_of output)) }
     ensures says { IfOk result (λ output. Says (status_of output.answer) (command_of (map string_bytes words.now))) }
     ensures read_fault { IsErrOf result Stop.ReadFault →
         IsTrue (reads_input (map string_bytes words.now)) × Rose (S.faults source.old) (S.faults source.new) }
@@ -41,9 +40,9 @@ pub fn run<S: Source, K: Sink>(
     source: &mut S,
     sink: &mut K,
 ) -> Status
-    // Done, No, BadWords, BadInput and Limit come as the words and the bytes say, with exactly that text.
+    // Done, No, BadWords, BadInput and Limit come as the words and the bytes say, with exactly the text of that outcome.
     ensures answer { IsAnswer result → (bytes : List ℕ) → IsInput (map string_bytes words.now) (S.left source.old) bytes →
-        Answers result (K.written sink.old) (K.written sink.new) (expected (map string_bytes words.now) bytes) }
+        (outcome : Outcome) × IsExpected (map string_bytes words.now) bytes outcome × Answers result (K.written sink.old) (K.written sink.new) outcome }
 
     // Whatever the source tells: BadWords exactly where the words are no command, and No only to a command that judges.
     ensures bad_words { IsAnswer result → (result ≡ Status.BadWords ↔ command_of (map string_bytes words.now) ≡ None) }
@@ -55,9 +54,9 @@ pub fn run<S: Source, K: Sink>(
     ensures read_within { result ≡ Status.ReadFault → TakesInput (S.left source.old) (S.left source.new) }
     ensures write_fault { result ≡ Status.WriteFault → Rose (K.faults sink.old) (K.faults sink.new) }
     ensures partly { result ≡ Status.WriteFault → (bytes : List ℕ) → IsInput (map string_bytes words.now) (S.left source.old) bytes →
-        StopsWithin (K.written sink.old) (K.written sink.new) (expected (map string_bytes words.now) bytes).text }
+        (outcome : Outcome) × IsExpected (map string_bytes words.now) bytes outcome × StopsWithin (K.written sink.old) (K.written sink.new) outcome.text }
     ensures not_put { IsAnswer result → (bytes : List ℕ) → IsInput (map string_bytes words.now) (S.left source.old) bytes →
-        (expected (map string_bytes words.now) bytes).text ≡ [] → sink.new ≡ sink.old }
+        ((outcome : Outcome) → IsExpected (map string_bytes words.now) bytes outcome → outcome.text ≡ []) → sink.new ≡ sink.old }
     ensures read_nothing_written { result ≡ Status.ReadFault → sink.new ≡ sink.old }
     ensures memory_nothing_written { result ≡ Status.NoMemory → Keeps (K.written sink.old) (K.written sink.new) }
 

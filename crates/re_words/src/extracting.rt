@@ -1,0 +1,110 @@
+// The command `extract`.
+ghost use Rattle.re_check.specs.Verdicts.{verdict_of};
+ghost use Rattle.re_words.specs.Command.{judges};
+ghost use Rattle.re_words.specs.Extracting.{algorithm_outcome, extracted_from, extracting_outcome};
+ghost use Rattle.re_frame.specs.Outcomes.{done as done_with, outcome_of, status_of, within_limit};
+ghost use Rattle.re_frame.specs.Runs.{MaySay, TakesInput};
+ghost use Rattle.re_words.specs.Tabling.{tabling_outcome};
+ghost use Rattle.re_io.specs.Faults.{Rose};
+ghost use Rattle.re_upper_tables.specs.UpperTables.{listed_table};
+ghost use Rattle.std.specs.Prelude.{◌≡◌, ◌≤◌, ℕ, List, [], codes, length, IfOk, IsErrOf, true};
+
+use crate::command::Command;
+use re_cert::{Certificate, read_certificate};
+use re_check::{Kind, Verdict, check, upper_steps};
+use re_extract::Extractor;
+use re_frame::{
+    Answer, Answering, Output, Stop, answer_input, begun, done, fault_output, refused,
+    verdict_output,
+};
+use re_io::{MAX_BYTES, Source};
+use re_labels::NoMemory;
+use re_problem::TextFault;
+use re_table_texts::{TableForm, print_table};
+use re_upper_tables::upper_table;
+use std::alloc::Global;
+
+// The table of an upper bound.
+fn algorithm_output(alloc: Global, extractor: &mut Extractor) -> Result<Output, NoMemory>
+    ensures output { IfOk result (λ output. outcome_of output ≡ algorithm_outcome extractor.old.first (listed_table extractor.old)) }
+    ensures yes { IfOk result (λ output. output.answer ≡ Answer.Done → tabling_outcome TableForm.Plain output.text.items ≡ done_with (codes "yes\n")) }
+{
+    match upper_table(alloc, extractor)? {
+        Some(table) => Ok(done(print_table(alloc, extractor.certificate().first(), &table)?)),
+        None => Ok(Output {
+            answer: Answer::Limit,
+            text: begun(alloc, "limit: more than 65536 views\n")?,
+        }),
+    }
+}
+
+// The table of a certificate of an upper bound, or why there is none.
+fn certificate_output(alloc: Global, certificate: Certificate) -> Result<Output, NoMemory>
+    ensures output { IfOk result (λ output. outcome_of output ≡ extracted_from certificate (verdict_of certificate)) }
+    ensures yes { IfOk result (λ output. output.answer ≡ Answer.Done → tabling_outcome TableForm.Plain output.text.items ≡ done_with (codes "yes\n")) }
+{
+    match check(&certificate) {
+        Verdict::Accepted {
+            kind: Kind::Upper,
+            ..
+        } => {
+            upper_steps(&certificate);
+            let mut extractor = Extractor::new(certificate);
+            algorithm_output(alloc, &mut extractor)
+        }
+        Verdict::Accepted { .. } => Ok(refused(begun(alloc, "no: not an upper bound\n")?)),
+        Verdict::Refused { step, clause } => {
+            Ok(verdict_output(alloc, Verdict::Refused { step, clause })?)
+        }
+    }
+}
+
+#[tactic(auto, unfolding(crate::specs::Extracting::extracting_outcome))]
+fn text_output(alloc: Global, text: &[u8]) -> Result<Output, NoMemory>
+    requires { length text.now ≤ MAX_BYTES }
+    ensures output { IfOk result (λ output. outcome_of output ≡ extracting_outcome text.now) }
+    ensures yes { IfOk result (λ output. output.answer ≡ Answer.Done → tabling_outcome TableForm.Plain output.text.items ≡ done_with (codes "yes\n")) }
+{
+    match read_certificate(alloc, text) {
+        Ok(certificate) => certificate_output(alloc, certificate),
+        Err(TextFault::Bad(fault)) => Ok(fault_output(alloc, fault)?),
+        Err(TextFault::NoMemory) => Err(NoMemory),
+    }
+}
+
+// The command itself.
+#[derive(Clone, Copy)]
+struct Extracting;
+
+impl Answering for Extracting {
+    ghost use Rattle.re_words.specs.Extracting.{extracting_outcome};
+    ghost use Rattle.re_words.specs.Tabling.{tabling_outcome};
+    ghost use Rattle.re_table_texts.specs.declared.table_texts.TableForm.TheVariants.{Plain};
+
+    ghost fits = { λ _. Unit {0} };
+
+    ghost outcome = { λ _. extracting_outcome };
+
+    ghost worth = { λ _ text. tabling_outcome Plain text ≡ done_with (codes "yes\n") };
+
+    ghost judging = { λ _. true };
+
+    fn answer(&self, alloc: Global, text: Vec<u8>) -> Result<Output, NoMemory> {
+        text_output(alloc, text.as_slice())
+    }
+}
+
+/// The table of the algorithm of an upper bound, whose certificate the source gives. The word `table` says yes to it.
+pub fn extract<S: Source>(alloc: Global, source: &mut S) -> Result<Output, Stop>
+    ensures output { IfOk result (λ output. (bytes : List ℕ) → S.left source.old ≡ Some bytes →
+        outcome_of output ≡ within_limit extracting_outcome bytes) }
+    ensures yes { IfOk result (λ output. output.answer ≡ Answer.Done → tabling_outcome TableForm.Plain output.text.items ≡ done_with (codes "yes\n")) }
+    ensures says { IfOk result (λ output. MaySay (status_of output.answer) (judges Command.Extracts)) }
+    ensures emptied { IfOk result (λ _. (bytes : List ℕ) → S.left source.old ≡ Some bytes →
+        length bytes ≤ MAX_BYTES → S.left source.new ≡ Some []) }
+    ensures fault { IsErrOf result Stop.ReadFault → Rose (S.faults source.old) (S.faults source.new) }
+    ensures within { IsErrOf result Stop.ReadFault → TakesInput (S.left source.old) (S.left source.new) }
+    ensures later { S.faults source.old ≤ S.faults source.new }
+{
+    answer_input(alloc, &Extracting, source)
+}

@@ -1,0 +1,77 @@
+// The commands that search for a certificate.
+ghost use Rattle.re_cert.specs.declared.certificate.TheConstants.{MAX_STEPS};
+ghost use Rattle.re_frame.specs.Check.{check_outcome};
+ghost use Rattle.re_words.specs.Command.{least_steps};
+ghost use Rattle.re_words.specs.Found.{Accepts};
+ghost use Rattle.re_frame.specs.Outcomes.{outcome_of, refused as refused_with};
+ghost use Rattle.re_words.specs.Searching.{not_found_line, search_outcome};
+ghost use Rattle.re_search.specs.Searches.{Answers, FindsSteps, FindsValid};
+ghost use Rattle.std.specs.Prelude.{◌≡◌, ◌≤◌, IfOk};
+
+use re_cert::Kind;
+use re_cert_text::print_certificate;
+use re_frame::{Answer, Output, begun, done, push_number, push_words, refused};
+use re_labels::NoMemory;
+use re_problem::Problem;
+use re_search::{FindFault, Search, find_fixed, find_lower, find_upper};
+use std::alloc::Global;
+
+// What the search for a bound of this kind comes to.
+fn find(
+    alloc: Global,
+    kind: Kind,
+    steps: u8,
+    changes: u8,
+    problem: &Problem,
+) -> Result<Search, FindFault>
+    requires least { least_steps kind ≤ steps }
+    requires steps { steps ≤ MAX_STEPS }
+    requires changes { changes ≤ 8 }
+    ensures answer { Answers kind steps changes problem.now result }
+    ensures valid { FindsValid kind result }
+    ensures found_steps { FindsSteps kind steps result }
+{
+    match kind {
+        Kind::Lower => find_lower(alloc, problem, steps, changes),
+        Kind::Upper => find_upper(alloc, problem, steps, changes),
+        Kind::Fixed => find_fixed(alloc, problem, steps, changes),
+    }
+}
+
+// The output for a search without success.
+fn not_found(alloc: Global, nodes: u32, cut: u32) -> Result<Output, NoMemory>
+    ensures { IfOk result (λ output. outcome_of output ≡ refused_with (not_found_line nodes cut)) }
+{
+    let mut text = begun(alloc, "not found: nodes ")?;
+    push_number(alloc, &mut text, nodes as usize)?;
+    push_words(&mut text, ", cut ")?;
+    push_number(alloc, &mut text, cut as usize)?;
+    push_words(&mut text, "\n")?;
+    Ok(refused(text))
+}
+
+/// The certificate that a search finds, which `check` accepts, or the counts of its nodes, unless these are too many.
+#[tactic(auto, unfolding(crate::specs::Searching::search_outcome))]
+pub(crate) fn search_output(
+    alloc: Global,
+    kind: Kind,
+    steps: u8,
+    changes: u8,
+    problem: &Problem,
+) -> Result<Output, NoMemory>
+    requires least { least_steps kind ≤ steps }
+    requires steps { steps ≤ MAX_STEPS }
+    requires changes { changes ≤ 8 }
+    ensures output { IfOk result (λ output. outcome_of output ≡ search_outcome kind steps changes problem.now) }
+    ensures accepted { IfOk result (λ output. output.answer ≡ Answer.Done → Accepts kind steps (check_outcome output.text.items)) }
+{
+    match find(alloc, kind, steps, changes, problem) {
+        Ok(Search::Found(certificate)) => Ok(done(print_certificate(alloc, &certificate)?)),
+        Ok(Search::NotFound { nodes, cut }) => not_found(alloc, nodes, cut),
+        Err(FindFault::TooManyNodes) => Ok(Output {
+            answer: Answer::Limit,
+            text: begun(alloc, "limit: more than 20000 nodes\n")?,
+        }),
+        Err(FindFault::NoMemory) => Err(NoMemory),
+    }
+}

@@ -50,12 +50,12 @@ GROUPS = [
     ),
     (
         "What runs",
-        "the second half of the headline, what `answer` of `re_cli::run` adds for the word `run`, with `re_cli::passive_nodes`, `re_runs::run_net` "
+        "the second half of the headline, what `answer` of `re_cli::run` adds for the word `run`, with `re_words::passive_nodes`, `re_runs::run_net` "
         "and the laws `re_runs::passive_law`, `re_laws::extract_law` and `re_check::upper_law`: finite trees, messages, the text of an input, and "
         "the algorithm of an upper bound.",
         [
             ("re_cli", "run", ["answer"]),
-            ("re_cli", "passive_nodes", None),
+            ("re_words", "passive_nodes", None),
             ("re_runs", "run_net", None),
             ("re_runs", "passive_law", None),
             ("re_laws", "extract_law", None),

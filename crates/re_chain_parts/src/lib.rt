@@ -1,0 +1,19 @@
+//! Chains of steps: the certificates whose END and BACK aren't asked for. What a certificate stands for as a chain, and copies of its
+//! parts.
+#![tactic(auto)]
+
+mod copies;
+mod sound;
+
+ghost use Rattle.re_chain_parts.specs.Chains.{ChainLaw};
+
+pub use copies::{
+    chain, chain_kind, copied_entries, copied_image, copied_images, copied_map, copied_rows,
+    copied_step, copied_steps,
+};
+pub use sound::over_problems;
+
+/// The chain that a certificate stands for is as sound as the certificate.
+pub fn chain_law()
+    ensures { ChainLaw }
+{}

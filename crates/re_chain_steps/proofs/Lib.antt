@@ -1,0 +1,3 @@
+pub mod MoreSteps
+pub mod OwnEntries
+pub mod RowForms

@@ -1,0 +1,12 @@
+use Rattle.std.proofs.Common.{subst}
+use Rattle.std.proofs.lemmas.Result.{IfOk-weaker}
+use Rattle.re_chain_texts.proofs.WordsGiven.{answered_any, judged_read}
+use Rattle.re_chain_texts.specs.OverChains.{ReadsAny}
+use Rattle.re_chain_texts.proofs.over_chains.read_sound.Goals as goal
+
+pub returns-in-Chain : goal.returns-in-Chain
+returns-in-Chain c =
+    IfOk-weaker c.judged.result _ _ (λ read is. judged_read c.args.text.now c.in-Chain.chain read (subst (ReadsAny c.args.text.now) c.in-Chain.is c.in_ok-chain.ensures) is) c.judged.ensures
+
+pub returns-in-Answered : goal.returns-in-Answered
+returns-in-Answered c = answered_any c.args.text.now c.in-Answered.output (subst (ReadsAny c.args.text.now) c.in-Answered.is c.in_ok-chain.ensures)

@@ -1,0 +1,2 @@
+pub mod ChainTexts
+pub mod OverChains

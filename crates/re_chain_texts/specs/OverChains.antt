@@ -1,0 +1,78 @@
+-- What a word gives to a text, by what it gives to the chain of the text.
+use Rattle.std.specs.Prelude.{◌≡◌, ℕ, Bool, true, false, List, Option, Some, None, option_map}
+use Rattle.re_problem.specs.declared.fault.InputFault.{InputFault}
+use Rattle.re_cert.specs.Bounds.{Bound}
+use Rattle.re_cert_text.specs.PrintedCertificates.{certificate_text}
+use Rattle.re_check.specs.Verdicts.{steps_fault}
+use Rattle.re_check.specs.declared.verdict.ClauseFault.{ClauseFault}
+use Rattle.re_check.specs.declared.verdict.Verdict.{Verdict}
+use Rattle.re_check.specs.declared.verdict.Verdict.TheVariants.{Refused}
+use Rattle.re_frame.specs.Check.{verdict_outcome}
+use Rattle.re_frame.specs.Outcomes.{Outcome, done, outcome_of, status_of}
+use Rattle.re_frame.specs.Runs.{MaySay}
+use Rattle.re_frame.specs.TextFaults.{fault_outcome}
+use Rattle.re_frame.specs.declared.output.Output.{Output}
+use Rattle.re_frame.specs.declared.status.Answer.TheVariants.{Done}
+use Rattle.re_chain_parts.specs.Chains.{IsSoundChain}
+use Rattle.re_chain_texts.specs.ChainTexts.{chain_fault, text_chain}
+use Rattle.re_chain_texts.specs.declared.over_chains.ChainRead.{ChainRead}
+use Rattle.re_chain_texts.specs.declared.over_chains.ChainRead.TheVariants.{Answered, Chain}
+
+-- ---- what a word gives
+-- the verdict of `check` on a step that fails
+abbrev pub refusal_of : ClauseFault → Verdict
+refusal_of fault = Refused fault.step fault.clause
+
+-- that on the first step that fails, if any: END and BACK aren't asked for
+abbrev pub steps_refusal : Bound → Option Verdict
+steps_refusal bound = option_map refusal_of (steps_fault bound.first 1 bound.steps)
+
+-- the line of a fault, and where there is none the other outcome
+abbrev pub or_fault : Option InputFault → Outcome → Outcome
+or_fault (Some fault) outcome = fault_outcome fault
+or_fault None outcome = outcome
+
+-- the line of a verdict, and where there is none the other outcome
+abbrev pub or_refusal : Option Verdict → Outcome → Outcome
+or_refusal (Some verdict) outcome = verdict_outcome verdict
+or_refusal None outcome = outcome
+
+-- what a word gives that takes any chain: the line of the fault of the text, or else what it gives to the chain
+unfoldable pub over_any : (Bound → Outcome) → List ℕ → Outcome
+over_any outcome bytes = or_fault (chain_fault bytes) (outcome (text_chain bytes))
+
+-- what a word gives that takes sound chains: the line of the fault of the text, or that of `check` for the first step that fails, or
+-- else what it gives to the chain
+unfoldable pub over_sound : (Bound → Outcome) → List ℕ → Outcome
+over_sound outcome bytes = over_any (λ chain. or_refusal (steps_refusal chain) (outcome chain)) bytes
+
+-- ---- what is read for a word
+-- the output is what each word gives that takes this up, isn't Done, and is No only to one that judges
+pub record IsAnswered (given : (Bound → Outcome) → Outcome) (judging : Bool) (output : Output) : Type 0 where
+  pub outcome : (word : Bound → Outcome) → outcome_of output ≡ given word
+  pub not_done : output.answer ≡ Done → ⊥
+  pub says : MaySay (status_of output.answer) judging
+
+-- the chain, and what each word gives is what it gives to this chain; or the output that each word gives
+abbrev pub ReadsAny : List ℕ → ChainRead → Type 0
+ReadsAny bytes (Chain chain) = (word : Bound → Outcome) → over_any word bytes ≡ word chain
+ReadsAny bytes (Answered output) = IsAnswered (λ word. over_any word bytes) false output
+
+-- the same of words that take sound chains
+abbrev pub ReadsSound : List ℕ → ChainRead → Type 0
+ReadsSound bytes (Chain chain) = IsSoundChain chain × ((word : Bound → Outcome) → over_sound word bytes ≡ word chain)
+ReadsSound bytes (Answered output) = IsAnswered (λ word. over_sound word bytes) true output
+
+-- a chain that was judged: it is sound, or the output is the line of `check`
+abbrev pub IsJudged : Bound → ChainRead → Type 0
+IsJudged given (Chain chain) = IsSoundChain chain × (chain ≡ given) × (steps_refusal given ≡ None)
+IsJudged given (Answered output) = IsAnswered (λ word. or_refusal (steps_refusal given) (word given)) true output
+
+-- ---- certificates as answers
+-- the text of the certificate
+abbrev pub certificate_outcome : Bound → Outcome
+certificate_outcome bound = done (certificate_text bound)
+
+-- the text is that of a sound chain
+abbrev pub IsSoundText : List ℕ → Type 0
+IsSoundText text = (bound : Bound) × (text ≡ certificate_text bound) × IsSoundChain bound

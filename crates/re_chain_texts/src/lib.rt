@@ -1,0 +1,8 @@
+//! Chains of steps as texts: read, judged step by step, and printed. What each word does to a chain is said and done over one reading.
+#![tactic(auto)]
+
+mod chain_text;
+mod over_chains;
+
+pub use chain_text::{problem_chain, read_chain};
+pub use over_chains::{ChainRead, certificate_output, read_any, read_sound, steps_refusal};

@@ -1,0 +1,90 @@
+//! Words over chains: what all of them answer where the text has a fault or a step fails, and the text of a certificate as an answer.
+ghost use Rattle.re_chain_texts.specs.OverChains.{IsJudged, ReadsAny, ReadsSound, certificate_outcome, refusal_of, steps_refusal};
+ghost use Rattle.re_check.specs.Verdicts.{steps_fault};
+ghost use Rattle.re_frame.specs.Outcomes.{outcome_of};
+ghost use Rattle.re_io.specs.declared.read.TheConstants.{MAX_BYTES};
+ghost use Rattle.std.specs.Prelude.{◌≡◌, ◌≤◌, ◌+◌, IfOk, length, option_map};
+
+use crate::chain_text::read_chain;
+use re_cert::{Certificate, MAX_STEPS, Step};
+use re_cert_text::print_certificate;
+use re_chain_parts::over_problems;
+use re_check::{Verdict, step_clause};
+use re_frame::{Output, done, fault_output, verdict_output};
+use re_labels::NoMemory;
+use re_problem::{Problem, TextFault};
+use std::alloc::Global;
+
+/// What is read of a text for a word: the chain on which the word goes on, or the output that is its answer already.
+#[derive(Drop)]
+pub enum ChainRead {
+    Chain(Certificate),
+    Answered(Output),
+}
+
+// The refusal of the first of the steps from this problem that fails a clause, numbered from here on.
+fn refusal_from(before: &Problem, number: u8, steps: &[Step]) -> Option<Verdict>
+    requires { number + length steps.now ≤ MAX_STEPS + 1 }
+    ensures { result ≡ option_map refusal_of (steps_fault before.now number steps.now) }
+{
+    let [step, others @ ..] = steps else {
+        return None;
+    };
+    if let Some(clause) = step_clause(before, step) {
+        return Some(Verdict::Refused {
+            step: number,
+            clause,
+        });
+    }
+    refusal_from(step.next(), number + 1, others)
+}
+
+/// The verdict of `check` on the first step that fails a clause, if any: END and BACK aren't asked for. It takes no memory, and costs
+/// what `step_clause` costs at each step up to the first that fails.
+pub fn steps_refusal(certificate: &Certificate) -> Option<Verdict>
+    ensures { result ≡ steps_refusal certificate.now }
+{
+    refusal_from(certificate.first(), 1, certificate.steps())
+}
+
+/// The chain that a text writes, whether its steps meet their clauses or not, or the line of the first fault of the text.
+pub fn read_any(alloc: Global, text: &[u8]) -> Result<ChainRead, NoMemory>
+    requires { length text.now ≤ MAX_BYTES }
+    ensures { IfOk result (ReadsAny text.now) }
+{
+    match read_chain(alloc, text) {
+        Ok(chain) => Ok(ChainRead::Chain(chain)),
+        Err(TextFault::Bad(fault)) => Ok(ChainRead::Answered(fault_output(alloc, fault)?)),
+        Err(TextFault::NoMemory) => Err(NoMemory),
+    }
+}
+
+// The chain where each of its steps meets its clauses, or the line of `check` for the first that doesn't.
+fn judged(alloc: Global, chain: Certificate) -> Result<ChainRead, NoMemory>
+    ensures { IfOk result (IsJudged chain) }
+{
+    over_problems(&chain);
+    match steps_refusal(&chain) {
+        None => Ok(ChainRead::Chain(chain)),
+        Some(verdict) => Ok(ChainRead::Answered(verdict_output(alloc, verdict)?)),
+    }
+}
+
+/// The chain that a text writes, where each of its steps meets its clauses; or the line of the first fault of the text, or that of
+/// `check` for the first step that fails. It costs what `read_chain` and `steps_refusal` cost.
+pub fn read_sound(alloc: Global, text: &[u8]) -> Result<ChainRead, NoMemory>
+    requires { length text.now ≤ MAX_BYTES }
+    ensures { IfOk result (ReadsSound text.now) }
+{
+    match read_any(alloc, text)? {
+        ChainRead::Chain(chain) => judged(alloc, chain),
+        ChainRead::Answered(output) => Ok(ChainRead::Answered(output)),
+    }
+}
+
+/// The output that is the text of a certificate.
+pub fn certificate_output(alloc: Global, certificate: &Certificate) -> Result<Output, NoMemory>
+    ensures { IfOk result (λ output. outcome_of output ≡ certificate_outcome certificate.now) }
+{
+    Ok(done(print_certificate(alloc, certificate)?))
+}

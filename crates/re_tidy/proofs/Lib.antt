@@ -1,0 +1,2 @@
+pub mod StableSorts
+pub mod TidiedBounds

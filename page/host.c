@@ -83,7 +83,15 @@ i64 rattle_env(const void *name, void *to, u64 room) { return -1; }
 i64 rattle_env_at(u64 place, void *to, u64 room) { return -1; }
 i64 read(i32 file, void *to, u64 room) { return host_read(file, to, room); }
 i64 write(i32 file, const void *from, u64 size) { return host_write(file, from, size); }
+i64 __write(i32 file, const void *from, u64 size) { return host_write(file, from, size); }
 i64 __sysv_signal(i32 number, i64 handler) { return 0; }
+
+// A built program asks first whether its x86 processor has what it was compiled for. Its module is compiled for WebAssembly here, which
+// has all that this needs, so each feature is there.
+const void *__x86_get_cpuid_feature_leaf(i32 leaf) {
+    static const u64 features[4] = { ~0UL, ~0UL, ~0UL, ~0UL };
+    return features;
+}
 
 // ---- Numbers of 128 bits.
 
@@ -116,3 +124,26 @@ u128 __multi3(u128 a, u128 b) {
     product.part.high = x1 * y1 + (cross >> 32) + (other >> 32) + x.part.high * y.part.low + x.part.low * y.part.high;
     return product.all;
 }
+
+// The quotient of a by b, bit after bit, and what is left of a. No program divides by 0: that is proved.
+static u128 divided(u128 a, u128 b, u128 *left) {
+    Halves x = { a }, y = { b }, quotient = { 0 };
+    if (!x.part.high && !y.part.high) {
+        *left = x.part.low % y.part.low;
+        return x.part.low / y.part.low;
+    }
+    u128 rest = 0;
+    for (i32 n = 127; n >= 0; n--) {
+        u64 bit = (n < 64 ? x.part.low >> n : x.part.high >> (n - 64)) & 1, carry = rest >> 127;
+        rest = rest << 1 | bit;
+        if (!carry && rest < b) continue;
+        rest -= b;
+        if (n < 64) quotient.part.low |= 1UL << n;
+        else quotient.part.high |= 1UL << (n - 64);
+    }
+    *left = rest;
+    return quotient.all;
+}
+
+u128 __udivti3(u128 a, u128 b) { u128 left; return divided(a, b, &left); }
+u128 __umodti3(u128 a, u128 b) { u128 left; divided(a, b, &left); return left; }

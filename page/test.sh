@@ -4,16 +4,18 @@
 #     page/test.sh [PART..]
 #
 # PART is file, program, texts, chains, page, access, damage or large; none: all of them. firefox is a further one, for a machine with
-# Debian's firefox-esr. The program is $RE, or crates/re/out/re as `rt run`
-# leaves it, or page/out/re of `page/build.sh --unproved`. PICTURES=folder keeps the pictures of README. DAMAGED and CHAINS are how many
+# Debian's firefox-esr. The programs are $RE and $EXPLORE, or those that
+# `page/build.sh` leaves in page/out, or those that `rt run` leaves in crates/re/out and crates/explore/out. PICTURES=folder keeps the pictures of README. DAMAGED and CHAINS are how many
 # certificates are damaged and chains made. PAUSE is the longest pause in ms that `large` lets pass.
 set -uo pipefail
 cd "$(dirname "$0")"
-for program in "${RE:-}" ../crates/re/out/re out/re; do
-    [ -z "$program" ] || [ ! -x "$program" ] || { RE=$(realpath "$program"); break; }
+for name in re explore; do
+    variable=${name^^}
+    for program in "${!variable:-}" "out/$name" "../crates/$name/out/$name"; do
+        [ -z "$program" ] || [ ! -x "$program" ] || { declare -x "$variable=$(realpath "$program")"; break; }
+    done
+    [ -x "${!variable:-}" ] || { echo "test.sh: no built program $name: build it by page/build.sh, or name it as $variable" >&2; exit 1; }
 done
-[ -x "${RE:-}" ] || { echo "test.sh: no built program: build it by 'rt run' in crates/re, or name it as RE" >&2; exit 1; }
-export RE
 for tool in node chromium; do
     command -v $tool > /dev/null || { echo "test.sh: Debian's package of $tool is needed" >&2; exit 1; }
 done

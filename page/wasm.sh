@@ -1,34 +1,57 @@
 #!/usr/bin/env bash
 # The program of a crate as a WebAssembly module that any browser runs.
 #
-#     page/wasm.sh CRATE OUT.wasm [--unproved [NATIVE]]
+#     page/wasm.sh CRATE OUT.wasm [--unproved NATIVE]
 #
-# `rt run` proves and builds the program. The LLVM module that it compiles is kept on the way and compiled once more, for WebAssembly
-# with 64-bit memory, linked with host.c, and lowered to 32-bit memory by Binaryen. With --unproved `rt try` builds it without its
-# proof, for work on the page, and NATIVE becomes the program of the same module for this machine.
+# The crate is checked and built as `rt ci` builds a program, over the libraries that `rt ci` proved and left in their out/. With
+# --unproved `rt try` builds it without its proof, for work on the page, and NATIVE becomes the program of the same module for this
+# machine. On the way the compiler puts the program together as one LLVM module. This is kept and compiled once more, for WebAssembly
+# with 64-bit memory, linked with host.c, and lowered to 32-bit memory by Binaryen.
 set -euo pipefail
 here=$(cd "$(dirname "$0")" && pwd)
-crate=${1:?the folder of a crate} out=$(realpath -m "${2:?the module to write}") how=${3:-} native=${4:+$(realpath -m "$4")}
-kit=${RATTLE_KIT:-$(dirname "$(rt doc)")}
+crate=$(realpath "${1:?the folder of a crate}") out=$(realpath -m "${2:?the module to write}") how=${3:-} native=${4:+$(realpath -m "$4")}
+name=$(basename "$crate") kit=${RATTLE_KIT:-$(dirname "$(rt doc)")}
 clang=$kit/toolchain/bin/clang
 folder=$(mktemp -d)
 trap 'rm -rf "$folder"' EXIT
 
-# A folder of its own for what the build writes: a hard link keeps the module when the build removes it.
-mkdir "$folder/tmp"
-build=run
-[ "$how" != --unproved ] || build=try
-# Without its stamp a built program is built again, and not only run; what is proved stays so.
-rm -f "$crate/out/$(basename "$crate").stamp"
-(cd "$crate" && TMPDIR=$folder/tmp rt $build -- help < /dev/null > "$folder/log" 2>&1 || true) &
-building=$!
-while kill -0 $building 2> /dev/null; do
-    for module in "$folder"/tmp/*/module.bc "$folder"/tmp/*/*/module.bc; do
-        [ ! -f "$module" ] || ln -f "$module" "$folder/module.bc" 2> /dev/null || true
+fail() { cat "$folder/log" >&2; echo "wasm.sh: $1" >&2; exit 1; }
+
+# Runs a build in the crate's folder, with a folder of its own for what it writes: a hard link keeps the module when the build removes it.
+build() {
+    mkdir "$folder/tmp"
+    (cd "$crate" && TMPDIR=$folder/tmp "$@" < /dev/null > "$folder/log" 2>&1 || true) &
+    local building=$! module
+    while kill -0 $building 2> /dev/null; do
+        for module in "$folder"/tmp/*/module.bc "$folder"/tmp/*/*/module.bc; do
+            [ ! -f "$module" ] || ln -f "$module" "$folder/module.bc" 2> /dev/null || true
+        done
+        sleep 0.1
     done
-    sleep 0.1
-done
-[ -s "$folder/module.bc" ] || { cat "$folder/log" >&2; echo "wasm.sh: no LLVM module was seen" >&2; exit 1; }
+    [ -s "$folder/module.bc" ] || fail 'no LLVM module was seen'
+}
+
+# The words that name the crate and its libraries, those of the kit and those of the repository, by its line in crates.txt.
+words_of_crate() {
+    local library folder
+    words=(--crate-name "$name" src/main.rt --antt-project "$kit/rattle/logic/antt-project.json" -L "dependency=$kit/rlibs")
+    for library in std $(sed -n "s/^$name:\([^#]*\).*/\1/p" "$crate/../../crates.txt"); do
+        if [ -d "$kit/rlibs/$library.rlib" ]; then folder=$kit/rlibs; else folder=$crate/../$library/out/rlib; fi
+        words+=(--extern "$library=$folder/$library.rlib")
+    done
+    for folder in "$crate"/../*/out/rlib; do words+=(-L "dependency=$folder"); done
+}
+
+if [ "$how" = --unproved ]; then
+    build rt try -- help
+else
+    words_of_crate
+    (cd "$crate" && "$kit/bin/rattle" check "${words[@]}" --logic-built "$kit/logic_built" --jobs 2 -o "$folder/checked") > "$folder/log" 2>&1 || fail 'not proved'
+    build "$kit/bin/rattle" build "${words[@]}" --crate-checked "$folder/checked" --toolchain "$kit/toolchain" --backend llvm -o "$folder/program.native.o"
+    [ -s "$folder/program.native.o" ] || fail 'not built'
+    # The line of the verdict.
+    grep '^logic=proved ' "$folder/log"
+fi
 
 target=(--target=wasm64-unknown-unknown -mbulk-memory -O2)
 quiet() { "$@" 2> >(grep -v 'not a recognized processor' >&2); }

@@ -1,7 +1,7 @@
 // Grows a lower bound by itself: step after step, merging labels where there are too many, keeping the few most promising
 // problems, until some problem comes back. A heuristic: what it finds is judged by `re check` as any other chain.
 import {filledLines} from './texts.js';
-import {readStep} from './certificates.js';
+import {mapInput, pairLines, readStep} from './certificates.js';
 
 const SIDE_BY_SIDE = 3, STEP_LIMIT = 30000, AHEAD_LIMIT = 5000, MOST_PAIRS = 150, MOST_AHEAD = 25;
 
@@ -80,11 +80,11 @@ export class Auto {
         return results;
     }
 
-    // Does a problem come back to an earlier one? {number, pairs} or null.
+    // Does a problem come back to an earlier one, by a renaming that `re rename` says yes to? {number, pairs} or null.
     async earlierOne(text, texts) {
         for (const [number, other] of [...this.earlier, ...texts].entries()) {
             const pairs = await this.work('findRenaming', text, other, 20000);
-            if (pairs) return {number, pairs};
+            if (pairs && (await this.ask(['rename'], mapInput(text, other, pairLines(pairs))))?.text.trim() === 'yes') return {number, pairs};
         }
         return null;
     }

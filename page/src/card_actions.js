@@ -25,7 +25,8 @@ export function cardActions(bench, card, view) {
         element('div.group.right', {}, act('Copy', event => bench.copyProblem(card, event.currentTarget), 'copy the problem', 'c'), moreMenu(bench, card, view)));
 }
 
-function searchActions({searches, numbers}, card, view) {
+function searchActions(bench, card, view) {
+    const {searches, numbers} = bench;
     const k = numberInput(numbers, 'k', 64, 'K, the number of steps'), m = numberInput(numbers, 'm', 8, 'M, the merges or labels left out in each step');
     const search = kind => () => searches.search(card, view, kind, Number(k.value), Number(m.value));
     return element('div.group.search', {},
@@ -35,7 +36,19 @@ function searchActions({searches, numbers}, card, view) {
         act('grow', () => searches.grow(card, view, Number(k.value), Number(m.value)), 'lower bounds of 1, 2 and more steps, up to K, until none is found'),
         act('fixed point', search('fixed'), 'at most K steps that come back, at most M merges in each'),
         act('auto…', () => searches.auto(card, view), 'a lower bound by a heuristic: steps, with merges where there are many labels'),
-        act('rounds', () => searches.rounds(card, view, Number(k.value)), 'the exact number of rounds, up to K'));
+        act('rounds', () => searches.rounds(card, view, Number(k.value)), 'the exact number of rounds, up to K'),
+        ...exploreActions(bench, card, view, k));
+}
+
+// Those words of `explore` that read the chain down to the card, where the program has them.
+function exploreActions({explorations, numbers, words}, card, view, k) {
+    const l = numberInput(numbers, 'l', 128, 'L, the most labels of a problem');
+    const offered = {
+        longest: () => [element('label', {}, 'L', l), act('longest', () => explorations.extend(card, view, ['longest', k.value, l.value]), 'a lower bound of up to K more steps, to problems of at most L labels')],
+        closure: () => [act('closure', () => explorations.extend(card, view, ['closure']), 'a fixed point by right-closed sets')],
+        describe: () => [act('describe', () => explorations.describe(card, view), 'the chain down to this card as a report to read')],
+    };
+    return Object.entries(offered).filter(([word]) => words.has(word)).flatMap(([, make]) => make());
 }
 
 function moreMenu(bench, card, view) {

@@ -1,7 +1,7 @@
 // One card: a problem with its constraints, diagrams, meanings and what can be done with it.
 import {button, code, copy, element, faulty, hint, plural, replace, say} from './dom.js';
 import {isStep, numberOf, stagesOf, titleOf} from './chains.js';
-import {CLAUSES, readCertificate} from './certificates.js';
+import {CLAUSES} from './certificates.js';
 import {blockOf, SIDES} from './problems.js';
 import {cardActions, selectionActions} from './card_actions.js';
 import {DiagramView} from './diagram_view.js';
@@ -14,7 +14,7 @@ const labelAt = event => event.target.closest?.('[data-label]')?.getAttribute('d
 
 export class CardView {
     constructor(workbench, card) {
-        Object.assign(this, {workbench, card, selected: [], isOpen: true});
+        Object.assign(this, {workbench, card, selected: [], isOpen: true, running: new Set()});
         this.facts = workbench.facts.of(card.problem);
         this.build();
         this.listen();
@@ -151,14 +151,13 @@ export class CardView {
     }
 
     // Rows and map of the step that leads to this card, out of the certificate that was judged.
-    fillWritten() {
+    async fillWritten() {
         if (!this.written.open) return;
-        const {verdict} = this.workbench.claim, number = stagesOf(this.path).findIndex(stage => stage.includes(this.card));
-        const step = verdict?.certificate && readCertificate(verdict.certificate).steps[number - 1];
-        const shown = lines => lines.slice(0, MOST_WRITTEN_LINES).join('\n') + (lines.length > MOST_WRITTEN_LINES ? '\n…' : '');
-        const part = (title, lines) => lines.length ? element('div', {}, element('h4', {}, title), element('pre', {tabIndex: 0}, shown(lines))) : null;
-        const parts = step && [part(plural(step.rows.length, 'row'), step.rows), part(`${plural(step.map.length, 'line')} of the map`, step.map)];
-        replace(this.written.lastChild, parts || hint('Not judged yet.'));
+        const {engine, claim} = this.workbench, {verdict} = claim, number = stagesOf(this.path).findIndex(stage => stage.includes(this.card));
+        const step = verdict?.certificate ? await engine.work('stepLines', verdict.certificate, number, MOST_WRITTEN_LINES).catch(() => null) : null;
+        if (verdict !== claim.verdict) return;
+        const part = ({count, lines}, title) => count ? element('div', {}, element('h4', {}, title), element('pre', {tabIndex: 0}, lines.join('\n') + (count > lines.length ? '\n…' : ''))) : null;
+        replace(this.written.lastChild, step ? [part(step.rows, plural(step.rows.count, 'row')), part(step.map, `${plural(step.map.count, 'line')} of the map`)] : hint('Not judged yet.'));
     }
 
     // ---- Where the card stands: its path, and what comes behind it.

@@ -20,7 +20,11 @@ export class Cards {
         this.onChange = onChange;
     }
 
-    get(id) { return this.cards.find(card => card.id === id) || null; }
+    get(id) {
+        if (this.indexed !== this.cards) Object.assign(this, {indexed: this.cards, byId: new Map(this.cards.map(card => [card.id, card]))});
+        return this.byId.get(id) || null;
+    }
+
     children(id) { return this.cards.filter(card => card.parent === id); }
     roots() { return this.children(null); }
 

@@ -31,6 +31,12 @@ export function readCertificate(text) {
     return bound;
 }
 
+// The rows and the map of step `number`, from 1: of each the count of its lines, and the first ones; null where there is no such step.
+export function stepLines(certificate, number, most) {
+    const step = readCertificate(certificate).steps[number - 1], part = lines => ({count: lines.length, lines: lines.slice(0, most)});
+    return step ? {rows: part(step.rows), map: part(step.map)} : null;
+}
+
 // Of an input of `run` the certificate alone, without the tree behind it.
 export function certificateAlone(text) {
     const tree = /^==[ \t]+tree\b/m.exec(text);

@@ -28,7 +28,21 @@ export class Changes {
         return answer.text;
     }
 
-    async step(card, view) {
+    // Asked again while they run, these make one card.
+    step(card, view) { return this.once(view, 'step', () => this.takeStep(card, view)); }
+    merge(card, view, labels, to) { return this.once(view, `merge ${labels} ${to}`, () => this.makeMerge(card, view, labels, to)); }
+    addArrow(card, view, side, weak, strong) { return this.once(view, `arrow ${side} ${weak} ${strong}`, () => this.makeArrow(card, view, side, weak, strong)); }
+    leaveOut(card, view, labels) { return this.once(view, `leave out ${labels}`, () => this.makeWithout(card, view, labels)); }
+    mergeEqual(card, view) { return this.once(view, 'merge equal', () => this.simplify(card, view, 'merge', 'equal labels merged', 'no two labels are equally strong on both sides')); }
+    trim(card, view) { return this.once(view, 'trim', () => this.simplify(card, view, 'trim', 'trimmed', 'no label covers another one')); }
+
+    async once(view, what, run) {
+        if (view.running.has(what)) return;
+        view.running.add(what);
+        try { await run(); } finally { view.running.delete(what); }
+    }
+
+    async takeStep(card, view) {
         const {workbench} = this, answer = await workbench.ask(view, ['step', '1'], card.problem, `step of problem ${view.number.textContent}`);
         if (!answer) return;
         const {meanings, problem} = answer.status === 0 ? readStep(answer.text) : {problem: ''};
@@ -62,7 +76,7 @@ export class Changes {
         return workbench.append(card, {kind: 'change', title, problem, relax: Object.fromEntries(pairs), written});
     }
 
-    async merge(card, view, labels, to) {
+    async makeMerge(card, view, labels, to) {
         const pairs = view.facts.problem.labels.map(label => [label, labels.includes(label) ? to : label]);
         const title = `merged ${labels.filter(label => label !== to).join(', ')} into ${to}`;
         // A large problem is merged as it was written.
@@ -73,13 +87,13 @@ export class Changes {
         if (text) await this.relaxTo(card, text, pairs, title, written);
     }
 
-    async addArrow(card, view, side, weak, strong) {
+    async makeArrow(card, view, side, weak, strong) {
         const title = `${side}: ${strong} may replace ${weak}`;
         const text = await this.canonical(view, await this.workbench.work(view, title, 'withArrow', card.problem, side, weak, strong), title);
         if (text) await this.relaxTo(card, text, view.facts.problem.labels.map(label => [label, label]), title);
     }
 
-    async leaveOut(card, view, labels) {
+    async makeWithout(card, view, labels) {
         const {workbench} = this, title = `without ${labels.join(', ')}`;
         const text = await this.canonical(view, await workbench.work(view, title, 'without', card.problem, labels), title);
         if (!text) return;
@@ -88,9 +102,6 @@ export class Changes {
         const gone = view.facts.problem.labels.filter(label => !left.includes(label));
         await workbench.append(card, {kind: 'change', title: `without ${gone.join(', ')}`, problem: text, restrict: kept(left)});
     }
-
-    mergeEqual(card, view) { return this.simplify(card, view, 'merge', 'equal labels merged', 'no two labels are equally strong on both sides'); }
-    trim(card, view) { return this.simplify(card, view, 'trim', 'trimmed', 'no label covers another one'); }
 
     // `re merge` and `re trim` leave the problem as hard as it is; the labels that go have a covering one that stays.
     async simplify(card, view, word, title, nothing) {

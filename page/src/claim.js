@@ -2,8 +2,7 @@
 import {$, button, code, element, hint, plural, replace} from './dom.js';
 import {kindsOf, numberOf, stagesOf} from './chains.js';
 import {CLAUSES, faultLine, mapInput, pairLines} from './certificates.js';
-import {explain} from './refusals.js';
-import {judge, relation} from './judge.js';
+import {judge, relation, shownRefusal} from './judge.js';
 import {Stopped} from './engine.js';
 
 export class Claim {
@@ -68,10 +67,13 @@ export class Claim {
         $('#verdict').append(element('div.hint', {}, `re relax: ${line}: problem ${numberOf(path, to)} ${is} a relaxation of problem ${numberOf(path, from)}.`));
     }
 
+    // The card that fails shows the clause in words, and what `explore why` says of it.
     async showRefusal(path, turn, verdict) {
         const failing = verdict.step ? stagesOf(path)[verdict.step]?.[0] : path.at(-1);
-        const more = this.workbench.view(failing).refuse(verdict);
-        const lines = await explain(this.workbench.engine, this.facts, path, verdict).catch(() => []);
+        const {engine, words} = this.workbench, more = this.workbench.view(failing).refuse(verdict);
+        if (!words.has('why')) return;
+        const explain = async text => (await this.forThis(engine.start('explore', ['why'], text, {quiet: true, title: 'why'}))).text;
+        const lines = await shownRefusal(explain, verdict).catch(error => error instanceof Stopped ? [] : [`explore why: ${error.message}`]);
         if (turn === this.turn) replace(more, lines.map(line => element('div', {}, line)));
     }
 

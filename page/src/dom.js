@@ -68,6 +68,7 @@ export function say(text, isFault = false) {
     messageTimer = setTimeout(() => { box.className = ''; }, isFault ? 8000 : 3000);
 }
 
-export const plural = (n, one, many = one + 's') => `${n.toLocaleString('en')} ${n === 1 ? one : many}`;
+const withCommas = new Intl.NumberFormat('en');
+export const plural = (n, one, many = one + 's') => `${withCommas.format(n)} ${n === 1 ? one : many}`;
 export const seconds = ms => ms < 10000 ? `${(ms / 1000).toFixed(1)} s` : ms < 60000 ? `${Math.round(ms / 1000)} s` : `${Math.floor(ms / 60000)} min ${Math.round(ms / 1000) % 60} s`;
 export const cut = (text, most) => text.length > most ? text.slice(0, most) + '…' : text;

@@ -2,6 +2,7 @@
 import {button, element, faulty, hint, replace} from './dom.js';
 import {Editor} from './editor.js';
 import {openWideDialog} from './dialogs.js';
+import {stagesOf} from './chains.js';
 import {describe, sideText} from './problems.js';
 import {faultLine, mapInput, pairLines} from './certificates.js';
 import {filledLines, itemsOf, labelsIn, setText, sortedSet} from './texts.js';
@@ -50,7 +51,10 @@ class EditDialog {
         this.help = element('span', {});
         this.state = element('div.state', {role: 'status'});
         this.editor = new Editor(bench.engine, {onRead: () => this.isTouched ? this.judge() : this.suggest()});
-        this.find = button('Find a map', () => this.findMap(), {title: 'look for a map of labels that makes the new problem a relaxation of this one'});
+        // Where `explore` has the word, it looks for a whole step from the problem before; else the page looks for a map of labels.
+        this.before = bench.words.has('bridge') ? bench.explorations.before(card) : null;
+        this.find = this.before ? button('Find a step', () => this.findStep(), {title: 'look for a step from the problem before this one to the new problem, by any map'})
+            : button('Find a map', () => this.findMap(), {title: 'look for a map of labels that makes the new problem a relaxation of this one'});
         this.apply = button('Make the card', () => this.make(), {class: 'primary', disabled: true});
         this.dialog = openWideDialog(`Edit problem ${view.number.textContent}`,
             element('div.columns', {}, this.editor.node,
@@ -97,13 +101,29 @@ class EditDialog {
     async findMap() {
         if (!await this.editor.read()) return;
         const job = this.bench.engine.startWork('findRelaxation', [this.card.problem, this.editor.problem, 2000000], {title: 'find a map', quiet: false});
-        replace(this.state, hint('looking for a map… '), button('Stop', () => job.stop()));
-        this.dialog.addEventListener('close', () => job.stop());
-        const pairs = await job.answer.catch(() => null);
+        const pairs = await this.looked('looking for a map… ', job).catch(() => null);
         if (!pairs) { replace(this.state, faulty('No map of labels was found.')); return; }
         this.isTouched = true;
         this.map.value = pairLines(pairs).join('\n');
         this.judge();
+    }
+
+    // What a job answers that the user may stop.
+    looked(what, job) {
+        replace(this.state, hint(what), button('Stop', () => job.stop()));
+        this.dialog.addEventListener('close', () => job.stop());
+        return job.answer;
+    }
+
+    // The step that `bridge` finds becomes a card beside this one.
+    async findStep() {
+        if (!await this.editor.read()) return;
+        const {bench, before, editor: {problem, written}} = this;
+        const answer = await this.looked('looking for a step… ', await bench.explorations.bridge(before, problem)).catch(error => ({text: error.message}));
+        if (!answer.text.startsWith('==')) { replace(this.state, faulty(`explore bridge: ${answer.text.trim()}`)); return; }
+        const cards = await bench.searches.cardsOf(answer.text, {title: 'edited', skipped: stagesOf(before).length - 1, written: () => written});
+        this.dialog.close();
+        await bench.append(before.at(-1), ...cards);
     }
 
     async make() {

@@ -73,7 +73,7 @@ export class Engine {
 
     take(job, {holds, failure, value, ...answer}) {
         if (holds) return;
-        if (failure) this.end(job, () => job.reject(new Error(failure)), false);
+        if (failure) this.end(job, () => job.reject(new Error(job.request.program ? `the program broke off (${failure})` : failure)), false);
         // Nothing is written where memory ends.
         else if (answer.status === NO_MEMORY) this.end(job, () => job.reject(new Error('exit code 7: there is not enough memory')));
         else if (job.request.work) this.end(job, () => job.resolve(value));

@@ -61,9 +61,6 @@ class ProblemFacts {
         });
     }
 
-    // The maximal rows, or null where they pass a limit.
-    async rows() { const {status, text} = await this.ask('universal'); return status === 0 ? filledLines(text) : null; }
-
     // Both sides one configuration a line: {active, passive, text}, the sides as blocks of lines.
     plain() {
         const block = side => ({text: sideText(this.text, side), count: this.problem[side].count});

@@ -10,11 +10,22 @@ export async function writtenText(facts, card) {
     return known.written().then(({text}) => text, () => card.problem);
 }
 
+// Of the cards of a path that are problems of its certificate the texts.
+async function writtenTexts(facts, path) {
+    const last = stagesOf(path).map(stage => stage.at(-1));
+    return new Map(await Promise.all(last.map(async card => [card, await writtenText(facts, card)])));
+}
+
+// A path as a certificate of a kind that it can be written as.
+export async function writtenChain(facts, path, kind) {
+    const texts = await writtenTexts(facts, path);
+    return certificateOf(path, kind, card => texts.get(card));
+}
+
 // The first accepted bound of the chain, or the last refused one: {kind, certificate, line, accepted, refused, step, clause}.
 // `check(text, title)` answers what `re check` prints.
 export async function judge(check, facts, path) {
-    const last = stagesOf(path).map(stage => stage.at(-1));
-    const texts = new Map(await Promise.all(last.map(async card => [card, await writtenText(facts, card)])));
+    const texts = await writtenTexts(facts, path);
     const kinds = path.at(-1).back ? kindsOf(path).filter(kind => kind === 'lower').map(() => 'fixed') : kindsOf(path);
     const verdicts = [];
     for (const kind of kinds) {
@@ -25,6 +36,13 @@ export async function judge(check, facts, path) {
     }
     // A chain that is of both kinds is refused at END alone, so it is never refused twice.
     return verdicts.find(verdict => verdict.step || !verdict.refused) || verdicts[0] || {kind: null, certificate: '', line: '', accepted: false, refused: false};
+}
+
+// The lines by which `explore why` shows that a clause fails; `explain(text)` answers what it prints of a certificate: the line of
+// `re check`, and behind it these.
+export async function shownRefusal(explain, {certificate, line}) {
+    const [judged, ...shown] = (await explain(certificate)).trim().split('\n');
+    return judged === line ? shown : [`explore why: ${judged}`, ...shown];
 }
 
 // How the problem that a certificate begins with is related to the first card, asked of `re relax`: {from, to, isYes, line};

@@ -5,6 +5,7 @@ import {Editor} from './editor.js';
 import {listenToKeys} from './keys.js';
 import {openHelpDialog, openTextDialog} from './dialogs.js';
 import {watchJobs} from './jobs_view.js';
+import {wordsOfExplore} from './words.js';
 import {Workbench} from './workbench.js';
 
 // The programs that the page holds, packed: {name: {module, bytes}}.
@@ -105,7 +106,7 @@ function listenToDrops(bench) {
 }
 
 async function start() {
-    const engine = new Engine(await readPrograms(), $('#worker').textContent), bench = new Workbench(engine);
+    const engine = new Engine(await readPrograms(), $('#worker').textContent), words = await wordsOfExplore(engine).catch(() => new Set()), bench = new Workbench(engine, words);
     // For the tests, and whoever looks into the page.
     Object.assign(window, {bench, engine});
     const setText = startEditor(bench);

@@ -2,7 +2,7 @@
 import {button, element, hint, plural, replace} from './dom.js';
 import {openWideDialog} from './dialogs.js';
 import {numberOf, stagesOf} from './chains.js';
-import {readStep} from './certificates.js';
+import {mapInput, pairLines, readStep} from './certificates.js';
 
 const MOST_SHOWN = 200, SHOW_EACH = 5;
 
@@ -66,13 +66,19 @@ class MergesDialog {
 
     async isSolvable(text) { return (await this.ask(['zero'], text)).text.startsWith('yes'); }
 
+    // Is it this problem under other names, by a renaming that `re rename` says yes to?
+    async isRenamed(text, other) {
+        const pairs = await this.work('findRenaming', text, other);
+        return pairs !== null && (await this.ask(['rename'], mapInput(text, other, pairLines(pairs)))).text.trim() === 'yes';
+    }
+
     // What is left when y becomes x.
     async tried(x, y) {
         const merged = await this.work('mapped', this.card.problem, [[y, x]]), {text} = await this.ask(['read'], merged);
         const {labels, active, passive} = await this.work('describe', text), row = {x, y, labels: labels.length, configs: active.count + passive.count};
         row.isSolvable = await this.isSolvable(text);
         if (row.isSolvable) return row;
-        for (const other of this.earlier) if (!row.back && await this.work('findRenaming', text, other.problem)) row.back = other;
+        for (const other of this.earlier) if (!row.back && await this.isRenamed(text, other.problem)) row.back = other;
         if (!this.ahead.checked) return row;
         const step = await this.ask(['step', '1'], text);
         if (step.status !== 0) return {...row, next: {limit: step.text.trim()}};

@@ -1,5 +1,5 @@
 // Problems as the canonical texts that `re read` prints, which may have a million lines: these functions run in workers.
-import {byName, configText, placesOf, rowText, sortedSet} from './texts.js';
+import {configText, placesOf, rowText, sortedSet} from './texts.js';
 
 export const SIDES = ['active', 'passive'];
 
@@ -105,10 +105,4 @@ export function lineStarts(text) {
     const starts = [0];
     for (let at = text.indexOf('\n'); at >= 0; at = text.indexOf('\n', at + 1)) starts.push(at + 1);
     return Uint32Array.from([...starts, text.length + 1]);
-}
-
-// Those of some lists of labels that are no active configuration.
-export function notActive(text, lists) {
-    const known = new Set(sideText(text, 'active').split('\n'));
-    return lists.map((labels, i) => known.has(configText([...labels].sort(byName))) ? -1 : i).filter(i => i >= 0);
 }

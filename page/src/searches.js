@@ -16,9 +16,15 @@ export class Searches {
         const answer = await workbench.ask(view, words, card.problem, `${what} from problem ${view.number.textContent}`);
         if (!answer) return;
         if (!answer.text.startsWith('==')) { this.noteNothing(view, what, answer.text.trim(), performance.now() - started); return; }
-        const cards = await this.cardsOf(answer.text, this.stepsAbove(card), what);
-        if (cards.length) { await workbench.found(card, here, what, ...cards); return; }
-        view.note(element('strong', {}, what), ' found: no step is needed. ', hint(kind === 'upper' ? 'The problem is solvable without communication.' : ''));
+        const cards = await this.cardsOf(answer.text, {title: what, offset: this.stepsAbove(card)});
+        if (cards.length) await workbench.found(card, here, what, ...cards);
+        else await this.noteNoStep(view, what, answer.text);
+    }
+
+    // A certificate that adds no card: the line of `check`, and the text that it speaks of.
+    async noteNoStep(view, what, certificate) {
+        const {text} = await this.workbench.engine.ask('re', ['check'], certificate, {quiet: true});
+        view.noteText(`${what}, without a further step: ${text.trim()}`, certificate);
     }
 
     noteNothing(view, what, text, time) {
@@ -40,7 +46,7 @@ export class Searches {
             [found, what] = [answer.text, words.join(' ')];
         }
         if (end) view.note(element('strong', {}, 'grow'), ` ${found ? `${what} found. ` : ''}${end}`);
-        if (found) await workbench.found(card, here, what, ...await this.cardsOf(found, this.stepsAbove(card), what));
+        if (found) await workbench.found(card, here, what, ...await this.cardsOf(found, {title: what, offset: this.stepsAbove(card)}));
     }
 
     async rounds(card, view, k) {
@@ -76,11 +82,11 @@ export class Searches {
         await workbench.found(card, here, 'auto', ...found.cards);
     }
 
-    // The cards of the steps of a certificate. Its problem 0 has the number `offset` in the chain.
+    // The cards of the steps of a certificate, but for those `skipped` first ones. Its problem 0 has the number `offset` in the chain.
     // `written(text)` answers the lines to keep of a problem text.
-    async cardsOf(certificate, offset, title, written = () => undefined) {
+    async cardsOf(certificate, {title, offset = 0, skipped = 0, written = () => undefined}) {
         const {engine} = this.workbench, bound = await engine.work('readCertificate', certificate), cards = [];
-        for (const step of bound.steps) {
+        for (const step of bound.steps.slice(skipped)) {
             const {text} = await engine.ask('re', ['read'], step.problem, {quiet: true});
             cards.push({kind: 'given', side: bound.kind === 'upper' ? 'upper' : 'lower', title, problem: text, written: written(step.problem),
                 rows: step.rows, map: step.map, isByRows: bound.version === 2 && bound.kind !== 'upper'});

@@ -43,7 +43,7 @@ export class Sessions {
         if (status > 1) return {fault: answer.trim(), line: faultLine(answer)};
         const {kind, first} = await engine.work('readCertificate', alone), problem = await engine.ask('re', ['read'], first, {quiet: true});
         await workbench.append(null, {kind: 'first', problem: problem.text, written: writtenOf(first), title, side: kind === 'upper' ? 'upper' : 'lower'},
-            ...await workbench.searches.cardsOf(alone, 0, undefined, writtenOf));
+            ...await workbench.searches.cardsOf(alone, {written: writtenOf}));
         return null;
     }
 

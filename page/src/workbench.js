@@ -8,6 +8,7 @@ import {Changes} from './changes.js';
 import {Claim} from './claim.js';
 import {Facts} from './facts.js';
 import {Stopped} from './engine.js';
+import {Explorations} from './explorations.js';
 import {openCertificateDialog, openNoteDialog} from './dialogs.js';
 import {openTreeDialog} from './tree_dialog.js';
 import {Searches} from './searches.js';
@@ -17,16 +18,19 @@ import {Tip} from './tip.js';
 import {writtenText} from './judge.js';
 
 export class Workbench {
-    constructor(engine) {
+    // `words` are those of `explore` that the page may offer.
+    constructor(engine, words) {
         this.engine = engine;
+        this.words = words;
         this.facts = new Facts(engine);
         this.cards = new Cards(() => this.show());
         this.views = new Map();
-        this.numbers = {k: 2, m: 0};
+        this.numbers = {k: 2, m: 0, l: 10};
         this.tip = new Tip();
         this.claim = new Claim(this);
         this.changes = new Changes(this);
         this.searches = new Searches(this);
+        this.explorations = new Explorations(this);
         this.sessions = new Sessions(this);
         this.list = new CardList(this);
         // Cards ask for what they show once they are near to what is seen.
@@ -76,9 +80,16 @@ export class Workbench {
 
     nameOf(card) { return `${numberOf(this.cards.path(card.id), card)} ${titleOf(card)}`; }
 
+    learn(cards) { return Promise.all(cards.map(card => this.facts.learn(card.problem))); }
+
     // Adds cards behind a card (or as a new chain) and goes to the last one.
     async append(parent, ...cards) {
-        await Promise.all(cards.map(card => this.facts.learn(card.problem)));
+        await this.learn(cards);
+        return this.add(parent, cards);
+    }
+
+    // The same of cards whose problems are learned.
+    add(parent, cards) {
         if (parent && !this.cards.get(parent.id)) { say('The card is gone.'); return null; }
         if (parent) this.view(parent).select([]);
         const card = this.cards.add(parent?.id ?? null, ...cards);
@@ -88,9 +99,10 @@ export class Workbench {
 
     // What a long search found: shown at once where the user still is where it was started, else offered.
     async found(card, here, what, ...cards) {
+        // The user may go elsewhere meanwhile.
+        await this.learn(cards);
         if (!this.cards.get(card.id)) { say(`${what}: the card is gone.`); return; }
-        if (this.cards.current === here) { await this.append(card, ...cards); return; }
-        await Promise.all(cards.map(other => this.facts.learn(other.problem)));
+        if (this.cards.current === here) { this.add(card, cards); return; }
         const now = this.cards.current, last = this.cards.add(card.id, ...cards);
         this.cards.select(now);
         this.view(this.cards.get(card.id)).note(element('strong', {}, what), ' found. ', button('Show', () => this.go(last.id)));
@@ -142,7 +154,8 @@ export class Workbench {
             parts.push('```\n' + (await writtenText(this.facts, card)).trim() + '\n```\n');
             if (at > 0) parts.push(problem.labels.map(label => `- \`${label}\` = \`${meaningOf(path, at, label)}\``).join('\n') + '\n');
         }
-        if (verdict?.certificate) parts.push(`## Verdict of \`re check\`\n\n${verdict.line}\n\n\`\`\`\n${verdict.certificate}\`\`\`\n`);
+        if (!verdict?.certificate) parts.push(verdict ? 'This chain is neither a lower nor an upper bound.\n' : 'This chain is not judged yet.\n');
+        else parts.push(`## Verdict of \`re check\`\n\n${verdict.line}\n\n\`\`\`\n${verdict.certificate}\`\`\`\n`);
         download('chain.md', parts.join('\n'), 'text/markdown');
     }
 }

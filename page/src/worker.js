@@ -1,14 +1,14 @@
 // A worker: runs the programs, and the page's own work on texts that may be large. The page sends the programs first.
 import {runProgram} from './program.js';
-import {describe, lineStarts, mapped, notActive, without, withArrow} from './problems.js';
+import {describe, lineStarts, mapped, without, withArrow} from './problems.js';
 import {coveringLines, grouped} from './groups.js';
 import {findRelaxation, findRenaming} from './maps.js';
 import {layout} from './layout.js';
 import {packSession, readSession, sessionText, unpackSession} from './sessions.js';
-import {certificateAlone, readCertificate} from './certificates.js';
+import {certificateAlone, readCertificate, stepLines} from './certificates.js';
 
-const WORK = {describe, lineStarts, mapped, notActive, without, withArrow, grouped, coveringLines, findRelaxation, findRenaming, layout,
-    packSession, readSession, sessionText, unpackSession, certificateAlone, readCertificate};
+const WORK = {describe, lineStarts, mapped, without, withArrow, grouped, coveringLines, findRelaxation, findRenaming, layout,
+    packSession, readSession, sessionText, unpackSession, certificateAlone, readCertificate, stepLines};
 const modules = new Map();
 // Settled once this worker is ready for jobs.
 let ready = Promise.resolve();

@@ -4,7 +4,7 @@ import {spawnSync} from 'child_process';
 import {mkdtempSync, readdirSync, readFileSync, rmSync, writeFileSync} from 'fs';
 import {tmpdir} from 'os';
 import {join} from 'path';
-import {html, pageFolder, wasmOf} from './place.mjs';
+import {html, namesOfPrograms, pageFolder, wasmOf} from './place.mjs';
 import {Tally} from './tally.mjs';
 
 const tally = new Tally('file'), text = html();
@@ -12,14 +12,18 @@ const tally = new Tally('file'), text = html();
 tally.check(`under 1 MB: ${text.length}`, text.length < 1000000);
 const built = /This file holds <span class="build">([^]*?)<\/span>/.exec(text)[1];
 tally.check(`its commit is written into it: ${built}`, /from commit [0-9a-f]{40}\b/.test(built));
-tally.check('the module is the one that is named', built.includes(createHash('sha256').update(wasmOf('re')).digest('hex')));
+tally.equal('the programs', namesOfPrograms(), ['re', 'explore']);
+for (const name of namesOfPrograms()) tally.check(`the module of ${name} is the one that is named`, built.includes(createHash('sha256').update(wasmOf(name)).digest('hex')));
 tally.note(built.includes('without running its proof') ? 'built without its proof' : 'built with its proof');
 
-// Made anew from the sources, with the program that it holds.
+// Made anew from the sources, with the programs that it holds.
 const folder = mkdtempSync(join(tmpdir(), 'page-'));
-writeFileSync(join(folder, 're.wasm'), wasmOf('re'));
-const from = /, (built by .*?) \(SHA-256/.exec(built)[1];
-spawnSync('node', [join(pageFolder, 'bundle.mjs'), join(folder, 'again.html'), `re=${join(folder, 're.wasm')}=${from}`]);
+const programs = namesOfPrograms().map(name => {
+    const wasm = join(folder, `${name}.wasm`), [, from] = new RegExp(`<code>${name}</code>, (built by .*?) \\(SHA-256`).exec(built);
+    writeFileSync(wasm, wasmOf(name));
+    return `${name}=${wasm}=${from}`;
+});
+spawnSync('node', [join(pageFolder, 'bundle.mjs'), join(folder, 'again.html'), ...programs]);
 tally.check('bundle.mjs makes the same file of the sources', readFileSync(join(folder, 'again.html'), 'utf8') === text);
 rmSync(folder, {recursive: true});
 

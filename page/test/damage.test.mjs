@@ -1,6 +1,6 @@
-// Damaged certificates: the page says of each what the native program says of the very text. `node damage.test.mjs [count]`
+// Damaged certificates: the page says of each what the native programs say of the very text, and of a refused one why. `node damage.test.mjs [count]`
 import {openBrowser} from './browser.mjs';
-import {answer, example, namesIn, randomFrom} from './place.mjs';
+import {answer, example, namesIn, randomFrom, whyOf} from './place.mjs';
 import {Tally} from './tally.mjs';
 
 const count = Number(process.argv[2] || 100), tally = new Tally('damage'), random = randomFrom(5);
@@ -31,6 +31,7 @@ for (let n = 0; n < count; n++) {
         return bench.claim.verdict?.line;
     })()`);
     tally.equal(text, found, wanted);
+    if (wanted.startsWith('refused')) tally.equal(`why: ${text}`, await page.until(`document.querySelector('.card.failing .fault div div')?.textContent`), whyOf(text));
     const kind = wanted.replace(/^(\w+).*/s, '$1');
     said[kind] = (said[kind] || 0) + 1;
     if (n % 20 === 19) await page.go();

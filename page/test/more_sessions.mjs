@@ -1,9 +1,12 @@
 // What else a user does.
-import {answer, example, namesIn} from './place.mjs';
+import {wordsIn} from '../src/words.js';
+import {answer, example, namesIn, natively, whyOf} from './place.mjs';
 import {cardsAre, drawn, MIS} from './user.mjs';
 import {wait} from './browser.mjs';
 
 const quoted = value => JSON.stringify(value);
+// What the page offers of `explore` depends on the words that it has.
+const explored = wordsIn(natively('explore', ['help']).text), hasBridge = explored.has('bridge');
 
 export const moreSessions = {
     async 'all certificates of the gallery'(user, page, tally) {
@@ -68,14 +71,39 @@ export const moreSessions = {
         await page.fill('dialog .editor textarea', target[0], 0);
         await page.fill('dialog .editor textarea', target[1].trim(), 1);
         await page.until(`document.querySelector('dialog .editor .state').textContent.includes('8 labels')`);
-        await page.click('dialog button', 'Find a map');
-        await page.until(`[...document.querySelectorAll('dialog .state')].at(-1).textContent === 're relax: yes'`);
-        await page.click('dialog footer button', 'Make the card');
-        await page.until(`${cardsAre(3)} && ${drawn}`);
+        const cards = hasBridge ? 2 : 3;
+        await page.click('dialog button', hasBridge ? 'Find a step' : 'Find a map');
+        if (!hasBridge) {
+            await page.until(`[...document.querySelectorAll('dialog .state')].at(-1).textContent === 're relax: yes'`);
+            await page.click('dialog footer button', 'Make the card');
+        }
+        await page.until(`!document.querySelector('dialog') && ${cardsAre(cards)} && ${drawn}`);
         await user.says('accepted: not solvable in 1 or fewer rounds');
-        for (const n of [4, 5]) await user.step(n);
+        for (const n of [cards + 1, cards + 2]) await user.step(n);
         await page.click('#offers button', 'close as a fixed point');
         await user.says('accepted: not solvable in any number of rounds');
+    },
+
+    async 'words of explore that go on from a card'(user, page, tally) {
+        await user.openProblem('O [IO]^2', 'I O');
+        await user.step(2);
+        const offered = ['longest', 'closure', 'describe'], shown = await page.value(`[...document.querySelectorAll('.card.last .search button')].map(button => button.textContent)`);
+        tally.equal('those that it has are offered', shown.filter(word => offered.includes(word)), offered.filter(word => explored.has(word)));
+        if (explored.has('describe')) {
+            await user.verdict();
+            await page.click('.card.last .search button', 'describe');
+            await page.until(`document.querySelector('.card.last .note pre')`);
+            tally.equal('describe', await page.value(`document.querySelector('.card.last .note pre').textContent`), natively('explore', ['describe'], await user.certificate()).text.trim());
+        }
+        if (explored.has('longest')) {
+            await page.click('.card.last .search button', 'longest');
+            await user.says('accepted: not solvable in 3 or fewer rounds');
+            tally.equal('longest', await page.value('bench.cards.path().length'), 4);
+        }
+        if (explored.has('closure')) {
+            await page.click('.card.last .search button', 'closure');
+            await user.says('accepted: not solvable in any number of rounds');
+        }
     },
 
     async 'a relaxation by rows is a certificate of version 2'(user, page, tally) {
@@ -104,7 +132,7 @@ export const moreSessions = {
         tally.equal('the same text', await user.certificate(), text);
         await user.openText(text.replace('A E\nB C\n== step', 'A E\nB B\n== step'));
         await user.says('refused: step 1, clause L4');
-        await page.until(`document.querySelector('.card.failing .fault').textContent.includes('Images that are no active configuration')`);
+        tally.equal('why', await page.until(`document.querySelector('.card.failing .fault div div')?.textContent`), whyOf(await user.certificate()));
     },
 
     async 'a restriction by hand'(user, page, tally) {

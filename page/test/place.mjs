@@ -8,18 +8,24 @@ import {inflateRawSync} from 'zlib';
 export const pageFolder = join(dirname(fileURLToPath(import.meta.url)), '..');
 export const pageFile = join(pageFolder, 'workbench.html');
 export const examples = join(pageFolder, '../examples');
-export const native = process.env.RE || 're';
+// The programs, built for this machine.
+const NATIVE = {re: process.env.RE || 're', explore: process.env.EXPLORE || 'explore'};
 
 export const html = () => readFileSync(pageFile, 'utf8');
 const inside = id => new RegExp(`<script [^>]*id="${id}">([^]*?)</script>`).exec(html())[1];
-export const wasmOf = name => inflateRawSync(Buffer.from(JSON.parse(inside('programs'))[name], 'base64'));
+const programsHeld = () => JSON.parse(inside('programs'));
+export const namesOfPrograms = () => Object.keys(programsHeld());
+export const wasmOf = name => inflateRawSync(Buffer.from(programsHeld()[name], 'base64'));
 
-// The native program: {status, text}.
-export function re(words, input = '') {
-    const {status, stdout} = spawnSync(native, words, {input, maxBuffer: 1 << 28});
+// What a program of this machine answers: {status, text}.
+export function natively(program, words, input = '') {
+    const {status, stdout} = spawnSync(NATIVE[program], words, {input, maxBuffer: 1 << 28});
     return {status, text: stdout.toString()};
 }
+export const re = (words, input) => natively('re', words, input);
 export const answer = (words, input) => re(words, input).text;
+// The lines of `explore why` behind that of `check`.
+export const whyOf = text => natively('explore', ['why'], text).text.split('\n').slice(1).join('\n').trim();
 
 export const example = name => readFileSync(join(examples, name), 'utf8');
 export const namesIn = folder => readdirSync(join(examples, folder)).filter(name => name.endsWith('.txt')).sort();

@@ -1,6 +1,6 @@
 // What goes wrong: workers that end, old and foreign texts, and texts that look like markup.
 import {answer, example} from './place.mjs';
-import {cardsAre, MIS} from './user.mjs';
+import {cardsAre, drawn, MIS} from './user.mjs';
 import {wait} from './browser.mjs';
 
 const faultShown = `document.querySelector('dialog .state .faulty')?.textContent`;
@@ -26,6 +26,29 @@ export const robustness = {
         const failing = await page.value(`engine.ask('nothing', ['read'], '').then(() => 'read', error => error.message)`);
         tally.check(`a message: ${failing}`, failing !== 'read' && failing.length > 5);
         await user.step(2);
+        await user.says('accepted: not solvable in 1 or fewer rounds');
+    },
+
+    async 'impatient clicks and keys'(user, page, tally) {
+        await user.openProblem(...MIS);
+        await page.value(`(() => { const step = [...document.querySelectorAll('.card.last .actions button')].find(button => button.textContent === 'Step'); step.click(); step.click(); })()`);
+        await page.until(`${cardsAre(2)} && ${drawn}`);
+        tally.equal('one step', await page.value('bench.cards.cards.length'), 2);
+        await user.select('A', 'C');
+        await page.value(`(() => { const merge = [...document.querySelectorAll('.card.last .selection button')].find(button => button.textContent === 'Merge into C'); merge.click(); merge.click(); })()`);
+        await page.until(`${cardsAre(3)} && ${drawn}`);
+        tally.equal('one merge', await page.value('bench.cards.cards.length'), 3);
+    },
+
+    async 'a session of many cards'(user, page, tally) {
+        await user.openProblem('O [IO]^2', 'I O');
+        await user.step(2);
+        const session = JSON.parse(await page.value(`engine.work('sessionText', bench.cards.state)`)), {cards: [, {problem}]} = session;
+        for (let id = 3; id <= 300; id++) session.cards.push({kind: 'change', relax: {A: 'A', B: 'B'}, title: `card ${id}`, id, parent: id - 1, problem});
+        await user.openText(JSON.stringify({...session, current: 300}));
+        await page.until(cardsAre(300));
+        const pause = await page.value(`(async () => { const started = performance.now(); bench.cards.select(150); return performance.now() - started; })()`);
+        tally.check(`another card is shown in ${pause.toFixed(0)} ms`, pause < 2000);
         await user.says('accepted: not solvable in 1 or fewer rounds');
     },
 

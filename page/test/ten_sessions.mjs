@@ -1,5 +1,5 @@
 // The ten sessions that everything else rests on.
-import {answer, example, re} from './place.mjs';
+import {answer, example, re, whyOf} from './place.mjs';
 import {cardsAre, drawn, MIS} from './user.mjs';
 import {wait} from './browser.mjs';
 
@@ -55,22 +55,22 @@ export const tenSessions = {
     },
 
     async 'a refused certificate is explained'(user, page, tally) {
-        const refusal = () => page.until(`document.querySelector('.card.failing .fault div div') && document.querySelector('.card.failing .fault').textContent`);
-        await user.openText(example('colouring-refused.txt'));
-        await user.says('refused: step 1, clause L2');
-        const words = await refusal();
-        tally.check('the clause in words', words.includes('the rows are the maximal rows of the passive constraint before, in order'));
-        tally.check('the row that lacks', words.includes('Maximal rows that lack (re universal): [3] [12].') || words.includes('Maximal rows that lack (re universal): [12] [3].'));
-        await user.openText(example('trivial-lower.txt'));
-        await user.says('refused: clause END');
-        tally.check('why END', (await refusal()).includes('The last problem is solvable in 0 rounds'));
-        const good = example('sinkless-fixed.txt');
-        for (const [from, to, line, why] of [['A B^2\n\nA B\nB^2', 'A B^2\n\nA B', 'refused: step 2, clause L5', 're relax says: no: passive'], ['A O\nB I', 'A I\nB O', 'refused: clause BACK', 're rename: no'], ['[I] [IO]^2\n', '', 'refused: step 1, clause L2', 'Maximal rows that lack']]) {
-            if (!good.includes(from)) continue;
-            await user.openText(good.replace(from, to));
+        // The line on the card that fails is that of the native `explore why`, of the text that the page gives.
+        const explained = async (text, line) => {
+            const roots = await page.value('bench.cards.roots().length');
+            await user.openText(text);
+            const shown = await page.until(`bench.cards.roots().length > ${roots} && document.querySelector('.card.failing .fault div div')?.textContent`);
             await user.says(line);
-            tally.check(`why ${line}`, (await refusal()).includes(why));
-        }
+            tally.equal(`why ${line}`, shown, whyOf(await user.certificate()));
+            return shown;
+        };
+        tally.equal('the row that lacks', await explained(example('colouring-refused.txt'), 'refused: step 1, clause L2'), 'maximal row that is missing: [12] [3]');
+        tally.check('the clause in words', (await page.value(`document.querySelector('.card.failing .fault').textContent`)).includes('the rows are the maximal rows of the passive constraint before, in order'));
+        tally.check('why END', (await explained(example('trivial-lower.txt'), 'refused: clause END')).startsWith('solvable without communication: every node outputs '));
+        const good = example('sinkless-fixed.txt'), lines = good.split('\n');
+        const damaged = lines.map((_, at) => lines.filter((line, i) => i !== at).join('\n')).map(text => [text, answer(['check'], text).trim()]).filter(([, line]) => line.startsWith('refused'));
+        for (const [text, line] of damaged) await explained(text, line);
+        tally.check(`refusals: ${damaged.length}`, new Set(damaged.map(([, line]) => line)).size > 3);
         const upper = example('gallery/orientation-3-upper.txt');
         await user.openText(upper.replace(/(== map\n.*\[)(.)(\])/, '$1$2$2$3').replace(/\n\n/, '\n[IO]^2\n\n'));
         await page.until(`document.querySelector('#verdict-line, dialog .state .faulty')`);

@@ -6,6 +6,7 @@ import * as certificates from '../src/certificates.js';
 import * as chains from '../src/chains.js';
 import * as sessions from '../src/sessions.js';
 import {findRelaxation, findRenaming} from '../src/maps.js';
+import {wordsIn} from '../src/words.js';
 import {deliveriesOf, randomFrom, readRun, runInput, treeAround} from '../src/trees.js';
 import {answer, example, namesIn, re} from './place.mjs';
 import {Tally} from './tally.mjs';
@@ -47,7 +48,6 @@ for (const text of canonical) {
 }
 const lines = problems.mappedLines({active: ['A [BC]^2', 'B A^2'], passive: []}, [['A', 'B'], ['B', 'B'], ['C', 'C']]);
 is('a map of lines as written', lines, {active: ['B [BC]^2', 'B^3'], passive: []});
-is('images that are lost', problems.notActive('A B\nB^2\n\nA B\n', [['B', 'A'], ['A', 'A'], ['B', 'B']]), [1]);
 
 // Certificates: what is read of a chain and written again is the same text.
 for (const name of namesIn('gallery')) {
@@ -88,6 +88,8 @@ for (const name of ['orientation-3-upper', 'proposals-3-upper', 'maximal-matchin
     const around = nodes.flatMap((node, v) => node.parent === 0 ? [standing[v].labels[node.own - 1]] : []);
     is(`${name}: around the passive node`, filled(problems.sideText(first, 'passive')).includes(texts.configText(around)), true);
 }
+
+is('words of help', [...wordsIn('help: reads nothing\nlongest K L: reads a chain, gives ..\nbegin lower: ..\nbegin upper: ..\n\nno word\n')], ['help', 'longest', 'begin']);
 
 // Composed maps, meanings and numbers.
 const path = [{kind: 'first', problem: ''}, {kind: 'step', problem: '', meanings: [['A', ['I']], ['B', ['O']], ['C', ['I', 'O']]], rows: ['[I] [O]']}, {kind: 'change', problem: '', relax: {A: 'X', B: 'B', C: 'X'}}];

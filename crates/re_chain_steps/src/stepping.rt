@@ -140,7 +140,7 @@ fn step_to_derived(
 }
 
 // The chain with this step more.
-fn chain_with(alloc: Global, certificate: &Certificate, step: Step) -> Result<Certificate, NoMemory>
+fn with_step(alloc: Global, certificate: &Certificate, step: Step) -> Result<Certificate, NoMemory>
     requires step { step ≡ next_step certificate.now }
     requires room { stepping_fault certificate.now ≡ None }
     ensures stepped { IfOk result (λ chain. chain ≡ stepped certificate.now) }
@@ -154,9 +154,9 @@ fn chain_with(alloc: Global, certificate: &Certificate, step: Step) -> Result<Ce
     Ok(built(kind, 0, first, steps, Vec::new(alloc)))
 }
 
-/// The chain with one step more, from its last problem to the derived problem of this: a lower step with the maximal rows, and each set
-/// sent to its own label; an upper step with each label sent to its set. Where the maps of the chain are by rows, so is this one.
-/// A certificate of a fixed point stands for that of the lower bound with its steps. The new step meets its clauses.
+/// The chain with one step more, to the derived problem of its last problem: a lower step has the maximal rows, and sends each set to
+/// its own label; an upper step sends each label to its set. Where the maps of the chain are by rows, so is this one. A certificate of a
+/// fixed point stands for that of the lower bound with its steps. A sound chain stays sound.
 ///
 /// It is refused where there are `re_cert::MAX_STEPS` steps already, and else with the limit that the derived problem passes. The cost
 /// is that of `re_step::step`, and of a copy of the steps.
@@ -174,5 +174,5 @@ pub fn step(alloc: Global, certificate: &Certificate) -> Result<Certificate, Cha
     let derived = derive(alloc, last)?;
     let by_row = have_row_maps(certificate.steps());
     let step = step_to_derived(alloc, certificate.kind(), by_row, last, derived)?;
-    Ok(chain_with(alloc, certificate, step)?)
+    Ok(with_step(alloc, certificate, step)?)
 }

@@ -1,10 +1,11 @@
 // The command that the words name. A family of words is a variant here, an arm in `command_from` and in `output_from`, and its lines of help.
-ghost use Rattle.re_explore.specs.Commands.{bad_words, command_of, help_text, is_help};
+ghost use Rattle.re_explore.specs.Commands.{Fits, bad_words, command_of, help_text, is_help};
 ghost use Rattle.re_frame.specs.Outcomes.{done as done_with, outcome_of};
-ghost use Rattle.std.specs.Prelude.{◌≡◌, ◌++◌, IfOk, map, string_bytes};
+ghost use Rattle.std.specs.Prelude.{◌≡◌, ◌++◌, IfOk, IfSome, map, string_bytes};
 
 use re_frame::{Answer, Output, begun, done, push_words};
 use re_labels::NoMemory;
+use re_search_words::{SearchWord, search_help, search_word};
 use re_why::{names_why, why_help};
 use std::alloc::Global;
 
@@ -14,6 +15,8 @@ pub(crate) enum Command {
     Help,
     /// What shows a refusal.
     Explains,
+    /// A search that goes on from a chain.
+    Searches(SearchWord),
 }
 
 fn is_help(words: &[String]) -> bool
@@ -27,14 +30,15 @@ fn is_help(words: &[String]) -> bool
 
 #[tactic(auto, unfolding(crate::specs::Commands::command_of))]
 pub(crate) fn command_from(words: &[String]) -> Option<Command>
-    ensures { result ≡ command_of (map string_bytes words.now) }
+    ensures command { result ≡ command_of (map string_bytes words.now) }
+    ensures fits { IfSome result Fits }
 {
     if is_help(words) {
         Some(Command::Help)
     } else if names_why(words) {
         Some(Command::Explains)
     } else {
-        None
+        search_word(words).map(Command::Searches)
     }
 }
 
@@ -46,6 +50,7 @@ fn with_help(alloc: Global, words: &str) -> Result<Vec<u8>, NoMemory>
     let mut text = begun(alloc, words)?;
     push_words(&mut text, "help: reads nothing, gives these lines\n")?;
     push_words(&mut text, why_help())?;
+    push_words(&mut text, search_help())?;
     Ok(text)
 }
 

@@ -8,6 +8,7 @@ ghost use Rattle.re_frame.specs.Outcomes.{IsAnswer, Outcome, outcome_of, status_
 ghost use Rattle.re_frame.specs.Runs.{Answers, StopsWithin, TakesInput};
 
 use crate::command::{Command, bad_words, command_from, help};
+use re_finding::find_input;
 use re_frame::{Output, Status, Stop, answer_input, put_output};
 use re_io::{MAX_BYTES, Sink, Source};
 use re_why::Why;
@@ -30,6 +31,7 @@ fn output_from<S: Source>(alloc: Global, words: &[String], source: &mut S) -> Re
         None => Ok(bad_words(alloc)?),
         Some(Command::Help) => Ok(help(alloc)?),
         Some(Command::Explains) => answer_input(alloc, &Why, source),
+        Some(Command::Searches(word)) => find_input(alloc, &word, source),
     }
 }
 

@@ -12,13 +12,13 @@ returns-in_err-derived-clause-limit c = λ limit e.
     let same = limit-from c.in_err-derived.field-0.0 (Limit limit) limit gives refl in
     limit-keeps c.args.certificate.now c.steps.result.now c.last-last.result.now limit c.steps.ensures.steps c.if-steps-ge-MAX_STEPS.false c.last-last.ensures (c.in_err-derived.ensures.limit limit (ap Err same))
 
-pub chain_with-requires-clause-step : goal.chain_with-requires-clause-step
-chain_with-requires-clause-step c =
+pub with_step-requires-clause-step : goal.with_step-requires-clause-step
+with_step-requires-clause-step c =
     next-held c.args.certificate.now c.in_ok-step.step c.have_row_maps-by_row.result c.kind.result c.last-last.result.now c.in_ok-step.ensures
     (c.have_row_maps-by_row.ensures ∙ ap has_row_maps c.steps-2.ensures.steps) c.kind.ensures.kind c.last-last.ensures
 
-pub chain_with-requires-clause-room : goal.chain_with-requires-clause-room
-chain_with-requires-clause-room c =
+pub with_step-requires-clause-room : goal.with_step-requires-clause-room
+with_step-requires-clause-room c =
     nothing-keeps c.args.certificate.now c.steps.result.now c.last-last.result.now c.steps.ensures.steps c.if-steps-ge-MAX_STEPS.false c.last-last.ensures c.in_ok-derived.ensures.none
 
 pub returns-clause-none : goal.returns-clause-none

@@ -3,7 +3,7 @@ use Rattle.re_cert.specs.Bounds.{Bound, is_bound}
 use Rattle.re_chain_parts.specs.Chains.{IsSoundChain}
 use Rattle.re_chain_parts.specs.Chains.{chain_kind}
 use Rattle.re_chain_steps.proofs.MoreSteps.{bound_holds, held-stepped, step_holds}
-use Rattle.re_chain_steps.proofs.stepping.chain_with.Goals as goal
+use Rattle.re_chain_steps.proofs.stepping.with_step.Goals as goal
 
 pub built-requires : goal.built-requires
 built-requires c =

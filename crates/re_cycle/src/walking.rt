@@ -1,0 +1,195 @@
+//! The walk over the problems.
+use crate::nodes::{Node, Nodes, Way, node_of};
+use re_changes::{Change, Changed};
+use re_labels::NoMemory;
+use re_problem::Problem;
+use re_step::{Derived, StepFault, step};
+use re_zero::zero_round;
+use std::alloc::Global;
+
+/// What the walk comes to.
+#[derive(Drop)]
+pub(crate) enum Walked {
+    /// A problem, and the way back from it.
+    Back(Node, Way),
+    /// None, and there are no more problems.
+    Ended,
+    /// None among the most problems that may be looked at.
+    Full,
+}
+
+/// A walk: the problems so far, how many of them may be, how many merges a step may have, and at how many problems the derived problem
+/// passed a limit.
+#[derive(Drop)]
+pub(crate) struct Walk {
+    pub(crate) alloc: Global,
+    pub(crate) nodes: Nodes,
+    pub(crate) most: usize,
+    pub(crate) merges: u8,
+    pub(crate) cut: u32,
+}
+
+// Where a problem comes from: the place of the one before the step to it, and how many steps lead to it.
+#[derive(Clone, Copy)]
+struct Origin {
+    parent: usize,
+    depth: u8,
+}
+
+// What merges have made of a derived problem. Further merges take labels from this number on as the second one, so that no two ways of
+// merging lead to the same classes of labels.
+#[derive(Drop)]
+struct Merged {
+    made: Changed,
+    from: u8,
+}
+
+// What one merge more makes, where there are such labels.
+fn merge_one(
+    alloc: Global,
+    before: &Merged,
+    low: u8,
+    high: u8,
+) -> Result<Option<Merged>, NoMemory> {
+    let labels = before.made.problem().names().len();
+    if low >= high || high as usize >= labels {
+        return Ok(None);
+    }
+    let made = before.made.changed(alloc, Change::Merge(low, high))?;
+    if zero_round(made.problem()).is_some() {
+        return Ok(None);
+    }
+    Ok(Some(Merged { made, from: high }))
+}
+
+impl Walk {
+    // Looks at a problem. The answer is None where the walk goes on.
+    fn look_at(&mut self, made: &Changed, origin: Origin) -> Result<Option<Walked>, NoMemory> {
+        let node = node_of(self.alloc, made, origin.parent, origin.depth)?;
+        if let Some(way) = self.nodes.way_back(&node) {
+            return Ok(Some(Walked::Back(node, way)));
+        }
+        if self.nodes.has(&node) {
+            return Ok(None);
+        }
+        if self.nodes.seen.len() >= self.most {
+            return Ok(Some(Walked::Full));
+        }
+        self.nodes.seen.push(node)?;
+        Ok(None)
+    }
+
+    // Looks at what one merge more makes of what merges have made, and appends it where it is wanted.
+    fn merge_on(
+        &mut self,
+        before: &Merged,
+        next: &mut Vec<Merged>,
+        wanted: bool,
+        origin: Origin,
+    ) -> Result<Option<Walked>, NoMemory> {
+        let labels = before.made.problem().names().len() as u8;
+        for high in before.from..labels {
+            for low in 0..high {
+                if let Some(after) = merge_one(self.alloc, before, low, high)? {
+                    let walked = self.look_at(&after.made, origin)?;
+                    if walked.is_some() {
+                        return Ok(walked);
+                    }
+                    if wanted {
+                        next.push(after)?;
+                    }
+                }
+            }
+        }
+        Ok(None)
+    }
+
+    // The same for all of them.
+    fn merge_all(
+        &mut self,
+        level: &[Merged],
+        next: &mut Vec<Merged>,
+        wanted: bool,
+        origin: Origin,
+    ) -> Result<Option<Walked>, NoMemory> {
+        for before in level {
+            let walked = self.merge_on(before, next, wanted, origin)?;
+            if walked.is_some() {
+                return Ok(walked);
+            }
+        }
+        Ok(None)
+    }
+
+    // Looks at what merges make of a derived problem.
+    fn merge_from(&mut self, made: Changed, origin: Origin) -> Result<Option<Walked>, NoMemory> {
+        let mut level = Vec::new(self.alloc);
+        level.push(Merged { made, from: 1 })?;
+        for merge in 0..self.merges {
+            let mut next = Vec::new(self.alloc);
+            let wanted = merge < self.merges - 1;
+            let walked = self.merge_all(level.as_slice(), &mut next, wanted, origin)?;
+            if walked.is_some() {
+                return Ok(walked);
+            }
+            level = next;
+        }
+        Ok(None)
+    }
+
+    // Looks at a derived problem and at what merges make of it.
+    fn spread(&mut self, problem: Problem, origin: Origin) -> Result<Option<Walked>, NoMemory> {
+        if zero_round(&problem).is_some() {
+            return Ok(None);
+        }
+        let made = Changed::unchanged(problem);
+        let walked = self.look_at(&made, origin)?;
+        if walked.is_some() {
+            return Ok(walked);
+        }
+        self.merge_from(made, origin)
+    }
+
+    // Looks at the problems one step behind the one at this place.
+    fn expand(&mut self, place: usize) -> Result<Option<Walked>, NoMemory> {
+        let Some(node) = self.nodes.seen.as_slice().get(place) else {
+            return Ok(None);
+        };
+        let origin = Origin {
+            parent: place,
+            depth: node.depth.saturating_add(1),
+        };
+        match step(self.alloc, &node.problem) {
+            Ok(derived) => {
+                let Derived { problem, .. } = derived;
+                self.spread(problem, origin)
+            }
+            Err(StepFault::Limit(_)) => {
+                self.cut = self.cut.saturating_add(1);
+                Ok(None)
+            }
+            Err(StepFault::NoMemory) => Err(NoMemory),
+        }
+    }
+
+    // Whether the problem at this place is there, and is reached by fewer steps.
+    fn goes_on(&self, place: usize, steps: u8) -> bool {
+        match self.nodes.seen.as_slice().get(place) {
+            Some(node) => node.depth < steps,
+            None => false,
+        }
+    }
+
+    /// Walks over the problems that are reached by at most so many steps.
+    pub(crate) fn walk(&mut self, steps: u8) -> Result<Walked, NoMemory> {
+        for place in 0..self.most {
+            if !self.goes_on(place, steps) {
+                break;
+            }
+            if let Some(walked) = self.expand(place)? {
+                return Ok(walked);
+            }
+        }
+        Ok(Walked::Ended)
+    }
+}

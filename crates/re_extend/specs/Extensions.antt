@@ -1,0 +1,30 @@
+-- Bounds that go on from a chain of lower steps.
+use Rattle.std.specs.Prelude.{◌≡◌, ◌≤◌, ℕ, List, ◌++◌, length, None}
+use Rattle.std.specs.List.{AllByRecursion}
+use Rattle.re_problem.specs.NamedProblems.{unnamed}
+use Rattle.re_cert.specs.Bounds.{Bound, BoundStep}
+use Rattle.re_cert.specs.declared.certificate.Kind.{Kind}
+use Rattle.re_cert.specs.declared.certificate.Kind.TheVariants.{Lower}
+use Rattle.re_check.specs.Verdicts.{Means, steps_fault, verdict_of}
+use Rattle.re_check.specs.declared.verdict.Verdict.TheVariants.{Accepted}
+
+-- a chain of kind lower, each step of which meets its clauses
+pub record IsSoundChain (chain : Bound) : Type 0 where
+  pub lower : chain.kind ≡ Lower
+  pub meets : steps_fault chain.first 1 chain.steps ≡ None
+
+-- each step leads to a problem of at most so many labels
+abbrev pub AreSmall : ℕ → List BoundStep → Type 0
+AreSmall labels steps = AllByRecursion (λ (s : BoundStep). length s.next.names ≤ labels) steps
+
+-- a bound of this kind goes on from the chain: it has the same first problem and, behind the chain's steps, at most so many more, each to a problem of at
+-- most so many labels; it is accepted, and what its verdict says of algorithms holds of the chain's first problem
+pub record GoesOn (kind : Kind) (most labels : ℕ) (chain bound : Bound) : Type 0 where
+  pub of_kind : bound.kind ≡ kind
+  pub first : bound.first ≡ chain.first
+  pub more : List BoundStep
+  pub steps : bound.steps ≡ chain.steps ++ more
+  pub few : length more ≤ most
+  pub small : AreSmall labels more
+  pub valid : verdict_of bound ≡ Accepted kind (length bound.steps)
+  pub means : Means (Accepted kind (length bound.steps)) (unnamed chain.first)

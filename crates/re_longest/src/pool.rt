@@ -1,0 +1,157 @@
+//! The candidates of a level.
+use crate::merges::State;
+use re_labels::NoMemory;
+use re_problem::Problem;
+use std::alloc::Global;
+
+/// How many candidates of a level stay.
+pub(crate) const WIDTH: usize = 30;
+
+/// How many numbers of labels count.
+const GROUPS: usize = 3;
+
+/// A problem on a level: the place in the beam before of the problem whose derived problem it was made of, the labels that those of the
+/// derived problem have become, and the number that tells it from others.
+#[derive(Drop)]
+pub(crate) struct Kept {
+    pub(crate) problem: Problem,
+    pub(crate) parent: usize,
+    pub(crate) images: Vec<Option<u8>>,
+    pub(crate) mark: u64,
+}
+
+// The candidates of one number of labels, those with the fewest active configurations first.
+#[derive(Drop)]
+struct Group {
+    labels: usize,
+    kept: Vec<Kept>,
+}
+
+/// The best candidates of the three greatest numbers of labels, the greatest first.
+#[derive(Drop)]
+pub(crate) struct Pool {
+    alloc: Global,
+    groups: Vec<Group>,
+}
+
+/// The problem of the inner beam as a candidate.
+pub(crate) fn kept_of(alloc: Global, state: &State, parent: usize) -> Result<Kept, NoMemory> {
+    let problem = state.made.problem().copy()?;
+    let images = Vec::from_slice(alloc, state.made.images())?;
+    Ok(Kept {
+        problem,
+        parent,
+        images,
+        mark: state.mark,
+    })
+}
+
+impl Group {
+    // Whether a candidate of this number is there.
+    fn has(&self, mark: u64) -> bool {
+        for kept in self.kept.as_slice() {
+            if kept.mark == mark {
+                return true;
+            }
+        }
+        false
+    }
+
+    // Whether a candidate with so many active configurations would stay.
+    fn takes(&self, active: usize) -> bool {
+        if self.kept.len() < WIDTH {
+            return true;
+        }
+        match self.kept.as_slice().last() {
+            Some(last) => active < last.problem.active().len(),
+            None => true,
+        }
+    }
+
+    // One candidate more.
+    fn put(&mut self, kept: Kept) -> Result<(), NoMemory> {
+        self.kept.push(kept)?;
+        self.kept.sort_by_key(|kept| kept.problem.active().len())?;
+        self.kept.truncate(WIDTH);
+        Ok(())
+    }
+}
+
+impl Pool {
+    /// No candidates yet.
+    pub(crate) fn new(alloc: Global) -> Pool {
+        Pool {
+            alloc,
+            groups: Vec::new(alloc),
+        }
+    }
+
+    /// Whether problems of so many labels may still count.
+    pub(crate) fn is_open(&self, labels: usize) -> bool {
+        match self.groups.as_slice().get(GROUPS - 1) {
+            Some(group) => group.labels <= labels,
+            None => true,
+        }
+    }
+
+    // Whether the candidate would stay, and isn't there.
+    fn takes(&self, state: &State) -> bool {
+        let problem = state.made.problem();
+        let labels = problem.names().len();
+        for group in self.groups.as_slice() {
+            if group.labels == labels {
+                return group.takes(problem.active().len()) && !group.has(state.mark);
+            }
+        }
+        self.is_open(labels)
+    }
+
+    // Puts the candidate into its group, or into a new one.
+    fn put(&mut self, kept: Kept) -> Result<(), NoMemory> {
+        let labels = kept.problem.names().len();
+        for group in self.groups.as_mut_slice() {
+            if group.labels == labels {
+                return group.put(kept);
+            }
+        }
+        let mut group = Group {
+            labels,
+            kept: Vec::new(self.alloc),
+        };
+        group.put(kept)?;
+        self.groups.push(group)?;
+        self.groups.sort_by_key(|group| usize::MAX - group.labels)?;
+        self.groups.truncate(GROUPS);
+        Ok(())
+    }
+
+    /// Offers the problem of the inner beam as a candidate.
+    pub(crate) fn offer(&mut self, state: &State, parent: usize) -> Result<(), NoMemory> {
+        if self.takes(state) {
+            let kept = kept_of(self.alloc, state, parent)?;
+            self.put(kept)?;
+        }
+        Ok(())
+    }
+
+    /// Appends those that stay, without the one of this number if any.
+    pub(crate) fn choose(
+        &mut self,
+        beam: &mut Vec<Kept>,
+        without: Option<u64>,
+    ) -> Result<(), NoMemory> {
+        for group in self.groups.as_mut_slice() {
+            group.kept.reverse();
+        }
+        for _turn in 0..WIDTH {
+            for group in self.groups.as_mut_slice() {
+                if let Some(kept) = group.kept.pop() {
+                    if Some(kept.mark) != without && beam.len() < WIDTH {
+                        beam.push(kept)?;
+                    }
+                }
+            }
+        }
+        Ok(())
+    }
+}

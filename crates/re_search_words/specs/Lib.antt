@@ -1,0 +1,2 @@
+pub mod MayGive
+pub mod Words

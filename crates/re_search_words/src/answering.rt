@@ -1,0 +1,160 @@
+//! What the words answer.
+ghost use Rattle.re_cert.specs.Bounds.{last_problem};
+ghost use Rattle.re_cert.specs.declared.certificate.Kind.TheVariants.{Fixed};
+ghost use Rattle.re_chain_texts.specs.OverChains.{steps_refusal};
+ghost use Rattle.re_extend.specs.Extensions.{IsSoundChain};
+ghost use Rattle.re_check.specs.Verdicts.{steps_fault};
+ghost use Rattle.re_frame.specs.Outcomes.{limit as limited_by, outcome_of, refused as refused_with};
+ghost use Rattle.re_io.specs.declared.read.TheConstants.{MAX_BYTES};
+ghost use Rattle.re_problem.specs.NamedProblems.{unnamed};
+ghost use Rattle.re_problem.specs.Zero.{zero_place};
+ghost use Rattle.re_search_words.specs.MayGive.{MayFindBehind, MayGive, MayGiveAt, MayGiveSound, not_found_line, solvable_line, too_many_line};
+ghost use Rattle.std.specs.Prelude.{◌≡◌, ◌≤◌, IfOk, None, Some, length};
+
+use crate::words::SearchWord;
+use re_cert::{Certificate, Kind};
+use re_chain_texts::{certificate_output, read_chain, steps_refusal};
+use re_cycle::{Cycle, find_cycle};
+use re_finding::Finding;
+use re_frame::{
+    Answer, Output, begun, fault_output, push_number, push_words, refused, verdict_output,
+};
+use re_labels::NoMemory;
+use re_longest::{Longest, find_longest};
+use re_problem::{Problem, TextFault, print_active};
+use std::alloc::Global;
+
+// The line for a problem that the configuration at this place shows to be solvable without communication.
+fn solvable(alloc: Global, problem: &Problem, place: usize) -> Result<Output, NoMemory>
+    requires { zero_place (unnamed problem.now) ≡ Some place }
+    ensures { IfOk result (λ output. outcome_of output ≡ refused_with (solvable_line problem.now place)) }
+{
+    let mut text = begun(alloc, "not found: solvable without communication: ")?;
+    let config = print_active(alloc, problem, place)?;
+    text.extend_from_slice(config.as_slice())?;
+    push_words(&mut text, "\n")?;
+    Ok(refused(text))
+}
+
+// The line of a search without success.
+fn not_found(alloc: Global, nodes: u32, cut: u32) -> Result<Output, NoMemory>
+    ensures { IfOk result (λ output. outcome_of output ≡ refused_with (not_found_line nodes cut)) }
+{
+    let mut text = begun(alloc, "not found: nodes ")?;
+    push_number(alloc, &mut text, nodes as usize)?;
+    push_words(&mut text, ", cut ")?;
+    push_number(alloc, &mut text, cut as usize)?;
+    push_words(&mut text, "\n")?;
+    Ok(refused(text))
+}
+
+// The line for more problems than may be looked at.
+fn too_many(alloc: Global, nodes: u32) -> Result<Output, NoMemory>
+    ensures { IfOk result (λ output. outcome_of output ≡ limited_by (too_many_line nodes)) }
+{
+    let mut text = begun(alloc, "limit: more than ")?;
+    push_number(alloc, &mut text, nodes as usize)?;
+    push_words(&mut text, " nodes\n")?;
+    Ok(Output {
+        answer: Answer::Limit,
+        text,
+    })
+}
+
+// What `longest` gives to a sound chain of kind lower.
+fn longest_output(
+    alloc: Global,
+    chain: &Certificate,
+    steps: u8,
+    labels: u8,
+) -> Result<Output, NoMemory>
+    requires { IsSoundChain chain.now }
+    ensures { IfOk result (λ output. MayFindBehind (zero_place (unnamed (last_problem chain.now))) (SearchWord.Longest steps labels) chain.now (outcome_of output)) }
+{
+    match find_longest(alloc, chain, steps, labels)? {
+        Longest::Found(certificate) => certificate_output(alloc, &certificate),
+        Longest::Solvable(place) => solvable(alloc, chain.last(), place),
+    }
+}
+
+// What `cycle` gives to a sound chain of kind lower.
+fn cycle_output(
+    alloc: Global,
+    chain: &Certificate,
+    steps: u8,
+    merges: u8,
+    nodes: u32,
+) -> Result<Output, NoMemory>
+    ensures { IfOk result (λ output. MayFindBehind (zero_place (unnamed (last_problem chain.now))) (SearchWord.Cycle steps merges nodes) chain.now (outcome_of output)) }
+{
+    match find_cycle(alloc, chain, steps, merges, nodes)? {
+        Cycle::Found(certificate) => certificate_output(alloc, &certificate),
+        Cycle::Solvable(place) => solvable(alloc, chain.last(), place),
+        Cycle::NotFound { nodes: seen, cut } => not_found(alloc, seen, cut),
+        Cycle::TooMany => too_many(alloc, nodes),
+    }
+}
+
+// What the word gives to a sound chain of kind lower.
+fn lower_output(alloc: Global, word: SearchWord, chain: &Certificate) -> Result<Output, NoMemory>
+    requires { IsSoundChain chain.now }
+    ensures { IfOk result (λ output. MayFindBehind (zero_place (unnamed (last_problem chain.now))) word chain.now (outcome_of output)) }
+{
+    match word {
+        SearchWord::Longest(steps, labels) => longest_output(alloc, chain, steps, labels),
+        SearchWord::Cycle(steps, merges, nodes) => cycle_output(alloc, chain, steps, merges, nodes),
+    }
+}
+
+// What the word gives to a chain each step of which meets its clauses.
+fn chain_output(alloc: Global, word: SearchWord, chain: &Certificate) -> Result<Output, NoMemory>
+    requires meets { steps_fault chain.now.first 1 chain.now.steps ≡ None }
+    requires open { chain.now.kind ≡ Fixed → ⊥ }
+    ensures { IfOk result (λ output. MayGiveAt chain.now.kind word chain.now (outcome_of output)) }
+{
+    match chain.kind() {
+        Kind::Lower => lower_output(alloc, word, chain),
+        Kind::Upper => Ok(refused(begun(alloc, "no: not a lower chain\n")?)),
+        Kind::Fixed => unreachable!(),
+    }
+}
+
+// What the word gives to a chain.
+fn sound_output(alloc: Global, word: SearchWord, chain: &Certificate) -> Result<Output, NoMemory>
+    requires { chain.now.kind ≡ Fixed → ⊥ }
+    ensures { IfOk result (λ output. MayGiveSound (steps_refusal chain.now) word chain.now (outcome_of output)) }
+{
+    match steps_refusal(chain) {
+        Some(verdict) => verdict_output(alloc, verdict),
+        None => chain_output(alloc, word, chain),
+    }
+}
+
+// What the word gives to a text.
+#[tactic(auto, unfolding(crate::specs::MayGive::MayGive))]
+fn text_output(alloc: Global, word: SearchWord, text: &[u8]) -> Result<Output, NoMemory>
+    requires { length text.now ≤ MAX_BYTES }
+    ensures { IfOk result (λ output. MayGive word text.now (outcome_of output)) }
+{
+    match read_chain(alloc, text) {
+        Ok(chain) => sound_output(alloc, word, &chain),
+        Err(TextFault::Bad(fault)) => fault_output(alloc, fault),
+        Err(TextFault::NoMemory) => Err(NoMemory),
+    }
+}
+
+impl Finding for SearchWord {
+    ghost use Rattle.std.specs.Prelude.{true};
+    ghost use Rattle.re_search_words.specs.MayGive.{MayGive};
+    ghost use Rattle.re_search_words.specs.Words.{IsSearchWord};
+
+    ghost fits = { IsSearchWord };
+
+    ghost may = { MayGive };
+
+    ghost judging = { λ _. true };
+
+    fn find(&self, alloc: Global, text: Vec<u8>) -> Result<Output, NoMemory> {
+        text_output(alloc, *self, text.as_slice())
+    }
+}

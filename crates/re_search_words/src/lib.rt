@@ -1,0 +1,7 @@
+//! The words `longest` and `cycle`: searches for a lower bound or a fixed point that goes on from a chain.
+#![tactic(auto)]
+
+mod answering;
+mod words;
+
+pub use words::{SearchWord, search_help, search_word};

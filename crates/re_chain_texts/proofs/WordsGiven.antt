@@ -1,5 +1,5 @@
 -- What is read of a text for a word, and what words give.
-use Rattle.std.proofs.Common.{◌≡◌, ℕ, true, false, List, Option, Some, None, refl, sym, ap, ◌∙◌, subst}
+use Rattle.std.proofs.Common.{◌≡◌, ℕ, Bool, true, false, List, Option, Some, None, refl, sym, ap, ◌∙◌, subst}
 use Rattle.std.specs.Prelude.{option_map}
 use Rattle.re_problem.specs.declared.fault.InputFault.{InputFault}
 use Rattle.re_problem.specs.declared.fault.InputFault.TheVariants as input
@@ -15,13 +15,14 @@ use Rattle.re_frame.specs.declared.output.Output.{Output}
 use Rattle.re_frame.specs.declared.status.Answer.TheVariants as answer
 use Rattle.re_frame.specs.declared.status.Status.{Status}
 use Rattle.re_frame.specs.declared.status.Status.TheVariants as status
+use Rattle.re_chain_parts.specs.Chains.{IsSoundChain}
 use Rattle.re_chain_texts.specs.ChainTexts.{chain_fault, text_chain}
-use Rattle.re_chain_texts.specs.OverChains.{IsAnswered, IsJudged, ReadsSound, or_fault, or_refusal, over_any, over_sound, refusal_of, steps_refusal}
+use Rattle.re_chain_texts.specs.OverChains.{IsAnswered, IsJudged, IsSoundText, ReadsSound, certificate_outcome, or_fault, or_refusal, over_any, over_sound, refusal_of, steps_refusal}
 use Rattle.re_chain_texts.specs.declared.over_chains.ChainRead.{ChainRead}
 use Rattle.re_chain_texts.specs.declared.over_chains.ChainRead.TheVariants.{Answered, Chain}
 
 -- ---- faults and refusals aren't Done
-fault_not_done : (fault : InputFault) → fault_status fault ≡ status.Done → ⊥
+pub fault_not_done : (fault : InputFault) → fault_status fault ≡ status.Done → ⊥
 fault_not_done (input.BadByte at) e = cc
 fault_not_done (input.BadItem line) e = cc
 fault_not_done (input.WrongDegree line) e = cc
@@ -107,3 +108,25 @@ judged_read bytes given (Answered output) any is = record {
   not_done = is.not_done;
   says = is.says;
 }
+
+-- ---- what words may say
+pub or_fault_says : (first : Option InputFault) (outcome : Outcome) (judging : Bool) → MaySay outcome.status judging → MaySay (or_fault first outcome).status judging
+or_fault_says (Some fault) outcome judging says = fault_says fault judging
+or_fault_says None outcome judging says = says
+
+or_refusal_says : (refusal : Option Verdict) (outcome : Outcome) → MaySay outcome.status true → MaySay (or_refusal refusal outcome).status true
+or_refusal_says (Some verdict) outcome says = check_says verdict
+or_refusal_says None outcome says = says
+
+pub over_any_says : (word : Bound → Outcome) (bytes : List ℕ) (judging : Bool) → ((chain : Bound) → MaySay (word chain).status judging) → MaySay (over_any word bytes).status judging
+unfolding over_any
+over_any_says word bytes judging says = or_fault_says (chain_fault bytes) (word (text_chain bytes)) judging (says (text_chain bytes))
+
+pub over_sound_says : (word : Bound → Outcome) (bytes : List ℕ) → ((chain : Bound) → MaySay (word chain).status true) → MaySay (over_sound word bytes).status true
+unfolding over_sound
+over_sound_says word bytes says =
+    over_any_says (λ chain. or_refusal (steps_refusal chain) (word chain)) bytes true (λ chain. or_refusal_says (steps_refusal chain) (word chain) (says chain))
+
+-- ---- the text of a sound chain
+pub sound_text : (output : Output) (chain : Bound) → outcome_of output ≡ certificate_outcome chain → IsSoundChain chain → IsSoundText output.text.items
+sound_text output chain is sound = (chain, ap (λ (o : Outcome). o.text) is, sound)

@@ -1,9 +1,11 @@
 //! The certificate of the cycle.
-ghost use Rattle.re_cycle.specs.Answers.{Answers};
 ghost use Rattle.re_cert.specs.Bounds.{last_problem};
+ghost use Rattle.re_cert.specs.declared.certificate.Kind.TheVariants.{Fixed};
+ghost use Rattle.re_cycle.specs.Answers.{Answers};
+ghost use Rattle.re_extend.specs.Extensions.{GoesOn};
 ghost use Rattle.re_problem.specs.NamedProblems.{unnamed};
 ghost use Rattle.re_problem.specs.Zero.{zero_place};
-ghost use Rattle.std.specs.Prelude.{◌≡◌, IfOk, None};
+ghost use Rattle.std.specs.Prelude.{◌≡◌, IfOk, IfSome, None};
 
 use crate::nodes::{Node, Nodes, Way};
 use crate::walking::{Walk, Walked};
@@ -42,29 +44,40 @@ fn pairs_of(alloc: Global, map: &LabelMap) -> Result<Vec<(u8, u8)>, NoMemory> {
     Ok(pairs)
 }
 
-// What stands behind the chain where it comes back from this problem.
-fn extension_of(
+// The certificate that goes on from the chain to this problem, and comes back from it.
+fn closed(
     alloc: Global,
     chain: &Certificate,
+    steps: u8,
     nodes: &Nodes,
     node: &Node,
     way: &Way,
-) -> Result<Extension, NoMemory> {
+) -> Result<Option<Certificate>, NoMemory>
+    ensures { IfOk result (λ found. IfSome found (GoesOn Fixed steps MAX_LABELS chain.now)) }
+{
     let path = nodes.path_to(node)?;
-    Ok(Extension {
+    let extension = Extension {
         kind: Kind::Fixed,
-        back: way.number.min(MAX_STEPS as usize) as u8,
+        back: way.number.min(MAX_STEPS) as u8,
         steps: steps_along(alloc, chain, path)?,
         renaming: pairs_of(alloc, &way.map)?,
-    })
+    };
+    extended(alloc, chain, extension, steps, MAX_LABELS)
 }
 
-// How many problems the walk looked at, and at how many of them the derived problem passed a limit.
-fn not_found(walk: &Walk) -> Cycle {
-    let nodes = walk.nodes.seen.len();
-    Cycle::NotFound {
-        nodes: nodes.min(u32::MAX as usize) as u32,
-        cut: walk.cut,
+// The certificate where the walk found a way back.
+fn found(
+    alloc: Global,
+    chain: &Certificate,
+    steps: u8,
+    nodes: &Nodes,
+    walked: &Walked,
+) -> Result<Option<Certificate>, NoMemory>
+    ensures { IfOk result (λ found. IfSome found (GoesOn Fixed steps MAX_LABELS chain.now)) }
+{
+    match walked {
+        Walked::Back(node, way) => closed(alloc, chain, steps, nodes, node, way),
+        Walked::Ended | Walked::Full => Ok(None),
     }
 }
 
@@ -74,21 +87,21 @@ fn answer_of(
     chain: &Certificate,
     steps: u8,
     walk: &Walk,
-    walked: Walked,
+    walked: &Walked,
 ) -> Result<Cycle, NoMemory>
     requires { zero_place (unnamed (last_problem chain.now)) ≡ None }
     ensures { IfOk result (Answers steps chain.now) }
 {
-    let (node, way) = match walked {
-        Walked::Back(node, way) => (node, way),
-        Walked::Ended => return Ok(not_found(walk)),
-        Walked::Full => return Ok(Cycle::TooMany),
-    };
-    let extension = extension_of(alloc, chain, &walk.nodes, &node, &way)?;
-    match extended(alloc, chain, extension, steps, MAX_LABELS)? {
-        Some(certificate) => Ok(Cycle::Found(certificate)),
-        None => Ok(not_found(walk)),
+    if let Some(certificate) = found(alloc, chain, steps, &walk.nodes, walked)? {
+        return Ok(Cycle::Found(certificate));
     }
+    if let Walked::Full = walked {
+        return Ok(Cycle::TooMany);
+    }
+    Ok(Cycle::NotFound {
+        nodes: walk.nodes.seen.len().min(u32::MAX as usize) as u32,
+        cut: walk.cut,
+    })
 }
 
 /// Searches for a fixed point that goes on from a sound chain: with at most so many further steps, each to what at most so many merges
@@ -109,8 +122,8 @@ pub fn find_cycle(
     if let Some(place) = zero_round(chain.last()) {
         return Ok(Cycle::Solvable(place));
     }
-    let room = (MAX_STEPS as usize).saturating_sub(chain.steps().len());
-    let depth = (room.min(MAX_STEPS as usize) as u8).min(steps);
+    let room = MAX_STEPS.saturating_sub(chain.steps().len());
+    let depth = (room.min(MAX_STEPS) as u8).min(steps);
     let mut walk = Walk {
         alloc,
         nodes: Nodes::of_chain(alloc, chain)?,
@@ -119,5 +132,5 @@ pub fn find_cycle(
         cut: 0,
     };
     let walked = walk.walk(depth)?;
-    answer_of(alloc, chain, steps, &walk, walked)
+    answer_of(alloc, chain, steps, &walk, &walked)
 }

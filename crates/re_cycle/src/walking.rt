@@ -127,7 +127,7 @@ impl Walk {
         level.push(Merged { made, from: 1 })?;
         for merge in 0..self.merges {
             let mut next = Vec::new(self.alloc);
-            let wanted = merge < self.merges - 1;
+            let wanted = merge.saturating_add(1) < self.merges;
             let walked = self.merge_all(level.as_slice(), &mut next, wanted, origin)?;
             if walked.is_some() {
                 return Ok(walked);

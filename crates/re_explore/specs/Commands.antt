@@ -2,21 +2,32 @@
 use Rattle.std.specs.Prelude.{◌≡◌, ℕ, Bool, true, false, List, [], ◌∷◌, ◌++◌, Option, None, Some, option_map, codes, if◌then◌else◌}
 use Rattle.std.specs.Str.{bytes_eq}
 use Rattle.re_frame.specs.Outcomes.{Outcome, done, within_limit}
-use Rattle.re_frame.specs.declared.status.Status.TheVariants.{BadWords}
+use Rattle.re_frame.specs.declared.status.Status.TheVariants.{BadWords, Done}
+use Rattle.re_chain_words.specs.Answers.{WordWorth, is_judging as chain_judges, word_outcome}
+use Rattle.re_chain_words.specs.ChainWords.{chain_help, chain_word_of}
 use Rattle.re_finding.specs.Answers.{MayAnswer}
 use Rattle.re_search_words.specs.MayGive.{MayGive}
 use Rattle.re_search_words.specs.Words.{IsSearchWord, search_help, search_word_of}
 use Rattle.re_why.specs.Explaining.{explaining_outcome, names_why, why_help}
 use Rattle.re_explore.specs.declared.command.Command.{Command}
-use Rattle.re_explore.specs.declared.command.Command.TheVariants.{Explains, Help, Searches}
+use Rattle.re_explore.specs.declared.command.Command.TheVariants.{Chains, Explains, Help, Searches}
 
 abbrev pub is_help : List (List ℕ) → Bool
 is_help (word ∷ []) = bytes_eq (codes "help") word
 is_help words = false
 
+-- the first of two commands, where there is one
+abbrev pub or_else : Option Command → Option Command → Option Command
+or_else (Some command) other = Some command
+or_else None other = other
+
+-- the command that goes on from a chain
+abbrev pub command_over_chains : List (List ℕ) → Option Command
+command_over_chains words = or_else (option_map Chains (chain_word_of words)) (option_map Searches (search_word_of words))
+
 -- the command that these words name
 unfoldable pub command_of : List (List ℕ) → Option Command
-command_of words = if is_help words then Some Help else if names_why words then Some Explains else option_map Searches (search_word_of words)
+command_of words = if is_help words then Some Help else if names_why words then Some Explains else command_over_chains words
 
 -- the numbers of a command are such as words can give it
 abbrev pub Fits : Command → Type 0
@@ -25,7 +36,7 @@ Fits command = Unit {0}
 
 -- the lines of help
 unfoldable pub help_text : List ℕ
-help_text = codes "help: reads nothing, gives these lines\n" ++ why_help ++ search_help
+help_text = codes "help: reads nothing, gives these lines\n" ++ chain_help ++ why_help ++ search_help
 
 -- words that are no command are answered by the lines of help, too
 unfoldable pub bad_words : Outcome
@@ -35,17 +46,20 @@ bad_words = record { status = BadWords; text = codes "words: not a command\n" ++
 abbrev pub IsOutcome : Option Command → List ℕ → Outcome → Type 0
 IsOutcome None bytes outcome = outcome ≡ bad_words
 IsOutcome (Some Help) bytes outcome = outcome ≡ done help_text
+IsOutcome (Some (Chains word)) bytes outcome = (outcome ≡ within_limit (word_outcome word) bytes) × (outcome.status ≡ Done → WordWorth word outcome.text)
 IsOutcome (Some Explains) bytes outcome = outcome ≡ within_limit explaining_outcome bytes
 IsOutcome (Some (Searches word)) bytes outcome = MayAnswer (MayGive word) bytes outcome
 
 -- whether the command reads its input
 abbrev pub is_reading : Option Command → Bool
+is_reading (Some (Chains word)) = true
 is_reading (Some Explains) = true
 is_reading (Some (Searches word)) = true
 is_reading command = false
 
 -- whether its answer can be No
 abbrev pub is_judging : Option Command → Bool
+is_judging (Some (Chains word)) = chain_judges word
 is_judging (Some Explains) = true
 is_judging (Some (Searches word)) = true
 is_judging command = false

@@ -1,18 +1,21 @@
 // The command that the words name. A family of words is a variant here, an arm in `command_from` and in `output_from`, and its lines of help.
-ghost use Rattle.re_explore.specs.Commands.{Fits, bad_words, command_of, help_text, is_help};
+ghost use Rattle.re_explore.specs.Commands.{Fits, bad_words, command_of, command_over_chains, help_text, is_help};
 ghost use Rattle.re_frame.specs.Outcomes.{done as done_with, outcome_of};
 ghost use Rattle.std.specs.Prelude.{◌≡◌, ◌++◌, IfOk, IfSome, map, string_bytes};
 
+use re_chain_words::{ChainWord, chain_help, chain_word};
 use re_frame::{Answer, Output, begun, done, push_words};
 use re_labels::NoMemory;
 use re_search_words::{SearchWord, search_help, search_word};
 use re_why::{names_why, why_help};
 use std::alloc::Global;
 
-#[derive(Clone, Copy, Debug, PartialEq, Eq)]
+#[derive(Drop, Debug)]
 pub(crate) enum Command {
     /// The words, with what each reads and gives.
     Help,
+    /// Chains that begin, grow by a step, and are shaped.
+    Chains(ChainWord),
     /// What shows a refusal.
     Explains,
     /// A search that goes on from a chain.
@@ -28,6 +31,20 @@ fn is_help(words: &[String]) -> bool
     }
 }
 
+// The command that goes on from a chain.
+fn command_over_chains(words: &[String]) -> Option<Command>
+    ensures command { result ≡ command_over_chains (map string_bytes words.now) }
+    ensures fits { IfSome result Fits }
+{
+    if let Some(word) = chain_word(words) {
+        return Some(Command::Chains(word));
+    }
+    if let Some(word) = search_word(words) {
+        return Some(Command::Searches(word));
+    }
+    None
+}
+
 #[tactic(auto, unfolding(crate::specs::Commands::command_of))]
 pub(crate) fn command_from(words: &[String]) -> Option<Command>
     ensures command { result ≡ command_of (map string_bytes words.now) }
@@ -38,7 +55,7 @@ pub(crate) fn command_from(words: &[String]) -> Option<Command>
     } else if names_why(words) {
         Some(Command::Explains)
     } else {
-        search_word(words).map(Command::Searches)
+        command_over_chains(words)
     }
 }
 
@@ -49,6 +66,7 @@ fn with_help(alloc: Global, words: &str) -> Result<Vec<u8>, NoMemory>
 {
     let mut text = begun(alloc, words)?;
     push_words(&mut text, "help: reads nothing, gives these lines\n")?;
+    push_words(&mut text, chain_help())?;
     push_words(&mut text, why_help())?;
     push_words(&mut text, search_help())?;
     Ok(text)

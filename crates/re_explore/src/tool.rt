@@ -30,6 +30,7 @@ fn output_from<S: Source>(alloc: Global, words: &[String], source: &mut S) -> Re
     match command_from(words) {
         None => Ok(bad_words(alloc)?),
         Some(Command::Help) => Ok(help(alloc)?),
+        Some(Command::Chains(word)) => answer_input(alloc, &word, source),
         Some(Command::Explains) => answer_input(alloc, &Why, source),
         Some(Command::Searches(word)) => find_input(alloc, &word, source),
     }

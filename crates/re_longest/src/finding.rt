@@ -26,7 +26,7 @@ fn found_steps(
     steps: u8,
     labels: u8,
 ) -> Result<Vec<Step>, NoMemory> {
-    let room = (MAX_STEPS as usize).saturating_sub(chain.steps().len());
+    let room = MAX_STEPS.saturating_sub(chain.steps().len());
     let levels = room.min(steps as usize);
     let path = longest_path(alloc, chain.last(), levels, labels)?;
     steps_along(alloc, chain, path)

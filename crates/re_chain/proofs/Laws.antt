@@ -1,0 +1,154 @@
+-- Shaping the last problem of a sound chain leaves it sound.
+use Rattle.std.proofs.Common.{◌≡◌, ℕ, ◌<◌, Bool, true, false, cond, not, eqb, List, [], ◌∷◌, length, Option, None, Some, refl, sym, ap, ◌∙◌, subst}
+use Rattle.std.specs.Prelude.{if◌then◌else◌}
+use Rattle.std.specs.List.{AllByRecursion}
+use Rattle.re_items.specs.Steps.{is_nil}
+use Rattle.re_labels.proofs.Tests.{below-true, eqb-same}
+use Rattle.re_problem.specs.NamedProblems.{IsNamedProblem, NamedProblem}
+use Rattle.re_cert.specs.Bounds.{Bound, BoundStep, is_bound, is_label, is_lower, last_problem, next_problems}
+use Rattle.re_cert.specs.declared.certificate.Kind.{Kind}
+use Rattle.re_cert.specs.declared.certificate.Kind.TheVariants.{Lower, Upper, Fixed}
+use Rattle.re_chain.proofs.LastSteps.{BoundParts, Keeps, LastIs, bound-parts, chain_with-bound, last-next, with_last-bound, with_last-sound}
+use Rattle.re_chain.proofs.DroppedSteps.{drop-keeps}
+use Rattle.re_chain.proofs.MergedSteps.{merge-keeps}
+use Rattle.re_chain.proofs.NamedSteps.{name-keeps, named-named}
+use Rattle.re_chain.specs.Chains.{chain_kind, chain_with, with_last}
+use Rattle.re_labels.specs.Names.{IsName}
+use Rattle.re_chain.specs.Dropping.{drop_refusal, dropped, dropped_step}
+use Rattle.re_chain.specs.Laws.{DropLaw, IsOverProblems, IsSoundChain, MergeLaw, NameLaw}
+use Rattle.re_chain.specs.Naming.{is_taken, name_refusal, named, named_problem, named_step}
+use Rattle.re_chain.specs.Merging.{merge_refusal, merged, merged_step}
+use Rattle.re_chain.specs.declared.refusal.Refusal.{Refusal}
+use Rattle.re_chain.specs.declared.refusal.Refusal.TheVariants.{NotALabel, NotLower, NotUpper, NoStep, Same, Taken}
+
+pub kind-same : (kind : Kind) → is_lower (chain_kind kind) ≡ is_lower kind
+kind-same Lower = refl
+kind-same Upper = refl
+kind-same Fixed = refl
+
+-- ---- merges
+-- what is known where a merge isn't refused
+pub record MayMerge (x y : ℕ) (bound : Bound) : Type 0 where
+  pub lower : is_lower bound.kind ≡ true
+  pub some : is_nil bound.steps ≡ false
+  pub from : x < length (last_problem bound).names
+  pub to : y < length (last_problem bound).names
+  pub apart : x ≡ y → ⊥
+
+pub may-merge : (x y : ℕ) (bound : Bound) → merge_refusal x y bound ≡ None → MayMerge x y bound
+may-merge x y bound none = go (is_lower bound.kind) (is_nil bound.steps) (is_label (last_problem bound) x) (is_label (last_problem bound) y) (eqb x y) refl refl refl refl refl none
+  where
+    go : (l n a b e : Bool) → is_lower bound.kind ≡ l → is_nil bound.steps ≡ n → is_label (last_problem bound) x ≡ a → is_label (last_problem bound) y ≡ b → eqb x y ≡ e
+        → (if not l then Some NotLower else if n then Some NoStep else if not a then Some (NotALabel x) else if not b then Some (NotALabel y) else if e then Some Same else None) ≡ None
+        → MayMerge x y bound
+    go false n a b e hl hn ha hb he h = cc
+    go true true a b e hl hn ha hb he h = cc
+    go true false false b e hl hn ha hb he h = cc
+    go true false true false e hl hn ha hb he h = cc
+    go true false true true true hl hn ha hb he h = cc
+    go true false true true false hl hn ha hb he h = record {
+      lower = hl;
+      some = hn;
+      from = below-true x (length (last_problem bound).names) ha;
+      to = below-true y (length (last_problem bound).names) hb;
+      apart = λ s. let wrong : false ≡ true = sym he ∙ ap (eqb x) (sym s) ∙ eqb-same x in cc;
+    }
+
+module _ (bound : Bound) (x y : ℕ) (may : merge_refusal x y bound ≡ None) where
+  last : LastIs (λ (s : BoundStep). y < length s.next.names) bound.steps
+  last = let m = may-merge x y bound may in last-next (λ (p : NamedProblem). y < length p.names) bound.first bound.steps m.some m.to
+
+  keeps : (before : NamedProblem) (s : BoundStep) → y < length s.next.names → IsNamedProblem s.next → Keeps (chain_kind bound.kind) before s (merged_step x y s)
+  keeps before s l is = let m = may-merge x y bound may in merge-keeps (chain_kind bound.kind) x y before s (kind-same bound.kind ∙ m.lower) l m.apart is
+
+  pub merged-bound : is_bound bound ≡ true → AllByRecursion IsNamedProblem (next_problems bound.steps) → is_bound (merged x y bound) ≡ true
+  merged-bound = with_last-bound bound (merged_step x y) (λ (s : BoundStep). y < length s.next.names) last keeps
+
+  pub merged-sound : IsSoundChain bound → IsSoundChain (merged x y bound)
+  merged-sound = with_last-sound bound (merged_step x y) (λ (s : BoundStep). y < length s.next.names) last keeps
+
+pub merge_law : MergeLaw
+merge_law bound x y is may = merged-sound bound x y may is
+
+-- ---- labels that go
+-- what is known where dropping isn't refused
+pub record MayDrop (x : ℕ) (bound : Bound) : Type 0 where
+  pub upper : is_lower bound.kind ≡ false
+  pub some : is_nil bound.steps ≡ false
+  pub label : x < length (last_problem bound).names
+
+pub may-drop : (x : ℕ) (bound : Bound) → drop_refusal x bound ≡ None → MayDrop x bound
+may-drop x bound none = go (is_lower bound.kind) (is_nil bound.steps) (is_label (last_problem bound) x) refl refl refl none
+  where
+    go : (l n a : Bool) → is_lower bound.kind ≡ l → is_nil bound.steps ≡ n → is_label (last_problem bound) x ≡ a
+        → (if l then Some NotUpper else if n then Some NoStep else if not a then Some (NotALabel x) else None) ≡ None → MayDrop x bound
+    go true n a hl hn ha h = cc
+    go false true a hl hn ha h = cc
+    go false false false hl hn ha h = cc
+    go false false true hl hn ha h = record { upper = hl; some = hn; label = below-true x (length (last_problem bound).names) ha }
+
+module _ (bound : Bound) (x : ℕ) (may : drop_refusal x bound ≡ None) where
+  drop-last : LastIs (λ (s : BoundStep). x < length s.next.names) bound.steps
+  drop-last = let m = may-drop x bound may in last-next (λ (p : NamedProblem). x < length p.names) bound.first bound.steps m.some m.label
+
+  dropping-keeps : (before : NamedProblem) (s : BoundStep) → x < length s.next.names → IsNamedProblem s.next → Keeps (chain_kind bound.kind) before s (dropped_step x s)
+  dropping-keeps before s l is = let m = may-drop x bound may in drop-keeps (chain_kind bound.kind) x before s (kind-same bound.kind ∙ m.upper) l is
+
+  pub dropped-bound : is_bound bound ≡ true → AllByRecursion IsNamedProblem (next_problems bound.steps) → is_bound (dropped x bound) ≡ true
+  dropped-bound = with_last-bound bound (dropped_step x) (λ (s : BoundStep). x < length s.next.names) drop-last dropping-keeps
+
+  pub dropped-sound : IsSoundChain bound → IsSoundChain (dropped x bound)
+  dropped-sound = with_last-sound bound (dropped_step x) (λ (s : BoundStep). x < length s.next.names) drop-last dropping-keeps
+
+pub drop_law : DropLaw
+drop_law bound x is may = dropped-sound bound x may is
+
+-- ---- names
+-- what is known where a name isn't refused
+pub record MayName (x : ℕ) (name : List ℕ) (bound : Bound) : Type 0 where
+  pub label : x < length (last_problem bound).names
+  pub free : is_taken x name (last_problem bound) ≡ false
+
+pub may-name : (x : ℕ) (name : List ℕ) (bound : Bound) → name_refusal x name bound ≡ None → MayName x name bound
+may-name x name bound none = go (is_label (last_problem bound) x) (is_taken x name (last_problem bound)) refl refl none
+  where
+    go : (a t : Bool) → is_label (last_problem bound) x ≡ a → is_taken x name (last_problem bound) ≡ t → (if not a then Some (NotALabel x) else if t then Some Taken else None) ≡ None → MayName x name bound
+    go false t ha ht h = cc
+    go true true ha ht h = cc
+    go true false ha ht h = record { label = below-true x (length (last_problem bound).names) ha; free = ht }
+
+-- the label is one of the problem, and the name isn't another one's
+pub record IsFree (x : ℕ) (name : List ℕ) (problem : NamedProblem) : Type 0 where
+  pub label : x < length problem.names
+  pub free : is_taken x name problem ≡ false
+
+module _ (kind : Kind) (back : ℕ) (first : NamedProblem) (renaming : List (ℕ × ℕ)) (x : ℕ) (name : List ℕ) (is_name : IsName name) where
+  whole : List BoundStep → Bound
+  whole steps = record { kind = kind; back = back; first = first; steps = steps; renaming = renaming }
+
+  naming-keeps : (before : NamedProblem) (s : BoundStep) → IsFree x name s.next → IsNamedProblem s.next → Keeps (chain_kind kind) before s (named_step x name s)
+  naming-keeps before s fine is = name-keeps (chain_kind kind) x name before s is_name fine.label fine.free is
+
+  name-last : (steps : List BoundStep) → is_nil steps ≡ false → MayName x name (record { kind = kind; back = back; first = first; steps = steps; renaming = renaming }) → LastIs (λ (s : BoundStep). IsFree x name s.next) steps
+  name-last steps some m = last-next (IsFree x name) first steps some (record { label = m.label; free = m.free })
+
+  named-first : is_bound (chain_with kind (named_problem x name first) []) ≡ true
+  named-first = chain_with-bound kind (named_problem x name first) [] refl refl refl
+
+  named-bound_of : (steps : List BoundStep) → MayName x name (record { kind = kind; back = back; first = first; steps = steps; renaming = renaming }) → is_bound (record { kind = kind; back = back; first = first; steps = steps; renaming = renaming }) ≡ true
+      → AllByRecursion IsNamedProblem (next_problems steps) → is_bound (named x name (record { kind = kind; back = back; first = first; steps = steps; renaming = renaming })) ≡ true
+  named-bound_of [] m is over = named-first
+  named-bound_of (s ∷ steps) m is over =
+      with_last-bound (record { kind = kind; back = back; first = first; steps = s ∷ steps; renaming = renaming }) (named_step x name) (λ (s : BoundStep). IsFree x name s.next) (name-last (s ∷ steps) refl m) naming-keeps is over
+
+  named-sound_of : (steps : List BoundStep) → MayName x name (record { kind = kind; back = back; first = first; steps = steps; renaming = renaming }) → IsSoundChain (record { kind = kind; back = back; first = first; steps = steps; renaming = renaming })
+      → IsSoundChain (named x name (record { kind = kind; back = back; first = first; steps = steps; renaming = renaming }))
+  named-sound_of [] m is = record { fits = named-first; over = record { first = named-named x name first is.over.first m.label is_name; next = tt }; sound = refl }
+  named-sound_of (s ∷ steps) m is =
+      with_last-sound (record { kind = kind; back = back; first = first; steps = s ∷ steps; renaming = renaming }) (named_step x name) (λ (s : BoundStep). IsFree x name s.next) (name-last (s ∷ steps) refl m) naming-keeps is
+
+pub named-bound : (bound : Bound) (x : ℕ) (name : List ℕ) → IsName name → name_refusal x name bound ≡ None → is_bound bound ≡ true → AllByRecursion IsNamedProblem (next_problems bound.steps) → is_bound (named x name bound) ≡ true
+named-bound bound x name is_name may is over = named-bound_of bound.kind bound.back bound.first bound.renaming x name is_name bound.steps (may-name x name bound may) is over
+
+pub name_law : NameLaw
+name_law bound x name is is_name may = named-sound_of bound.kind bound.back bound.first bound.renaming x name is_name bound.steps (may-name x name bound may) is

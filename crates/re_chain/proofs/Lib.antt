@@ -1,0 +1,9 @@
+pub mod DroppedSteps
+pub mod LastSteps
+pub mod Laws
+pub mod LeftEntries
+pub mod MergedSteps
+pub mod NamedProblems
+pub mod NamedSteps
+pub mod RelaxedSteps
+pub mod StepsAlong

@@ -1,0 +1,5 @@
+pub mod Chains
+pub mod Merging
+pub mod Dropping
+pub mod Naming
+pub mod Laws

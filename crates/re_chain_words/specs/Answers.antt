@@ -1,0 +1,67 @@
+-- What the words give.
+use Rattle.std.specs.Prelude.{ℕ, suc, Bool, true, false, List, [], codes, length, Option, None, Some}
+use Rattle.re_problem.specs.CanonicalTexts.{canonical}
+use Rattle.re_problem.specs.ProblemTexts.{first_fault, lines_of, problem_of}
+use Rattle.re_cert.specs.Bounds.{Bound, last_problem}
+use Rattle.re_cert.specs.CertificateTexts.{certificate_fault, certificate_of, text_lines}
+use Rattle.re_cert.specs.declared.certificate.Kind.{Kind}
+use Rattle.re_frame.specs.Outcomes.{Outcome, done, limit}
+use Rattle.re_frame.specs.StepLimits.{limit_line}
+use Rattle.re_chain_parts.specs.Chains.{chain_with}
+use Rattle.re_chain_steps.specs.Stepped.{stepped, stepping_fault}
+use Rattle.re_chain_steps.specs.declared.stepping.ChainStepFault.{ChainStepFault}
+use Rattle.re_chain_steps.specs.declared.stepping.ChainStepFault.TheVariants.{Limit}
+use Rattle.re_chain_texts.specs.OverChains.{IsSoundText, certificate_outcome, or_fault, over_any, over_sound}
+use Rattle.re_tidy.specs.Tidied.{tidied}
+use Rattle.re_chain_words.specs.Shapings.{drop_outcome, merge_outcome, name_outcome}
+use Rattle.re_chain_words.specs.declared.words.ChainWord.{ChainWord}
+use Rattle.re_chain_words.specs.declared.words.ChainWord.TheVariants.{Begin, Last, Shape, Tidy}
+use Rattle.re_chain_words.specs.declared.words.Shaping.{Shaping}
+use Rattle.re_chain_words.specs.declared.words.Shaping.TheVariants.{Drop, Merge, Name, Step}
+
+-- `begin`: the certificate of this kind without steps, of the problem of the text
+unfoldable pub begin_outcome : Kind → List ℕ → Outcome
+begin_outcome kind bytes = or_fault (first_fault 0 1 (lines_of bytes)) (certificate_outcome (chain_with kind (problem_of (lines_of bytes)) []))
+
+-- `last`: the last problem
+unfoldable pub last_outcome : Bound → Outcome
+last_outcome chain = done (canonical (last_problem chain))
+
+-- `tidy`: the certificate of the text in order
+unfoldable pub tidy_outcome : List ℕ → Outcome
+tidy_outcome bytes = or_fault (certificate_fault (text_lines bytes)) (certificate_outcome (tidied (certificate_of (text_lines bytes))))
+
+-- the line of what keeps a chain from a step of this number, and where nothing does the text of the chain
+abbrev pub or_stop : ℕ → Option ChainStepFault → Bound → Outcome
+or_stop number None chain = certificate_outcome chain
+or_stop number (Some (Limit passed)) chain = limit (limit_line number passed)
+or_stop number (Some fault) chain = limit (codes "limit: more than 64 steps\n")
+
+-- `step`: the chain with one more step, to the derived problem
+unfoldable pub step_outcome : Bound → Outcome
+step_outcome chain = or_stop (suc (length chain.steps)) (stepping_fault chain) (stepped chain)
+
+-- what is given to a sound chain
+abbrev pub shaped_outcome : Shaping → Bound → Outcome
+shaped_outcome Step chain = step_outcome chain
+shaped_outcome (Merge x y) chain = merge_outcome x y chain
+shaped_outcome (Name x y) chain = name_outcome x y chain
+shaped_outcome (Drop x) chain = drop_outcome x chain
+
+-- what a word gives to a text
+abbrev pub word_outcome : ChainWord → List ℕ → Outcome
+word_outcome (Begin kind) bytes = begin_outcome kind bytes
+word_outcome Last bytes = over_any last_outcome bytes
+word_outcome Tidy bytes = tidy_outcome bytes
+word_outcome (Shape shaping) bytes = over_sound (shaped_outcome shaping) bytes
+
+-- whether its answer can be No
+abbrev pub is_judging : ChainWord → Bool
+is_judging (Shape shaping) = true
+is_judging word = false
+
+-- what a text is worth that a word gives: that of a chain that begins or is shaped is that of a sound chain
+abbrev pub WordWorth : ChainWord → List ℕ → Type 0
+WordWorth (Begin kind) text = IsSoundText text
+WordWorth (Shape shaping) text = IsSoundText text
+WordWorth word text = Unit {0}

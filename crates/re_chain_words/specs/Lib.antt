@@ -1,0 +1,4 @@
+pub mod Answers
+pub mod ChainWords
+pub mod LabelWords
+pub mod Shapings

@@ -1,0 +1,130 @@
+//! What the words answer.
+ghost use Rattle.re_chain_parts.specs.Chains.{IsSoundChain, chain_with};
+ghost use Rattle.re_chain_texts.specs.OverChains.{IsSoundText, certificate_outcome, over_any, over_sound};
+ghost use Rattle.re_chain_words.specs.Answers.{WordWorth, begin_outcome, is_judging, last_outcome, shaped_outcome, tidy_outcome, word_outcome};
+ghost use Rattle.re_frame.specs.Outcomes.{outcome_of};
+ghost use Rattle.re_io.specs.declared.read.TheConstants.{MAX_BYTES};
+ghost use Rattle.std.specs.Prelude.{◌≡◌, ◌≤◌, [], IfOk, length};
+
+use crate::shaping::shaped_output;
+use crate::words::{ChainWord, Shaping};
+use re_cert::{Certificate, Kind, read_certificate};
+use re_chain_parts::{chain_kind, over_problems};
+use re_chain_texts::{ChainRead, certificate_output, read_any, read_sound};
+use re_frame::{Answer, Answering, Output, done, fault_output};
+use re_labels::NoMemory;
+use re_problem::{Problem, TextFault, print_problem, read_problem};
+use re_tidy::tidy;
+use std::alloc::Global;
+
+// The chain of this kind without steps.
+fn built(alloc: Global, kind: Kind, problem: Problem) -> Certificate
+    ensures { result ≡ chain_with kind problem [] }
+{
+    match Certificate::build(
+        chain_kind(kind),
+        0,
+        problem,
+        Vec::new(alloc),
+        Vec::new(alloc),
+    ) {
+        Some(chain) => chain,
+        None => unreachable!(),
+    }
+}
+
+// The output of the chain of this kind without steps.
+fn begun_output(alloc: Global, kind: Kind, problem: Problem) -> Result<Output, NoMemory>
+    ensures output { IfOk result (λ output. outcome_of output ≡ certificate_outcome (chain_with kind problem [])) }
+    ensures worth { IfOk result (λ output. IsSoundText output.text.items) }
+{
+    let chain = built(alloc, kind, problem);
+    over_problems(&chain);
+    certificate_output(alloc, &chain)
+}
+
+#[tactic(auto, unfolding(crate::specs::Answers::begin_outcome))]
+fn begin_output(alloc: Global, kind: Kind, text: &[u8]) -> Result<Output, NoMemory>
+    requires { length text.now ≤ MAX_BYTES }
+    ensures output { IfOk result (λ output. outcome_of output ≡ begin_outcome kind text.now) }
+    ensures worth { IfOk result (λ output. output.answer ≡ Answer.Done → IsSoundText output.text.items) }
+{
+    match read_problem(alloc, text) {
+        Ok(problem) => begun_output(alloc, kind, problem),
+        Err(TextFault::Bad(fault)) => Ok(fault_output(alloc, fault)?),
+        Err(TextFault::NoMemory) => Err(NoMemory),
+    }
+}
+
+// The output of the last problem.
+#[tactic(auto, unfolding(crate::specs::Answers::last_outcome))]
+fn last_problem(alloc: Global, chain: &Certificate) -> Result<Output, NoMemory>
+    ensures { IfOk result (λ output. outcome_of output ≡ last_outcome chain.now) }
+{
+    Ok(done(print_problem(alloc, chain.last())?))
+}
+
+fn last_output(alloc: Global, text: &[u8]) -> Result<Output, NoMemory>
+    requires { length text.now ≤ MAX_BYTES }
+    ensures { IfOk result (λ output. outcome_of output ≡ over_any last_outcome text.now) }
+{
+    match read_any(alloc, text)? {
+        ChainRead::Chain(chain) => last_problem(alloc, &chain),
+        ChainRead::Answered(output) => Ok(output),
+    }
+}
+
+#[tactic(auto, unfolding(crate::specs::Answers::tidy_outcome))]
+fn tidy_output(alloc: Global, text: &[u8]) -> Result<Output, NoMemory>
+    requires { length text.now ≤ MAX_BYTES }
+    ensures { IfOk result (λ output. outcome_of output ≡ tidy_outcome text.now) }
+{
+    match read_certificate(alloc, text) {
+        Ok(certificate) => {
+            let tidied = tidy(alloc, &certificate)?;
+            certificate_output(alloc, &tidied)
+        }
+        Err(TextFault::Bad(fault)) => Ok(fault_output(alloc, fault)?),
+        Err(TextFault::NoMemory) => Err(NoMemory),
+    }
+}
+
+fn shape_output(alloc: Global, shaping: &Shaping, text: &[u8]) -> Result<Output, NoMemory>
+    requires { length text.now ≤ MAX_BYTES }
+    ensures output { IfOk result (λ output. outcome_of output ≡ over_sound (shaped_outcome shaping.now) text.now) }
+    ensures worth { IfOk result (λ output. output.answer ≡ Answer.Done → IsSoundText output.text.items) }
+{
+    match read_sound(alloc, text)? {
+        ChainRead::Chain(chain) => shaped_output(alloc, shaping, &chain),
+        ChainRead::Answered(output) => Ok(output),
+    }
+}
+
+fn output_for(alloc: Global, word: &ChainWord, text: &[u8]) -> Result<Output, NoMemory>
+    requires { length text.now ≤ MAX_BYTES }
+    ensures output { IfOk result (λ output. outcome_of output ≡ word_outcome word.now text.now) }
+    ensures worth { IfOk result (λ output. output.answer ≡ Answer.Done → WordWorth word.now output.text.items) }
+{
+    match word {
+        ChainWord::Begin(kind) => begin_output(alloc, *kind, text),
+        ChainWord::Last => last_output(alloc, text),
+        ChainWord::Tidy => tidy_output(alloc, text),
+        ChainWord::Shape(shaping) => shape_output(alloc, shaping, text),
+    }
+}
+
+impl Answering for ChainWord {
+    ghost use Rattle.re_chain_words.specs.Answers.{WordWorth, is_judging, word_outcome};
+
+    ghost fits = { λ _. Unit {0} };
+
+    ghost outcome = { λ word bytes. word_outcome word bytes };
+
+    ghost worth = { λ word text. WordWorth word text };
+
+    ghost judging = { λ word. is_judging word };
+
+    fn answer(&self, alloc: Global, text: Vec<u8>) -> Result<Output, NoMemory> {
+        output_for(alloc, self, text.as_slice())
+    }
+}

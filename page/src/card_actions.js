@@ -37,15 +37,20 @@ function searchActions(bench, card, view) {
         act('fixed point', search('fixed'), 'at most K steps that come back, at most M merges in each'),
         act('auto…', () => searches.auto(card, view), 'a lower bound by a heuristic: steps, with merges where there are many labels'),
         act('rounds', () => searches.rounds(card, view, Number(k.value)), 'the exact number of rounds, up to K'),
-        ...exploreActions(bench, card, view, k));
+        ...exploreActions(bench, card, view, k, m));
 }
 
+// So many problems `cycle` looks at.
+const MOST_IN_CYCLE = 20000;
+
 // Those words of `explore` that read the chain down to the card, where the program has them.
-function exploreActions({explorations, numbers, words}, card, view, k) {
+function exploreActions({explorations, numbers, words}, card, view, k, m) {
     const l = numberInput(numbers, 'l', 128, 'L, the most labels of a problem');
+    const extend = (word, ...inputs) => () => explorations.extend(card, view, [word, ...inputs.map(input => String(Number(input.value)))]);
     const offered = {
-        longest: () => [element('label', {}, 'L', l), act('longest', () => explorations.extend(card, view, ['longest', k.value, l.value]), 'a lower bound of up to K more steps, to problems of at most L labels')],
-        closure: () => [act('closure', () => explorations.extend(card, view, ['closure']), 'a fixed point by right-closed sets')],
+        longest: () => [element('label', {}, 'L', l), act('longest', extend('longest', k, l), 'a lower bound of up to K more steps, to problems of at most L labels')],
+        cycle: () => [act('cycle', extend('cycle', k, m, {value: MOST_IN_CYCLE}), 'the fewest further steps that come back, up to K, at most M merges in each')],
+        closure: () => [act('closure', extend('closure'), 'a fixed point by right-closed sets')],
         describe: () => [act('describe', () => explorations.describe(card, view), 'the chain down to this card as a report to read')],
     };
     return Object.entries(offered).filter(([word]) => words.has(word)).flatMap(([, make]) => make());

@@ -6,7 +6,7 @@ import {writtenChain} from './judge.js';
 export class Explorations {
     constructor(workbench) { this.workbench = workbench; }
 
-    // `longest K L`, `closure`: a certificate that begins with the chain. The cards of its further steps are added.
+    // `longest K L`, `cycle K M N`, `closure`: a certificate that begins with the chain. The cards of its further steps are added.
     async extend(card, view, words) {
         const {workbench} = this, {searches} = workbench, path = workbench.cards.path(card.id), what = words.join(' '), here = workbench.cards.current;
         if (!kindsOf(path).includes('lower')) { view.complain(`${what}: the chain down to this card is no lower bound.`); return; }
@@ -15,7 +15,15 @@ export class Explorations {
         if (!answer.text.startsWith('==')) { searches.noteNothing(view, what, answer.text.trim(), performance.now() - started); return; }
         const cards = await searches.cardsOf(answer.text, {title: what, skipped: stagesOf(path).length - 1});
         if (cards.length) await workbench.found(card, here, what, ...cards);
-        else await searches.noteNoStep(view, what, answer.text);
+        else if (!await this.close(card, answer.text)) await searches.noteNoStep(view, what, answer.text);
+    }
+
+    // Closes the chain that is shown where it comes back as it stands, by this certificate; answers whether it does.
+    async close(card, certificate) {
+        const {cards, engine} = this.workbench, {kind, back, pairs} = await engine.work('readCertificate', certificate);
+        if (kind !== 'fixed' || cards.current !== card.id) return false;
+        cards.amend(card.id, {back: {number: back, pairs}});
+        return true;
     }
 
     // The problem before the step that leads to a card, as the chain down to it; null where no lower bound leads there.

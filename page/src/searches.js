@@ -30,7 +30,7 @@ export class Searches {
     noteNothing(view, what, text, time) {
         const cut = /cut [1-9]/.test(text) ? ' Cut: problems whose derived problem passes a limit.' : '';
         const more = text.startsWith('not found') ? `That nothing is found says nothing of the problem.${cut}` : '';
-        view.note(element('strong', {}, what), ` ${text} `, hint(`${more} ${seconds(time)}`));
+        view.note(element('strong', {}, what), ` ${text.split('\n', 1)[0]} `, hint(`${more} ${seconds(time)}`));
     }
 
     stepsAbove(card) { return stagesOf(this.workbench.cards.path(card.id)).length - 1; }

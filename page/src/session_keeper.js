@@ -14,8 +14,11 @@ function writtenOf(text) {
     return active.length + passive.length < MOST_WRITTEN ? {active: without(active), passive: without(passive)} : undefined;
 }
 
+const askFirst = event => event.preventDefault();
+
 export class Sessions {
-    constructor(workbench) { this.workbench = workbench; }
+    // `isSaved` says whether the address, or a file, holds what is shown.
+    constructor(workbench) { Object.assign(this, {workbench, isSaved: true}); }
 
     get engine() { return this.workbench.engine; }
 
@@ -71,22 +74,40 @@ export class Sessions {
     // The address holds the session, packed, so that a bookmark or a reload brings it back.
     async save() {
         const turn = this.turn = {}, {cards} = this.workbench.cards;
-        if (!cards.length) { if (location.hash && !this.isUnread) history.replaceState(null, '', location.pathname + location.search); return; }
-        const size = cards.reduce((sum, card) => sum + card.problem.length, 0);
-        const packed = size < MOST_TEXT ? await this.engine.work('packSession', this.workbench.cards.state).catch(() => null) : null;
-        if (turn !== this.turn) return;
-        if (!packed || packed.length > MOST_PACKED) {
-            if (!this.isTooLarge) say('The session is too large for the address; Save keeps it.');
-            this.isTooLarge = true;
+        if (!cards.length) {
+            this.noteSaved(true);
+            if (location.hash && !this.isUnread) history.replaceState(null, '', location.pathname + location.search);
             return;
         }
+        const size = cards.reduce((sum, card) => sum + card.problem.length, 0);
+        let packed = '', fault = 'it is too large';
+        if (size < MOST_TEXT) await this.engine.work('packSession', this.workbench.cards.state).then(text => { packed = text; }, error => { fault = error.message; });
+        if (turn !== this.turn) return;
+        this.noteSaved(packed.length > 0 && packed.length <= MOST_PACKED);
+        if (!this.isSaved) {
+            if (this.fault !== fault) say(`The address does not hold this session: ${fault}. Save keeps it.`);
+            this.fault = fault;
+            return;
+        }
+        this.fault = null;
         // An address that couldn't be read stays behind this one.
         if (this.isUnread) history.pushState(null, '', `#s=${packed}`);
         else history.replaceState(null, '', `#s=${packed}`);
         this.isUnread = false;
     }
 
-    async saveFile() { download('re-session.json', await this.engine.work('sessionText', this.workbench.cards.state), 'application/json'); }
+    async saveFile() {
+        const {turn} = this;
+        download('re-session.json', await this.engine.work('sessionText', this.workbench.cards.state), 'application/json');
+        if (turn === this.turn) this.noteSaved(true);
+    }
+
+    // Where neither the address nor a file holds what is shown, the browser asks before the page is left.
+    noteSaved(isSaved) {
+        this.isSaved = isSaved;
+        if (isSaved) window.removeEventListener('beforeunload', askFirst);
+        else window.addEventListener('beforeunload', askFirst);
+    }
 
     // Answers whether the address holds a session that was read.
     async load() {

@@ -87,7 +87,7 @@ export const moreSessions = {
     async 'words of explore that go on from a card'(user, page, tally) {
         await user.openProblem('O [IO]^2', 'I O');
         await user.step(2);
-        const offered = ['longest', 'closure', 'describe'], shown = await page.value(`[...document.querySelectorAll('.card.last .search button')].map(button => button.textContent)`);
+        const offered = ['longest', 'cycle', 'closure', 'describe'], shown = await page.value(`[...document.querySelectorAll('.card.last .search button')].map(button => button.textContent)`);
         tally.equal('those that it has are offered', shown.filter(word => offered.includes(word)), offered.filter(word => explored.has(word)));
         if (explored.has('describe')) {
             await user.verdict();
@@ -99,6 +99,12 @@ export const moreSessions = {
             await page.click('.card.last .search button', 'longest');
             await user.says('accepted: not solvable in 3 or fewer rounds');
             tally.equal('longest', await page.value('bench.cards.path().length'), 4);
+        }
+        if (explored.has('cycle')) {
+            await page.click('.card.last .search button', 'cycle');
+            await user.says('accepted: not solvable in any number of rounds');
+            await page.click('#undo');
+            await user.says(`accepted: not solvable in ${explored.has('longest') ? 3 : 1} or fewer rounds`);
         }
         if (explored.has('closure')) {
             await page.click('.card.last .search button', 'closure');

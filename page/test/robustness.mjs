@@ -52,6 +52,21 @@ export const robustness = {
         await user.says('accepted: not solvable in 1 or fewer rounds');
     },
 
+    async 'a session that the address can not hold'(user, page, tally) {
+        const asks = () => page.value(`!dispatchEvent(new Event('beforeunload', {cancelable: true}))`);
+        await user.openProblem(...MIS);
+        await page.until('bench.sessions.isSaved && location.hash');
+        tally.equal('leaving is free', await asks(), false);
+        await page.value(`(() => { const work = engine.work.bind(engine); engine.work = (name, ...args) => name === 'packSession' ? Promise.reject(new Error('the browser ended its worker')) : work(name, ...args); })()`);
+        await user.step(2);
+        await page.until(`document.querySelector('#message').textContent === 'The address does not hold this session: the browser ended its worker. Save keeps it.'`);
+        tally.equal('leaving is asked for', await asks(), true);
+        await page.value(`document.addEventListener('click', event => { if (event.target.closest('a[download]')) event.preventDefault(); }, true)`);
+        await page.click('#save');
+        await page.until('bench.sessions.isSaved');
+        tally.equal('a file holds it', await asks(), false);
+    },
+
     async 'old, damaged and foreign sessions'(user, page, tally) {
         await user.openProblem(...MIS);
         await user.step(2);

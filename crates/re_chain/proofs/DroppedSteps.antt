@@ -1,29 +1,26 @@
 -- A label of the last problem of an upper chain goes: the step to what is left.
-use Rattle.std.proofs.Common.{◌≡◌, ℕ, ◌<◌, ◌≤◌, Bool, true, false, cond, not, eqb, List, [], ◌∷◌, length, map, get_or, Option, None, Some, refl, sym, ap, ◌∙◌, subst, arith, inl, inr}
-use Rattle.std.specs.Prelude.{Contains, ◌&&◌, if◌then◌else◌, option_and_then}
+use Rattle.std.proofs.Common.{◌≡◌, ℕ, ◌<◌, true, false, not, List, [], ◌∷◌, length, map, Option, None, Some, refl, sym, ap, ◌∙◌, subst, inl, inr}
+use Rattle.std.specs.Prelude.{◌&&◌, if◌then◌else◌, option_and_then}
 use Rattle.std.specs.List.{AllByRecursion, list_all}
 use Rattle.std.specs.Str.{bytes_eq}
 use Rattle.std.proofs.lemmas.Slice.Eq.{bytes_eq-Decides}
 use Rattle.re_config.specs.Rows.{set_at}
-use Rattle.re_labels.proofs.Membership.{AllByRecursion-In, Contains-In, In, In-Contains, In-map, In-map_from, all-In, all-In_from, length-count_from, length-map'}
-use Rattle.re_labels.proofs.Sets.{IsIn-has}
+use Rattle.re_labels.proofs.Membership.{In, In-map, In-map_from, all-In, all-In_from, length-count_from, length-map'}
 use Rattle.re_labels.proofs.Tests.{and-true, below-true, true-and, true-below}
 use Rattle.re_labels.specs.Lists.{count_from}
-use Rattle.re_labels.specs.Sets.{has}
 use Rattle.re_problem.proofs.StepLaws.{map-map}
-use Rattle.re_problem.specs.NamedProblems.{IsNamedProblem, NamedProblem, unnamed}
+use Rattle.re_problem.specs.NamedProblems.{IsNamedProblem, NamedProblem}
 use Rattle.re_problem.specs.Steps.LowerMap.{by_row, by_set}
 use Rattle.re_problem.specs.Steps.{LowerMap, SetEntry, entry_sets, set_for}
 use Rattle.re_table.specs.GoodRows.{is_allowed, is_good}
-use Rattle.re_changes.proofs.LeftLabels.{AreImages, IsLeft, IsLeft-left_out, IsLeft-unchanged, labels_left, left_as}
+use Rattle.re_changes.proofs.LeftLabels.{IsLeft, IsLeft-left_out, IsLeft-unchanged, labels_left, left_as}
 use Rattle.re_changes.proofs.OneChange.{IsLabelSet-staying, IsProblem-after, after-built, below-counted, counted-below}
-use Rattle.re_changes.specs.Changes.{after, becomes, changed_by, new_numbers, staying, unchanged}
+use Rattle.re_changes.specs.Changes.{after, becomes, changed_by, staying, unchanged}
 use Rattle.re_changes.specs.declared.change.Change.TheVariants.{LeaveOut}
-use Rattle.re_cert.specs.Bounds.{BoundStep, entries_in, entry_fits, is_by_row, is_label, is_lower, kind_fits, map_fits, step_fits}
+use Rattle.re_cert.specs.Bounds.{BoundStep, entries_in, entry_fits, is_label, is_lower, map_fits, step_fits}
 use Rattle.re_cert.specs.declared.certificate.Kind.{Kind}
 use Rattle.re_clauses.proofs.StepMeaning.{all_pass, none_fails}
-use Rattle.re_clauses.specs.Clauses.{are_allowed, are_exchanged, are_good, have_labels, is_filled, meets, step_clauses, step_fault}
-use Rattle.re_clauses.specs.declared.clause.Clause.{Clause}
+use Rattle.re_clauses.specs.Clauses.{is_filled, meets, step_clauses, step_fault}
 use Rattle.re_clauses.specs.declared.clause.Clause.TheVariants.{U1, U2, U3, U4}
 use Rattle.re_entries.proofs.NextLabels.{same-images}
 use Rattle.re_chain.proofs.LastSteps.{Keeps}
@@ -37,16 +34,13 @@ pub entries-fit : (before next : NamedProblem) (map : LowerMap) → map_fits bef
 entries-fit before next (by_set entries) fits = fits
 entries-fit before next (by_row images) fits = refl
 
-module _ (x : ℕ) (named : NamedProblem) (is : IsNamedProblem named) (l : x < length named.names) where
-  left : ℕ → Option ℕ
-  left = becomes (LeaveOut x) named
+-- what the labels have become
+pub images-made : (x : ℕ) (named : NamedProblem) → (changed_by (LeaveOut x) (unchanged named)).images ≡ map (becomes (LeaveOut x) named) (count_from 0 (length named.names))
+images-made x named = map-map (λ image. option_and_then (becomes (LeaveOut x) named) image) (λ (label : ℕ). Some label) (count_from 0 (length named.names))
 
+module _ (x : ℕ) (named : NamedProblem) (is : IsNamedProblem named) (l : x < length named.names) where
   pub is-left : IsLeft named (changed_by (LeaveOut x) (unchanged named))
   is-left = IsLeft-left_out named (unchanged named) x (IsLeft-unchanged named is.problem) l
-
-  -- what the labels have become
-  pub images-are : (changed_by (LeaveOut x) (unchanged named)).images ≡ map (becomes (LeaveOut x) named) (count_from 0 (length named.names))
-  images-are = map-map (λ image. option_and_then (becomes (LeaveOut x) named) image) (λ (label : ℕ). Some label) (count_from 0 (length named.names))
 
   pub dropped-named : IsNamedProblem (after (LeaveOut x) named)
   dropped-named = IsNamed-built (after (LeaveOut x) named) (IsNames-kept named.names (staying (LeaveOut x) named) is.names (IsLabelSet-staying (LeaveOut x) named))
@@ -56,7 +50,7 @@ module _ (x : ℕ) (named : NamedProblem) (is : IsNamedProblem named) (l : x < l
   left-below : (label number : ℕ) → label < length named.names → becomes (LeaveOut x) named label ≡ Some number → number < length (after (LeaveOut x) named).names
   left-below label number low e =
       let i : In (Some number) (changed_by (LeaveOut x) (unchanged named)).images =
-        subst (In (Some number)) (sym images-are) (subst (λ o. In o (map (becomes (LeaveOut x) named) (count_from 0 (length named.names)))) e (In-map (becomes (LeaveOut x) named) label (count_from 0 (length named.names)) (counted-below (length named.names) label low))) in
+      subst (In (Some number)) (sym (images-made x named)) (subst (λ o. In o (map (becomes (LeaveOut x) named) (count_from 0 (length named.names)))) e (In-map (becomes (LeaveOut x) named) label (count_from 0 (length named.names)) (counted-below (length named.names) label low))) in
       below-counted (length (after (LeaveOut x) named).names) number (subst (In number) is-left.order (left-in (changed_by (LeaveOut x) (unchanged named)).images number i))
     where
       left-in : (images : List (Option ℕ)) (number : ℕ) → In (Some number) images → In number (labels_left images)
@@ -72,7 +66,7 @@ module _ (x : ℕ) (named : NamedProblem) (is : IsNamedProblem named) (l : x < l
     images = (changed_by (LeaveOut x) (unchanged named)).images
 
     entries-are : entries_left (becomes (LeaveOut x) named) entries ≡ with_labels (entry_sets entries) (changed_by (LeaveOut x) (unchanged named)).images
-    entries-are = left-with (becomes (LeaveOut x) named) entries ∙ ap (with_labels (entry_sets entries)) (ap (map (becomes (LeaveOut x) named)) order ∙ sym images-are)
+    entries-are = left-with (becomes (LeaveOut x) named) entries ∙ ap (with_labels (entry_sets entries)) (ap (map (becomes (LeaveOut x) named)) order ∙ sym (images-made x named))
 
     count : length (changed_by (LeaveOut x) (unchanged named)).images ≡ length (entry_sets entries)
     count = is-left.count ∙ sym (length-count_from 0 (length named.names)) ∙ ap length (sym order) ∙ length-map' (λ (entry : SetEntry). entry.label) entries ∙ sym (length-map' (λ (entry : SetEntry). entry.set) entries)

@@ -1,19 +1,20 @@
 -- Chains with another last step: what fits and what is sound.
-use Rattle.std.proofs.Common.{◌≡◌, ℕ, suc, ◌≤◌, Bool, true, false, not, leb, List, [], ◌∷◌, length, Option, None, Some, refl, sym, ap, ◌∙◌, subst}
+use Rattle.std.proofs.Common.{◌≡◌, ℕ, suc, Bool, true, false, not, leb, List, [], ◌∷◌, length, Option, None, Some, refl, sym, ap, ◌∙◌, subst}
 use Rattle.std.specs.Prelude.{◌&&◌, ◌||◌, option_map}
 use Rattle.std.specs.List.{AllByRecursion, list_all}
 use Rattle.re_items.specs.Steps.{is_nil}
 use Rattle.re_labels.proofs.Tests.{and-true, true-and}
 use Rattle.re_problem.specs.NamedProblems.{IsNamedProblem, NamedProblem}
 use Rattle.re_problem.specs.ProblemTexts.{last_or}
-use Rattle.re_cert.specs.Bounds.{Bound, BoundStep, is_bound, is_by_row, last_problem, next_problems, one_form, renaming_fits, step_fits, steps_fit}
+use Rattle.re_cert.specs.Bounds.{Bound, BoundStep, is_bound, is_by_row, next_problems, one_form, renaming_fits, step_fits, steps_fit}
 use Rattle.re_cert.specs.declared.certificate.Kind.{Kind}
 use Rattle.re_cert.specs.declared.certificate.Kind.TheVariants.{Lower, Upper, Fixed}
 use Rattle.re_cert.specs.declared.certificate.TheConstants.{MAX_STEPS}
 use Rattle.re_clauses.specs.Clauses.{step_fault}
 use Rattle.re_check.specs.Verdicts.{fault_at, fault_or, steps_fault}
-use Rattle.re_chain.specs.Chains.{IsSound, chain_kind, chain_of, chain_with, last_changed, with_last}
-use Rattle.re_chain.specs.Laws.{ChainLaw, IsOverProblems, IsSoundChain}
+use Rattle.re_chain_parts.specs.Chains.{chain_kind, chain_with}
+use Rattle.re_chain.specs.Chains.{last_changed, with_last}
+use Rattle.re_chain_parts.specs.Chains.{IsSoundChain}
 
 -- ---- chains
 fixed-lower : (before : NamedProblem) (steps : List BoundStep) → steps_fit Fixed before steps ≡ steps_fit Lower before steps
@@ -48,14 +49,6 @@ bound-parts bound is =
     let two = and-true (leb (length bound.steps) MAX_STEPS && steps_fit bound.kind bound.first bound.steps) (one_form bound.steps) one.0 in
     let three = and-true (leb (length bound.steps) MAX_STEPS) (steps_fit bound.kind bound.first bound.steps) two.0 in
     record { few = three.0; fit = three.1; form = two.1 }
-
-pub chain_of-bound : (bound : Bound) → is_bound bound ≡ true → is_bound (chain_of bound) ≡ true
-chain_of-bound bound is =
-    let parts = bound-parts bound is in
-    chain_with-bound bound.kind bound.first bound.steps parts.few (sym (chain-fits bound.kind bound.first bound.steps) ∙ parts.fit) parts.form
-
-pub chain_law : ChainLaw
-chain_law bound is = record { fits = chain_of-bound bound is.fits; over = record { first = is.over.first; next = is.over.next }; sound = is.sound }
 
 -- ---- the last step
 -- this holds of the last step, if any
@@ -145,10 +138,10 @@ module _ (bound : Bound) (change : BoundStep → BoundStep) (P : BoundStep → T
 
   pub with_last-sound : IsSoundChain bound → IsSoundChain (with_last change bound)
   with_last-sound is =
-      let parts = bound-parts bound is.fits in
+      let parts = bound-parts bound is.bound in
       let fit : steps_fit (chain_kind bound.kind) bound.first bound.steps ≡ true = sym (chain-fits bound.kind bound.first bound.steps) ∙ parts.fit in
       record {
-        fits = with_last-bound is.fits is.over.next;
-        over = record { first = is.over.first; next = over-last (chain_kind bound.kind) change P keeps bound.steps last is.over.next bound.first };
-        sound = sound-last (chain_kind bound.kind) change P keeps 1 bound.first bound.steps last is.over.next fit is.sound;
+        bound = with_last-bound is.bound is.problems.next;
+        problems = record { first = is.problems.first; next = over-last (chain_kind bound.kind) change P keeps bound.steps last is.problems.next bound.first };
+        sound = sound-last (chain_kind bound.kind) change P keeps 1 bound.first bound.steps last is.problems.next fit is.sound;
       }

@@ -1,5 +1,5 @@
 -- Shaping the last problem of a sound chain leaves it sound.
-use Rattle.std.proofs.Common.{◌≡◌, ℕ, ◌<◌, Bool, true, false, cond, not, eqb, List, [], ◌∷◌, length, Option, None, Some, refl, sym, ap, ◌∙◌, subst}
+use Rattle.std.proofs.Common.{◌≡◌, ℕ, ◌<◌, Bool, true, false, not, eqb, List, [], ◌∷◌, length, None, Some, refl, sym, ap, ◌∙◌}
 use Rattle.std.specs.Prelude.{if◌then◌else◌}
 use Rattle.std.specs.List.{AllByRecursion}
 use Rattle.re_items.specs.Steps.{is_nil}
@@ -8,17 +8,18 @@ use Rattle.re_problem.specs.NamedProblems.{IsNamedProblem, NamedProblem}
 use Rattle.re_cert.specs.Bounds.{Bound, BoundStep, is_bound, is_label, is_lower, last_problem, next_problems}
 use Rattle.re_cert.specs.declared.certificate.Kind.{Kind}
 use Rattle.re_cert.specs.declared.certificate.Kind.TheVariants.{Lower, Upper, Fixed}
-use Rattle.re_chain.proofs.LastSteps.{BoundParts, Keeps, LastIs, bound-parts, chain_with-bound, last-next, with_last-bound, with_last-sound}
+use Rattle.re_chain.proofs.LastSteps.{Keeps, LastIs, chain_with-bound, last-next, with_last-bound, with_last-sound}
 use Rattle.re_chain.proofs.DroppedSteps.{drop-keeps}
 use Rattle.re_chain.proofs.MergedSteps.{merge-keeps}
 use Rattle.re_chain.proofs.NamedSteps.{name-keeps, named-named}
-use Rattle.re_chain.specs.Chains.{chain_kind, chain_with, with_last}
+use Rattle.re_chain_parts.specs.Chains.{chain_kind, chain_with}
+use Rattle.re_chain.specs.Chains.{with_last}
 use Rattle.re_labels.specs.Names.{IsName}
 use Rattle.re_chain.specs.Dropping.{drop_refusal, dropped, dropped_step}
-use Rattle.re_chain.specs.Laws.{DropLaw, IsOverProblems, IsSoundChain, MergeLaw, NameLaw}
+use Rattle.re_chain_parts.specs.Chains.{IsSoundChain}
+use Rattle.re_chain.specs.Laws.{DropLaw, MergeLaw, NameLaw}
 use Rattle.re_chain.specs.Naming.{is_taken, name_refusal, named, named_problem, named_step}
 use Rattle.re_chain.specs.Merging.{merge_refusal, merged, merged_step}
-use Rattle.re_chain.specs.declared.refusal.Refusal.{Refusal}
 use Rattle.re_chain.specs.declared.refusal.Refusal.TheVariants.{NotALabel, NotLower, NotUpper, NoStep, Same, Taken}
 
 pub kind-same : (kind : Kind) → is_lower (chain_kind kind) ≡ is_lower kind
@@ -143,7 +144,7 @@ module _ (kind : Kind) (back : ℕ) (first : NamedProblem) (renaming : List (ℕ
 
   named-sound_of : (steps : List BoundStep) → MayName x name (record { kind = kind; back = back; first = first; steps = steps; renaming = renaming }) → IsSoundChain (record { kind = kind; back = back; first = first; steps = steps; renaming = renaming })
       → IsSoundChain (named x name (record { kind = kind; back = back; first = first; steps = steps; renaming = renaming }))
-  named-sound_of [] m is = record { fits = named-first; over = record { first = named-named x name first is.over.first m.label is_name; next = tt }; sound = refl }
+  named-sound_of [] m is = record { bound = named-first; problems = record { first = named-named x name first is.problems.first m.label is_name; next = tt }; sound = refl }
   named-sound_of (s ∷ steps) m is =
       with_last-sound (record { kind = kind; back = back; first = first; steps = s ∷ steps; renaming = renaming }) (named_step x name) (λ (s : BoundStep). IsFree x name s.next) (name-last (s ∷ steps) refl m) naming-keeps is
 
@@ -152,3 +153,7 @@ named-bound bound x name is_name may is over = named-bound_of bound.kind bound.b
 
 pub name_law : NameLaw
 name_law bound x name is is_name may = named-sound_of bound.kind bound.back bound.first bound.renaming x name is_name bound.steps (may-name x name bound may) is
+
+-- with a step the last step has the name
+pub whole-named : (x : ℕ) (name : List ℕ) (bound : Bound) → is_nil bound.steps ≡ false → with_last (named_step x name) bound ≡ named x name bound
+whole-named x name bound some = ap (λ b. if b then chain_with bound.kind (named_problem x name bound.first) [] else with_last (named_step x name) bound) (sym some)

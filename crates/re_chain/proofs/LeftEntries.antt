@@ -1,7 +1,9 @@
 -- The entries of the labels that are left, where these are numbered in order.
-use Rattle.std.proofs.Common.{◌≡◌, ℕ, zero, suc, ◌+◌, ◌-◌, ◌<◌, ◌≤◌, List, [], ◌∷◌, length, map, get_or, Option, None, Some, refl, sym, ap, ◌∙◌, arith, inl, inr}
+use Rattle.std.proofs.Common.{◌≡◌, ℕ, zero, suc, ◌+◌, ◌-◌, ◌<◌, ◌≤◌, List, [], ◌∷◌, ◌++◌, length, map, take, get_or, Option, None, Some, refl, sym, ap, ◌∙◌, arith, inl, inr}
 use Rattle.std.specs.List.{cons_option}
-use Rattle.std.specs.Prelude.{filter_map, option_map}
+use Rattle.std.specs.Prelude.{option_map}
+use Rattle.std.proofs.lemmas.List.{append-nil, take_more}
+use Rattle.std.proofs.lemmas.List.Elements.{filter_map-append}
 use Rattle.re_config.specs.Rows.{set_at}
 use Rattle.re_labels.proofs.Membership.{In}
 use Rattle.re_labels.specs.Lists.{count_from}
@@ -74,3 +76,24 @@ left-from left (entry ∷ entries) sent i = go (left entry.label) refl (left-fro
     go None e rest i = later (rest i)
     go (Some label) e rest (inl f) = (entry, inl refl, ap (λ (s : SetEntry). s.set) f, e ∙ ap (λ (s : SetEntry). Some s.label) (sym f))
     go (Some label) e rest (inr i) = later (rest i)
+
+-- ---- lists that are made by pushing
+more : (left : ℕ → Option ℕ) (entries : List SetEntry) (i : ℕ) (entry : SetEntry) → i < length entries → entry ≡ get_or entries i entry
+    → entries_left left (take (i + 1) entries) ≡ entries_left left (take i entries) ++ cons_option (option_map (λ (label : ℕ). record { set = entry.set; label = label }) (left entry.label)) []
+more left entries i entry l at =
+    ap (entries_left left) (take_more entries i entry l) ∙ filter_map-append (entry_left left) (take i entries) (get_or entries i entry ∷ [])
+    ∙ ap (λ (e : SetEntry). entries_left left (take i entries) ++ cons_option (option_map (λ (label : ℕ). record { set = e.set; label = label }) (left e.label)) []) (sym at)
+
+pub left-pushed : (left : ℕ → Option ℕ) (entries : List SetEntry) (i : ℕ) (entry : SetEntry) (label : ℕ) {before after : List SetEntry} → i < length entries → entry ≡ get_or entries i entry → left entry.label ≡ Some label
+    → after ≡ before ++ record { set = entry.set; label = label } ∷ [] → before ≡ entries_left left (take i entries) → after ≡ entries_left left (take (i + 1) entries)
+left-pushed left entries i entry label l at e push so_far =
+    push ∙ ap (λ (k : List SetEntry). k ++ record { set = entry.set; label = label } ∷ []) so_far
+    ∙ ap (λ (o : Option ℕ). entries_left left (take i entries) ++ cons_option (option_map (λ (label : ℕ). record { set = entry.set; label = label }) o) []) (sym e)
+    ∙ sym (more left entries i entry l at)
+
+pub left-passed : (left : ℕ → Option ℕ) (entries : List SetEntry) (i : ℕ) (entry : SetEntry) {before after : List SetEntry} → i < length entries → entry ≡ get_or entries i entry → left entry.label ≡ None
+    → after ≡ before → before ≡ entries_left left (take i entries) → after ≡ entries_left left (take (i + 1) entries)
+left-passed left entries i entry l at e same so_far =
+    same ∙ so_far ∙ sym (append-nil (entries_left left (take i entries)))
+    ∙ ap (λ (o : Option ℕ). entries_left left (take i entries) ++ cons_option (option_map (λ (label : ℕ). record { set = entry.set; label = label }) o) []) (sym e)
+    ∙ sym (more left entries i entry l at)

@@ -1,3 +1,5 @@
+pub mod ChangedLast
+pub mod DroppedParts
 pub mod DroppedSteps
 pub mod LastSteps
 pub mod Laws
@@ -5,5 +7,6 @@ pub mod LeftEntries
 pub mod MergedSteps
 pub mod NamedProblems
 pub mod NamedSteps
+pub mod NewNames
 pub mod RelaxedSteps
 pub mod StepsAlong

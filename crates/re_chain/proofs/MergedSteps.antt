@@ -1,40 +1,31 @@
 -- One label of the last problem becomes another: the problem, and the step to it.
-use Rattle.std.proofs.Common.{◌≡◌, ℕ, ◌<◌, ◌≤◌, Bool, true, false, cond, not, eqb, ltb, leb, List, [], length, map, get_or, None, Some, refl, sym, ap, ◌∙◌, subst, arith, inl, inr}
-use Rattle.std.specs.Prelude.{Contains, ◌&&◌, filter}
-use Rattle.std.specs.List.{AllByRecursion, list_all}
-use Rattle.std.proofs.lemmas.Bool.Decides.{nat_tests}
+use Rattle.std.proofs.Common.{◌≡◌, ℕ, ◌<◌, ◌≤◌, Bool, true, false, cond, not, eqb, List, [], length, map, get_or, Some, refl, sym, ap, ◌∙◌, subst, arith}
+use Rattle.std.specs.Prelude.{filter}
+use Rattle.std.specs.List.{AllByRecursion}
 use Rattle.re_config.specs.Configs.{image_at}
-use Rattle.re_labels.proofs.Membership.{AllByRecursion-In, AllByRecursion-from_In, In, In-filter, In-filter_from, In-map_from, all-In, all-In_from, length-map'}
-use Rattle.re_labels.proofs.Tests.{and-true, below-true, eqb-apart, eqb-same, eqb-true, true-and, true-below}
+use Rattle.re_labels.proofs.Membership.{AllByRecursion-from_In, In, In-filter, In-filter_from, In-map_from, length-map'}
+use Rattle.re_labels.proofs.Tests.{eqb-apart}
 use Rattle.re_labels.specs.Lists.{count_from}
-use Rattle.re_labels.specs.Names.{IsName, IsNames}
 use Rattle.re_labels.specs.Sets.{IsLabelSet}
 use Rattle.re_labels.specs.declared.TheConstants.{MAX_LABELS}
 use Rattle.re_config.proofs.LeastLabels.{length-set}
-use Rattle.re_problem.specs.NamedProblems.{IsNamedProblem, NamedProblem, all_occur, are_named, built, occurs, unnamed}
-use Rattle.re_problem.specs.Problems.{IsProblem}
-use Rattle.re_problem.specs.Steps.LowerMap.{by_row, by_set}
-use Rattle.re_problem.specs.Steps.{IsRelaxed, LowerMap, SetEntry}
-use Rattle.re_problem.proofs.Building.{occurs-fact}
+use Rattle.re_problem.specs.NamedProblems.{IsNamedProblem, NamedProblem, built, unnamed}
 use Rattle.re_changes.proofs.Merges.{merge-relaxed}
-use Rattle.re_changes.proofs.Numbering.{at_number, renumbered-built, rising-names}
+use Rattle.re_changes.proofs.Numbering.{at_number, renumbered-built}
 use Rattle.re_changes.proofs.OneChange.{IsLabelSet-staying, below-counted, counted-below, new_number}
-use Rattle.re_changes.proofs.RenumberedProblems.{IsProblem-renumbered}
-use Rattle.re_changes.specs.Changes.{goes_to}
+use Rattle.re_changes.proofs.RenumberedProblems.{IsProblem-renumbered, built-along}
 use Rattle.re_changes.specs.declared.change.Change.TheVariants.{Merge}
 use Rattle.re_changes.specs.Renumbering.{number_among, renumbered}
 use Rattle.re_table.proofs.ConstraintImages.{config-below}
-use Rattle.re_table.specs.Constraints.{Constraint}
-use Rattle.re_cert.specs.Bounds.{Bound, BoundStep, entry_fits, image_fits, is_by_row, is_label, is_lower, kind_fits, map_fits, row_fits, step_fits}
+use Rattle.re_table.specs.Constraints.{Constraint, IsConstraint}
+use Rattle.re_changes.proofs.Counted.{length-map_counted}
+use Rattle.re_cert.specs.Bounds.{BoundStep, is_lower}
 use Rattle.re_cert.specs.declared.certificate.Kind.{Kind}
 use Rattle.re_clauses.proofs.StepMeaning.{lower_clauses}
-use Rattle.re_clauses.specs.Clauses.{step_fault}
-use Rattle.re_config.specs.declared.TheConstants.{MAX_ROWS}
 use Rattle.re_chain.proofs.LastSteps.{Keeps}
 use Rattle.re_chain.proofs.NamedProblems.{IsNamed-built, IsNames-kept}
 use Rattle.re_chain.proofs.RelaxedSteps.{relaxed-step}
 use Rattle.re_chain.proofs.StepsAlong.{along-fits, along-form, is-lower}
-use Rattle.re_chain.specs.Chains.{sent_along, step_along}
 use Rattle.re_chain.specs.Merging.{merge_numbers, merged_label, merged_problem, merged_step, others}
 
 module _ (x y : ℕ) (named : NamedProblem) (m : y < length named.names) (apart : x ≡ y → ⊥) where
@@ -93,3 +84,45 @@ merge-keeps kind x y before s lower m apart is = record {
   problem = merged-named x y s.next m apart is;
   form = λ fits. along-form (image_at (merge_numbers x y s.next)) s.map;
 }
+
+-- ---- the same in the code's own variables
+module _ (x y : ℕ) (named : NamedProblem) (m : y < length named.names) (apart : x ≡ y → ⊥) (is : IsNamedProblem named) (stay images : List ℕ) (names : List (List ℕ)) (active passive : Constraint)
+    (s : stay ≡ others x named) (t : images ≡ merge_numbers x y named) (n : names ≡ named.names) (a : active ≡ named.active) (p : passive ≡ named.passive) where
+  pub stay-set : IsLabelSet (length names) stay
+  stay-set = subst (λ (k : List (List ℕ)). IsLabelSet (length k) stay) (sym n) (subst (IsLabelSet (length named.names)) (sym s) (IsLabelSet-staying (Merge y x) named))
+
+  count : length images ≡ length named.names
+  count = ap length t ∙ length-map_counted (λ label. number_among (others x named) (merged_label x y label)) (length named.names)
+
+  known : (constraint : Constraint) → IsConstraint (length named.names) constraint → AllByRecursion (AllByRecursion (λ label. label < length images)) constraint.configs
+  known constraint fine = AllByRecursion-from_In (AllByRecursion (λ label. label < length images)) constraint.configs (λ config i.
+      AllByRecursion-from_In (λ label. label < length images) config (λ label j. let l = config-below (length named.names) constraint fine config label i j in let c = count in omega arith))
+
+  pub active-known : AllByRecursion (AllByRecursion (λ label. label < length images)) active.configs
+  active-known = subst (λ (k : Constraint). AllByRecursion (AllByRecursion (λ label. label < length images)) k.configs) (sym a) (known named.active is.problem.active)
+
+  pub passive-known : AllByRecursion (AllByRecursion (λ label. label < length images)) passive.configs
+  passive-known = subst (λ (k : Constraint). AllByRecursion (AllByRecursion (λ label. label < length images)) k.configs) (sym p) (known named.passive is.problem.passive)
+
+  pub stay-few : length (others x named) ≤ MAX_LABELS
+  stay-few = let most = length-set (length named.names) (others x named) (IsLabelSet-staying (Merge y x) named) in let few = is.names.few in omega arith
+
+  pub images-below : AllByRecursion (λ image. image < MAX_LABELS) images
+  images-below = subst (AllByRecursion (λ image. image < MAX_LABELS)) (sym t) (AllByRecursion-from_In (λ image. image < MAX_LABELS) (merge_numbers x y named) (λ image i.
+      let (label, j, e) = In-map_from (λ label. number_among (others x named) (merged_label x y label)) image (count_from 0 (length named.names)) i in
+      let l = (at_number (others x named) (merged_label x y label) (IsLabelSet-staying (Merge y x) named).0 (stays x y named m apart label (below-counted (length named.names) label j))).0 in
+      let few = stay-few in omega arith))
+
+  whole : record { names = names; active = active; passive = passive } ≡ named
+  whole = (λ i. record { names = n i; active = a i; passive = p i })
+
+  pub is-built : built (renumbered stay images (record { names = names; active = active; passive = passive })).names (renumbered stay images (record { names = names; active = active; passive = passive })).active (renumbered stay images (record { names = names; active = active; passive = passive })).passive
+      ≡ Some (renumbered stay images (record { names = names; active = active; passive = passive }))
+  is-built = built-along (others x named) stay (merge_numbers x y named) images named (record { names = names; active = active; passive = passive }) s t whole (merged-built x y named m apart is)
+
+  pub made : renumbered stay images (record { names = names; active = active; passive = passive }) ≡ merged_problem x y named
+  made = (λ i. renumbered (s i) (t i) (whole i))
+
+-- there is a number for each label
+pub count-numbers : (x y : ℕ) (named : NamedProblem) → length (merge_numbers x y named) ≡ length named.names
+count-numbers x y named = length-map_counted (λ label. number_among (others x named) (merged_label x y label)) (length named.names)

@@ -1,7 +1,6 @@
 -- What makes a problem with names.
-use Rattle.std.proofs.Common.{◌≡◌, ℕ, ◌<◌, ◌≤◌, Bool, true, false, cond, List, [], ◌∷◌, length, map, get_or, Option, None, Some, refl, sym, ap, ◌∙◌, subst, arith, zero, suc, inl, inr}
+use Rattle.std.proofs.Common.{◌≡◌, ℕ, ◌<◌, Bool, true, false, cond, List, [], ◌∷◌, length, map, get_or, None, Some, refl, sym, subst, arith, zero, suc, inl, inr}
 use Rattle.std.specs.Prelude.{◌&&◌, ◌||◌}
-use Rattle.std.specs.List.{AllByRecursion, list_all}
 use Rattle.re_config.proofs.LeastLabels.{length-set}
 use Rattle.re_labels.proofs.Membership.{AllByRecursion-In, AllByRecursion-from_In, In, In-map_from, all-In, length-map'}
 use Rattle.re_labels.proofs.Tests.{or-true}

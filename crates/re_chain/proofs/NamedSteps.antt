@@ -1,21 +1,21 @@
 -- A label of the last problem has another name: the problem, and the step to it.
-use Rattle.std.proofs.Common.{◌≡◌, ◌≢◌, ℕ, zero, suc, ◌+◌, ◌<◌, ◌≤◌, Bool, true, false, cond, not, eqb, List, [], ◌∷◌, ◌++◌, length, map, get_or, set, None, Some, refl, sym, ap, ◌∙◌, subst, arith, ◌⊎◌, inl, inr}
-use Rattle.std.proofs.lemmas.List.{get_or-map, get_or-set_other, get_or-set_same, get_or_default, length-set}
+use Rattle.std.proofs.Common.{◌≡◌, ℕ, zero, suc, ◌+◌, ◌<◌, Bool, true, false, cond, not, eqb, List, [], ◌∷◌, ◌++◌, length, map, get_or, set, None, Some, refl, sym, ap, ◌∙◌, subst, arith, ◌⊎◌, inl, inr}
+use Rattle.std.proofs.lemmas.List.{get_or-map, get_or-set_other, get_or-set_same, length-set}
 use Rattle.std.proofs.lemmas.Map.Steps.{le-length_from_below}
-use Rattle.std.specs.Prelude.{Contains, ◌&&◌, ◌||◌, filter, flat_map, if◌then◌else◌, slice_set}
+use Rattle.std.specs.Prelude.{Contains, ◌&&◌, ◌||◌, filter, flat_map, if◌then◌else◌}
 use Rattle.std.specs.List.{AllByRecursion, list_all, list_any}
 use Rattle.std.specs.Str.{bytes_eq}
 use Rattle.std.proofs.lemmas.Slice.Eq.{bytes_eq-Decides}
 use Rattle.re_config.proofs.Rearranging.{Rearranged-map}
 use Rattle.re_config.proofs.Sorting.{Rearranged-sorted}
-use Rattle.re_config.specs.Configs.{image_at, image_of, sorted}
+use Rattle.re_config.specs.Configs.{image_at, image_of}
 use Rattle.re_config.specs.Rearranging.{Rearranged}
 use Rattle.re_labels.proofs.Before.{IsBefore-apart, same_list-refl, same_list-same, three_ways}
 use Rattle.re_labels.proofs.ListSets.{In-list_set, list_set-In, rising-list_set}
 use Rattle.re_labels.proofs.Membership.{AllByRecursion-In, AllByRecursion-from_In, Contains-In, In, In-Contains, In-filter_from, In-flat_map_from, In-map, In-map_from, all-In, all-In_from, any-In, get_or-count_from, length-count_from, length-map', map-alike}
 use Rattle.re_labels.proofs.Places.{get-place_of, place_of-below}
 use Rattle.re_labels.proofs.Searching.{place_of-at}
-use Rattle.re_labels.proofs.Tests.{and-true, below-true, eqb-apart, eqb-same, eqb-true, or-left, or-right, true-and, true-below}
+use Rattle.re_labels.proofs.Tests.{and-true, eqb-same, eqb-true, or-left, or-right, true-and}
 use Rattle.re_labels.specs.Lists.{IsBefore, count_from, place_of, same_list}
 use Rattle.re_labels.specs.ListSets.{list_set}
 use Rattle.re_labels.specs.Names.{IsName, IsNames}
@@ -30,13 +30,13 @@ use Rattle.re_problem.specs.Steps.{IsRelaxed, LowerMap, SetEntry, entry_sets, se
 use Rattle.re_table.proofs.ConstraintImages.{IsConstraint-image, config-below, image-from, image-held}
 use Rattle.re_table.proofs.Goodness.{IsAllowed-Rearranged, IsAllowed-is_allowed, IsGood-Rearranged, IsGood-is_good, is_allowed-IsAllowed, is_good-IsGood}
 use Rattle.re_table.specs.Constraints.{Constraint, IsConstraint}
-use Rattle.re_table.specs.GoodRows.{IsAllowed, IsGood, is_allowed, is_good}
+use Rattle.re_table.specs.GoodRows.{is_allowed, is_good}
 use Rattle.re_changes.proofs.Numbering.{image-named, image-occurs}
 use Rattle.re_changes.proofs.OneChange.{below-counted, counted-below}
-use Rattle.re_cert.specs.Bounds.{BoundStep, entries_in, entry_fits, is_by_row, is_label, is_lower, kind_fits, map_fits, step_fits}
+use Rattle.re_cert.specs.Bounds.{BoundStep, entries_in, entry_fits, is_by_row, is_lower, map_fits, step_fits}
 use Rattle.re_cert.specs.declared.certificate.Kind.{Kind}
 use Rattle.re_clauses.proofs.StepMeaning.{all_pass, lower_clauses, none_fails}
-use Rattle.re_clauses.specs.Clauses.{are_allowed, are_good, have_labels, is_filled, meets, step_clauses, step_fault}
+use Rattle.re_clauses.specs.Clauses.{is_filled, meets, step_clauses, step_fault}
 use Rattle.re_clauses.specs.declared.clause.Clause.TheVariants.{U1, U2, U3, U4}
 use Rattle.re_chain.proofs.DroppedSteps.{entries-fit}
 use Rattle.re_chain.proofs.LastSteps.{Keeps}
@@ -44,7 +44,7 @@ use Rattle.re_chain.proofs.NamedProblems.{In-get, IsNamed-built}
 use Rattle.re_chain.proofs.RelaxedSteps.{relaxed-step}
 use Rattle.re_chain.proofs.StepsAlong.{along-form, is-lower, is-upper, map-fits, parts-fit, step-parts}
 use Rattle.re_chain.specs.Chains.{entry_sent, sent_along, step_along}
-use Rattle.re_chain.specs.Naming.{by_label, is_taken, name_numbers, named_map, named_problem, named_step, names_with}
+use Rattle.re_chain.specs.Naming.{by_label, is_taken, name_numbers, named_problem, named_step, names_with}
 
 -- ---- lists
 get-below : (names : List (List ℕ)) (v : List ℕ) → In v names → (k : ℕ) × (k < length names) × (get_or names k [] ≡ v)
@@ -240,12 +240,12 @@ module _ (x : ℕ) (name : List ℕ) (problem : NamedProblem) (is : IsNamedProbl
         let backs : List ℕ = map (λ k. place_of (names_with x name problem) (get_or (list_set (names_with x name problem)) k [])) (count_from 0 (length (list_set (names_with x name problem)))) in
         let size : length backs ≡ length (list_set (names_with x name problem)) = length-map' (λ k. place_of (names_with x name problem) (get_or (list_set (names_with x name problem)) k [])) (count_from 0 (length (list_set (names_with x name problem)))) ∙ length-count_from 0 (length (list_set (names_with x name problem))) in
         let least = le-length_from_below backs (length problem.names) (λ q l.
-          let m = number-below q l in
-          let same : q ≡ place_of (names_with x name problem) (get_or (list_set (names_with x name problem)) (image_at (name_numbers x name problem) q) []) =
-            number-apart q (place_of (names_with x name problem) (get_or (list_set (names_with x name problem)) (image_at (name_numbers x name problem) q) [])) l (back-below (image_at (name_numbers x name problem) q) m) (sym (number-back (image_at (name_numbers x name problem) q) m)) in
-          any-In (eqb q) (place_of (names_with x name problem) (get_or (list_set (names_with x name problem)) (image_at (name_numbers x name problem) q) [])) backs
-          (In-map (λ k. place_of (names_with x name problem) (get_or (list_set (names_with x name problem)) k [])) (image_at (name_numbers x name problem) q) (count_from 0 (length (list_set (names_with x name problem)))) (counted-below (length (list_set (names_with x name problem))) (image_at (name_numbers x name problem) q) m))
-          (ap (eqb q) (sym same) ∙ eqb-same q)) in
+        let m = number-below q l in
+        let same : q ≡ place_of (names_with x name problem) (get_or (list_set (names_with x name problem)) (image_at (name_numbers x name problem) q) []) =
+        number-apart q (place_of (names_with x name problem) (get_or (list_set (names_with x name problem)) (image_at (name_numbers x name problem) q) [])) l (back-below (image_at (name_numbers x name problem) q) m) (sym (number-back (image_at (name_numbers x name problem) q) m)) in
+        any-In (eqb q) (place_of (names_with x name problem) (get_or (list_set (names_with x name problem)) (image_at (name_numbers x name problem) q) [])) backs
+        (In-map (λ k. place_of (names_with x name problem) (get_or (list_set (names_with x name problem)) k [])) (image_at (name_numbers x name problem) q) (count_from 0 (length (list_set (names_with x name problem)))) (counted-below (length (list_set (names_with x name problem))) (image_at (name_numbers x name problem) q) m))
+        (ap (eqb q) (sym same) ∙ eqb-same q)) in
         omega arith
 
     -- ---- entries with all labels in order
@@ -273,8 +273,8 @@ module _ (x : ℕ) (name : List ℕ) (problem : NamedProblem) (is : IsNamedProbl
           let low : from < length problem.names = back-below k l in
           let m : from < length entries = (let e = many in omega arith) in
           let sent : (j : ℕ) → j < length problem.names → get_or (map (entry_sent (image_at (name_numbers x name problem))) entries) j (record { set = []; label = 0 }) ≡ record { set = set_for entries j; label = image_at (name_numbers x name problem) j }
-            = λ j n. get_or-map (entry_sent (image_at (name_numbers x name problem))) entries j (record { set = []; label = 0 }) (record { set = []; label = 0 }) (let e = many in omega arith)
-              ∙ ap (λ (label : ℕ). record { set = set_for entries j; label = image_at (name_numbers x name problem) label }) (label-at j n) in
+          = λ j n. get_or-map (entry_sent (image_at (name_numbers x name problem))) entries j (record { set = []; label = 0 }) (record { set = []; label = 0 }) (let e = many in omega arith)
+          ∙ ap (λ (label : ℕ). record { set = set_for entries j; label = image_at (name_numbers x name problem) label }) (label-at j n) in
           let size : length (map (entry_sent (image_at (name_numbers x name problem))) entries) ≡ length problem.names = length-map' (entry_sent (image_at (name_numbers x name problem))) entries ∙ many in
           filter-one (λ (entry : SetEntry). eqb entry.label k) (map (entry_sent (image_at (name_numbers x name problem))) entries) from (record { set = []; label = 0 }) (omega arith)
           (ap (λ (entry : SetEntry). eqb entry.label k) (sent from low) ∙ ap (λ n. eqb n k) (number-back k l) ∙ eqb-same k)
@@ -306,7 +306,7 @@ module _ (x : ℕ) (name : List ℕ) (problem : NamedProblem) (is : IsNamedProbl
           let m : number < length (count_from 0 (length problem.names)) = (let e = length-count_from 0 (length problem.names) in omega arith) in
           let z : 0 + number ≡ number = omega arith in
           let same : label ≡ place_of (names_with x name problem) (get_or (list_set (names_with x name problem)) number []) =
-            number-apart label (place_of (names_with x name problem) (get_or (list_set (names_with x name problem)) number [])) l (back-below number low) (sym (number-back number low)) in
+          number-apart label (place_of (names_with x name problem) (get_or (list_set (names_with x name problem)) number [])) l (back-below number low) (sym (number-back number low)) in
           ap (set_for entries) same
           ∙ ap (λ k. set_for entries (place_of (names_with x name problem) (get_or (list_set (names_with x name problem)) k []))) (sym (get_or-count_from 0 (length problem.names) number 0 below' ∙ z))
           ∙ sym (ap (λ (entry : SetEntry). entry.set) (get_or-map (λ k. record { set = set_for entries (place_of (names_with x name problem) (get_or (list_set (names_with x name problem)) k [])); label = k }) (count_from 0 (length problem.names)) number 0 (record { set = []; label = 0 }) m))
@@ -318,9 +318,9 @@ module _ (x : ℕ) (name : List ℕ) (problem : NamedProblem) (is : IsNamedProbl
       sets-moved constraint fine config i =
           let ordered' : List SetEntry = by_label (length problem.names) (map (entry_sent (image_at (name_numbers x name problem))) entries) in
           let same : map (set_for (by_label (length problem.names) (map (entry_sent (image_at (name_numbers x name problem))) entries))) (map (image_at (name_numbers x name problem)) config) ≡ map (set_for entries) config =
-            map-map (set_for (by_label (length problem.names) (map (entry_sent (image_at (name_numbers x name problem))) entries))) (image_at (name_numbers x name problem)) config
-            ∙ map-alike (λ label. set_for (by_label (length problem.names) (map (entry_sent (image_at (name_numbers x name problem))) entries)) (image_at (name_numbers x name problem) label)) (set_for entries) config
-              (λ label at. sym (set-kept label (config-below (length problem.names) constraint fine config label i (Contains-In label config at)))) in
+          map-map (set_for (by_label (length problem.names) (map (entry_sent (image_at (name_numbers x name problem))) entries))) (image_at (name_numbers x name problem)) config
+          ∙ map-alike (λ label. set_for (by_label (length problem.names) (map (entry_sent (image_at (name_numbers x name problem))) entries)) (image_at (name_numbers x name problem) label)) (set_for entries) config
+          (λ label at. sym (set-kept label (config-below (length problem.names) constraint fine config label i (Contains-In label config at)))) in
           subst (λ row. Rearranged row (map (set_for (by_label (length problem.names) (map (entry_sent (image_at (name_numbers x name problem))) entries))) (image_of (name_numbers x name problem) config))) same
           (Rearranged-map (set_for (by_label (length problem.names) (map (entry_sent (image_at (name_numbers x name problem))) entries))) (Rearranged-sorted (map (image_at (name_numbers x name problem)) config)))
 
@@ -367,7 +367,7 @@ module _ (kind : Kind) (x : ℕ) (name : List ℕ) (before : NamedProblem) (s : 
   lower-sound : s.lower ≡ true → step_fault before s ≡ None → step_fault before (named_step x name s) ≡ None
   lower-sound low none =
       let same : named_step x name s ≡ step_along (image_at (name_numbers x name s.next)) (named_problem x name s.next) s =
-        ap (λ b. record { lower = s.lower; next = named_problem x name s.next; rows = s.rows; map = if b then sent_along (image_at (name_numbers x name s.next)) s.map else by_set (by_label (length s.next.names) (entries_in (sent_along (image_at (name_numbers x name s.next)) s.map))) }) low in
+      ap (λ b. record { lower = s.lower; next = named_problem x name s.next; rows = s.rows; map = if b then sent_along (image_at (name_numbers x name s.next)) s.map else by_set (by_label (length s.next.names) (entries_in (sent_along (image_at (name_numbers x name s.next)) s.map))) }) low in
       ap (step_fault before) same
       ∙ (lower_clauses before (step_along (image_at (name_numbers x name s.next)) (named_problem x name s.next) s) low).1
       (relaxed-step (unnamed before) (unnamed s.next) (unnamed (named_problem x name s.next)) s.rows s.map (image_at (name_numbers x name s.next)) ((lower_clauses before s low).0 none) (named-relaxed x name s.next is l))
@@ -376,7 +376,7 @@ module _ (kind : Kind) (x : ℕ) (name : List ℕ) (before : NamedProblem) (s : 
   upper-sound : s.lower ≡ false → is_by_row s.map ≡ false → step_fault before s ≡ None → step_fault before (named_step x name s) ≡ None
   upper-sound low by none =
       let same : named_step x name s ≡ record { lower = false; next = named_problem x name s.next; rows = s.rows; map = by_set (by_label (length s.next.names) (entries_in (sent_along (image_at (name_numbers x name s.next)) s.map))) } =
-        ap (λ b. record { lower = b; next = named_problem x name s.next; rows = s.rows; map = if b then sent_along (image_at (name_numbers x name s.next)) s.map else by_set (by_label (length s.next.names) (entries_in (sent_along (image_at (name_numbers x name s.next)) s.map))) }) low in
+      ap (λ b. record { lower = b; next = named_problem x name s.next; rows = s.rows; map = if b then sent_along (image_at (name_numbers x name s.next)) s.map else by_set (by_label (length s.next.names) (entries_in (sent_along (image_at (name_numbers x name s.next)) s.map))) }) low in
       let clauses : step_clauses s ≡ U1 ∷ U2 ∷ U3 ∷ U4 ∷ [] = ap (λ b. step_clauses (record s { lower = b })) low in
       let met = subst (AllByRecursion (λ clause. meets before s clause ≡ true)) clauses (all_pass (meets before s) (step_clauses s) none) in
       ap (step_fault before) same ∙ go s.map by met

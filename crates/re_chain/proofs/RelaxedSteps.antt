@@ -1,8 +1,8 @@
 -- A lower step to a relaxation of its next problem.
 use Rattle.std.proofs.Common.{◌≡◌, ℕ, ◌<◌, List, [], ◌∷◌, length, map, get_or, refl, sym, ap, ◌∙◌, subst, arith}
 use Rattle.std.proofs.lemmas.List.{get_or-map, get_or_default}
-use Rattle.std.specs.List.{AllByRecursion, AllZip}
-use Rattle.std.specs.Prelude.{Contains, slice_index_or}
+use Rattle.std.specs.List.{AllZip}
+use Rattle.std.specs.Prelude.{Contains}
 use Rattle.re_config.proofs.Sorting.{sorted_map}
 use Rattle.re_config.specs.Configs.{IsConfig, sorted}
 use Rattle.re_config.specs.Rows.{placed}
@@ -12,11 +12,11 @@ use Rattle.re_labels.specs.Lists.{place_of}
 use Rattle.re_problem.proofs.StepLaws.{map-map}
 use Rattle.re_problem.specs.Problems.{Problem}
 use Rattle.re_problem.specs.Steps.LowerMap.{by_row, by_set}
-use Rattle.re_problem.specs.Steps.{AreBeside, BecomesByRow, IsLowerStep, IsLowerStepByRow, IsLowerStepBySet, IsRelaxed, LowerMap, SetEntry, entry_sets, label_at, label_of}
+use Rattle.re_problem.specs.Steps.{BecomesByRow, IsLowerStepByRow, IsLowerStepBySet, IsRelaxed, SetEntry, entry_sets, label_at, label_of}
 use Rattle.re_table.proofs.MaxSets.{allowed_law, max_sets-row}
 use Rattle.re_table.specs.Constraints.{Constraint, Has}
-use Rattle.re_table.specs.GoodRows.{allowed, max_rows, max_sets}
-use Rattle.re_chain.specs.Chains.{entry_sent, sent_along}
+use Rattle.re_table.specs.GoodRows.{allowed, max_sets}
+use Rattle.re_chain.specs.Chains.{entry_sent}
 use Rattle.re_chain.specs.Laws.{RelaxedStepLaw}
 
 -- ---- entries sent along
@@ -80,8 +80,7 @@ module _ (image : ℕ → ℕ) (problem next relaxed : Problem) (rows : List (Li
         let from : List ℕ = get_or images k [] in
         let same : map image from ≡ sent = sym (get_or-map (map image) images k [] sent there) ∙ si in
         let low : j < length from = (let c = length-map' image from in let e = ap length same in omega arith) in
-        let x : ℕ = get_or from j 0 in
-        (
+        let x : ℕ = get_or from j 0 in (
           x,
           (row, from, (k, lr, there, sr, get_or_default images k from [] there), (j, ls, low, ss, get_or_default from j x 0 low)),
           sym (get_or-map image from j 0 label low) ∙ ap (λ (l : List ℕ). get_or l j label) same ∙ sl,

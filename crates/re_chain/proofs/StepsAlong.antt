@@ -2,12 +2,12 @@
 use Rattle.std.proofs.Common.{◌≡◌, ℕ, ◌<◌, Bool, true, false, not, eqb, leb, List, length, map, refl, sym, ap, ◌∙◌, subst}
 use Rattle.std.specs.Prelude.{◌&&◌, if◌then◌else◌}
 use Rattle.std.specs.List.{AllByRecursion, list_all}
-use Rattle.re_labels.proofs.Membership.{AllByRecursion-from_In, In, In-map_from, all-In, all-In_from, length-map'}
+use Rattle.re_labels.proofs.Membership.{AllByRecursion-from_In, In-map_from, all-In, all-In_from, length-map'}
 use Rattle.re_labels.proofs.Tests.{and-true, below-true, true-and, true-below}
 use Rattle.re_problem.specs.NamedProblems.{NamedProblem}
 use Rattle.re_problem.specs.Steps.LowerMap.{by_row, by_set}
 use Rattle.re_problem.specs.Steps.{LowerMap, SetEntry}
-use Rattle.re_cert.specs.Bounds.{BoundStep, entries_in, entry_fits, image_fits, is_by_row, is_label, is_lower, kind_fits, map_fits, row_fits, step_fits}
+use Rattle.re_cert.specs.Bounds.{BoundStep, entry_fits, image_fits, is_by_row, is_label, is_lower, kind_fits, map_fits, row_fits, step_fits}
 use Rattle.re_cert.specs.declared.certificate.Kind.{Kind}
 use Rattle.re_config.specs.declared.TheConstants.{MAX_ROWS}
 use Rattle.re_chain.specs.Chains.{HasLabelsBelow, entry_sent, sent_along, step_along}

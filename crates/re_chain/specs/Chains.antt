@@ -1,30 +1,11 @@
--- Chains of steps: bounds whose END and BACK aren't asked for.
-use Rattle.std.specs.Prelude.{◌≡◌, ℕ, ◌<◌, List, [], ◌∷◌, map, None}
+-- Chains with another last step, and maps whose labels are sent along.
+use Rattle.std.specs.Prelude.{ℕ, ◌<◌, List, [], ◌∷◌, map}
 use Rattle.std.specs.List.{AllByRecursion}
 use Rattle.re_problem.specs.NamedProblems.{NamedProblem}
 use Rattle.re_problem.specs.Steps.{LowerMap, SetEntry}
 use Rattle.re_problem.specs.Steps.LowerMap.{by_row, by_set}
 use Rattle.re_cert.specs.Bounds.{Bound, BoundStep}
-use Rattle.re_cert.specs.declared.certificate.Kind.{Kind}
-use Rattle.re_cert.specs.declared.certificate.Kind.TheVariants.{Lower, Upper}
-use Rattle.re_check.specs.Verdicts.{steps_fault}
-
--- the kind of a chain: a fixed point stands for the lower bound with its steps
-abbrev pub chain_kind : Kind → Kind
-chain_kind Upper = Upper
-chain_kind kind = Lower
-
--- the chain of these steps from a first problem
-abbrev pub chain_with : Kind → NamedProblem → List BoundStep → Bound
-chain_with kind first steps = record { kind = chain_kind kind; back = 0; first = first; steps = steps; renaming = [] }
-
--- the chain that a bound stands for
-abbrev pub chain_of : Bound → Bound
-chain_of bound = chain_with bound.kind bound.first bound.steps
-
--- each step meets its clauses
-abbrev pub IsSound : Bound → Type 0
-IsSound bound = steps_fault bound.first 1 bound.steps ≡ None
+use Rattle.re_chain_parts.specs.Chains.{chain_with}
 
 -- ---- the last step
 -- the steps with another one in place of the last; the others stay

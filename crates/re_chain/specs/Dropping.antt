@@ -1,7 +1,6 @@
 -- A chain whose last problem lacks a label.
 use Rattle.std.specs.Prelude.{ℕ, not, List, filter_map, if◌then◌else◌, Option, None, Some, option_map}
 use Rattle.re_items.specs.Steps.{is_nil}
-use Rattle.re_problem.specs.NamedProblems.{NamedProblem}
 use Rattle.re_problem.specs.Steps.{SetEntry}
 use Rattle.re_problem.specs.Steps.LowerMap.{by_set}
 use Rattle.re_changes.specs.Changes.{after, becomes}

@@ -1,12 +1,11 @@
 -- What shaping the last problem of a chain keeps.
-use Rattle.std.specs.Prelude.{◌≡◌, ℕ, true, List, None}
-use Rattle.std.specs.List.{AllByRecursion}
+use Rattle.std.specs.Prelude.{◌≡◌, ℕ, List, None}
 use Rattle.re_labels.specs.Names.{IsName}
-use Rattle.re_problem.specs.NamedProblems.{IsNamedProblem}
 use Rattle.re_problem.specs.Problems.{Problem}
 use Rattle.re_problem.specs.Steps.{IsLowerStep, IsRelaxed, LowerMap}
-use Rattle.re_cert.specs.Bounds.{Bound, is_bound, next_problems}
-use Rattle.re_chain.specs.Chains.{IsSound, chain_of, sent_along}
+use Rattle.re_cert.specs.Bounds.{Bound}
+use Rattle.re_chain_parts.specs.Chains.{IsSoundChain}
+use Rattle.re_chain.specs.Chains.{sent_along}
 use Rattle.re_chain.specs.Dropping.{drop_refusal, dropped}
 use Rattle.re_chain.specs.Merging.{merge_refusal, merged}
 use Rattle.re_chain.specs.Naming.{name_refusal, named}
@@ -15,21 +14,6 @@ use Rattle.re_chain.specs.Naming.{name_refusal, named}
 abbrev pub RelaxedStepLaw : Type 0
 RelaxedStepLaw = (problem next relaxed : Problem) (rows : List (List (List ℕ))) (map : LowerMap) (image : ℕ → ℕ) →
     IsLowerStep problem next rows map → IsRelaxed next relaxed image → IsLowerStep problem relaxed rows (sent_along image map)
-
--- a bound whose first problem, and those of whose steps, are problems
-pub record IsOverProblems (bound : Bound) : Type 0 where
-  pub first : IsNamedProblem bound.first
-  pub next : AllByRecursion IsNamedProblem (next_problems bound.steps)
-
--- the bound is a bound, over problems, and each of its steps meets its clauses
-pub record IsSoundChain (bound : Bound) : Type 0 where
-  pub fits : is_bound bound ≡ true
-  pub over : IsOverProblems bound
-  pub sound : IsSound bound
-
--- the chain that a bound stands for is as sound as the bound
-abbrev pub ChainLaw : Type 0
-ChainLaw = (bound : Bound) → IsSoundChain bound → IsSoundChain (chain_of bound)
 
 -- a sound chain stays sound where labels of its last problem are merged
 abbrev pub MergeLaw : Type 0

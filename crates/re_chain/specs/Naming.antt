@@ -10,7 +10,8 @@ use Rattle.re_problem.specs.Steps.{LowerMap, SetEntry}
 use Rattle.re_problem.specs.Steps.LowerMap.{by_set}
 use Rattle.re_changes.specs.Renumbering.{constraint_image}
 use Rattle.re_cert.specs.Bounds.{Bound, BoundStep, entries_in, is_label, last_problem}
-use Rattle.re_chain.specs.Chains.{chain_with, sent_along, with_last}
+use Rattle.re_chain_parts.specs.Chains.{chain_with}
+use Rattle.re_chain.specs.Chains.{sent_along, with_last}
 use Rattle.re_chain.specs.declared.refusal.Refusal.{Refusal}
 use Rattle.re_chain.specs.declared.refusal.Refusal.TheVariants.{NotALabel, Taken}
 

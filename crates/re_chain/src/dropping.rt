@@ -8,6 +8,7 @@ ghost use Rattle.std.specs.Prelude.{◌≡◌, ◌<◌, Err, IfOk, None, Some, f
 use crate::last_step::with_last;
 use crate::refusal::{ChainFault, Refusal};
 use re_cert::{Certificate, Kind, SetEntry, Step, StepParts};
+use re_chain_parts::over_problems;
 use re_changes::{Change, Changed};
 use re_labels::NoMemory;
 use std::alloc::Global;
@@ -76,6 +77,7 @@ fn dropped(alloc: Global, certificate: &Certificate, label: u8) -> Result<Certif
     requires { drop_refusal label certificate.now ≡ None }
     ensures { IfOk result (λ chain. chain ≡ dropped label certificate.now) }
 {
+    over_problems(certificate);
     let steps = certificate.steps();
     let last = dropped_step(alloc, &steps[steps.len() - 1], label)?;
     with_last(alloc, certificate, last)

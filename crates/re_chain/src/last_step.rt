@@ -3,8 +3,8 @@ ghost use Rattle.re_cert.specs.Bounds.{is_bound};
 ghost use Rattle.re_chain.specs.Chains.{with_last};
 ghost use Rattle.std.specs.Prelude.{◌≡◌, ◌<◌, IfOk, length, true};
 
-use crate::copies::{chain_kind, copied_step};
 use re_cert::{Certificate, Step};
+use re_chain_parts::{chain_kind, copied_step};
 use re_labels::NoMemory;
 use std::alloc::Global;
 

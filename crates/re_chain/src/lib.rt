@@ -2,35 +2,23 @@
 //! goes, a label gets another name. Each keeps a sound chain sound.
 #![tactic(auto)]
 
-mod copies;
 mod dropping;
 mod last_step;
 mod merging;
 mod naming;
 mod refusal;
 mod sending;
-mod sound;
 
-ghost use Rattle.re_chain.specs.Laws.{ChainLaw, DropLaw, MergeLaw, NameLaw, RelaxedStepLaw};
+ghost use Rattle.re_chain.specs.Laws.{DropLaw, MergeLaw, NameLaw, RelaxedStepLaw};
 
-pub use copies::{
-    chain, chain_kind, copied_entries, copied_image, copied_images, copied_map, copied_rows,
-    copied_step, copied_steps,
-};
 pub use dropping::drop_label;
 pub use merging::merge;
 pub use naming::name_label;
 pub use refusal::{ChainFault, Refusal};
-pub use sound::over_problems;
 
 /// A lower step leads, with its map sent along, to each relaxation of its next problem.
 pub fn relaxed_step_law()
     ensures { RelaxedStepLaw }
-{}
-
-/// The chain that a certificate stands for is as sound as the certificate.
-pub fn chain_law()
-    ensures { ChainLaw }
 {}
 
 /// A sound lower chain stays sound, whichever two labels of its last problem become one.

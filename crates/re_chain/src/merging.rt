@@ -1,5 +1,4 @@
 //! Two labels of the last problem become one.
-ghost use Rattle.re_cert.specs.Bounds.{is_label};
 ghost use Rattle.re_chain.specs.Chains.{HasLabelsBelow};
 ghost use Rattle.re_chain.specs.Merging.{merge_numbers, merge_refusal, merged, merged_label, merged_problem, merged_step};
 ghost use Rattle.re_chain.specs.declared.refusal.Refusal.{Refusal};
@@ -13,6 +12,7 @@ use crate::refusal::{ChainFault, Refusal};
 use crate::sending::step_along;
 use arrayvec::ArrayVec;
 use re_cert::{Certificate, Kind, Step};
+use re_chain_parts::over_problems;
 use re_changes::{number_among, renumbered};
 use re_labels::{MAX_LABELS, NoMemory};
 use re_problem::Problem;
@@ -133,6 +133,7 @@ fn merged(
     requires { merge_refusal from to certificate.now ≡ None }
     ensures { IfOk result (λ chain. chain ≡ merged from to certificate.now) }
 {
+    over_problems(certificate);
     let steps = certificate.steps();
     let last = merged_step(alloc, &steps[steps.len() - 1], from, to)?;
     with_last(alloc, certificate, last)

@@ -1,5 +1,6 @@
 //! A label of the last problem gets another name.
-ghost use Rattle.re_chain.specs.Chains.{HasLabelsBelow, chain_with};
+ghost use Rattle.re_chain_parts.specs.Chains.{chain_with};
+ghost use Rattle.re_chain.specs.Chains.{HasLabelsBelow};
 ghost use Rattle.re_chain.specs.Naming.{by_label, is_taken, name_numbers, name_refusal, named, named_problem, named_step, names_with};
 ghost use Rattle.re_chain.specs.declared.refusal.Refusal.{Refusal};
 ghost use Rattle.re_labels.specs.Lists.{place_of, same_list};
@@ -7,12 +8,12 @@ ghost use Rattle.re_labels.specs.ListSets.{list_set};
 ghost use Rattle.std.specs.List.{list_any};
 ghost use Rattle.std.specs.Prelude.{◌≡◌, ◌<◌, ◌&&◌, [], Err, IfOk, None, Some, false, length, map, not, slice_index_or, slice_set};
 
-use crate::copies::chain_kind;
 use crate::last_step::with_last;
 use crate::refusal::{ChainFault, Refusal};
 use crate::sending::{sent_entries, step_along};
 use arrayvec::ArrayVec;
 use re_cert::{Certificate, SetEntry, Step, StepParts};
+use re_chain_parts::{chain_kind, over_problems};
 use re_labels::{Name, Names, NamesFault, NoMemory};
 use re_problem::Problem;
 use std::alloc::Global;
@@ -127,6 +128,7 @@ fn is_taken(names: &Names, label: u8, name: &Name) -> bool
     requires { label < length names.now }
     ensures { result ≡ (list_any (same_list name.now) names.now && not (same_list name.now (slice_index_or names.now label []))) }
 {
+    let _count = names.len();
     match names.find(name) {
         Some(other) => other != label,
         None => false,
@@ -180,6 +182,8 @@ fn named(
     requires { name_refusal label name.now certificate.now ≡ None }
     ensures { IfOk result (λ chain. chain ≡ named label name.now certificate.now) }
 {
+    over_problems(certificate);
+    let _text = name.text();
     let steps = certificate.steps();
     if steps.is_empty() {
         return named_first(alloc, certificate, label, name);

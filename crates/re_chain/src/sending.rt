@@ -5,9 +5,9 @@ ghost use Rattle.re_config.specs.Configs.{image_at};
 ghost use Rattle.std.specs.List.{AllByRecursion};
 ghost use Rattle.std.specs.Prelude.{◌≡◌, ◌<◌, IfOk, length, map};
 
-use crate::copies::copied_rows;
 use arrayvec::ArrayVec;
 use re_cert::{LowerMap, RowImage, SetEntry, Step, StepParts};
+use re_chain_parts::copied_rows;
 use re_labels::NoMemory;
 use re_problem::Problem;
 use std::alloc::Global;
@@ -47,11 +47,7 @@ fn sent_image(image: &RowImage, images: &[u8]) -> RowImage
 }
 
 // The images of rows with the images of their labels.
-fn sent_images(
-    alloc: Global,
-    rows: &[RowImage],
-    images: &[u8],
-) -> Result<Vec<RowImage>, NoMemory>
+fn sent_images(alloc: Global, rows: &[RowImage], images: &[u8]) -> Result<Vec<RowImage>, NoMemory>
     requires { AllByRecursion (AllByRecursion (λ label. label < length images.now)) rows.now }
     ensures { IfOk result (λ sent. sent.items ≡ map (map (image_at images.now)) rows.now) }
 {

@@ -1,2 +1,3 @@
+pub mod NamesGiven
 pub mod Places
 pub mod WordsSay

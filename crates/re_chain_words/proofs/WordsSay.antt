@@ -1,6 +1,11 @@
 -- What the words may say.
-use Rattle.std.proofs.Common.{ℕ, true, false, List, Option, Some, None, refl}
+use Rattle.std.proofs.Common.{ℕ, true, false, List, [], Option, Some, None, refl}
+use Rattle.re_problem.specs.ProblemTexts.{first_fault, lines_of, problem_of}
 use Rattle.re_cert.specs.Bounds.{Bound}
+use Rattle.re_cert.specs.CertificateTexts.{certificate_fault, certificate_of, text_lines}
+use Rattle.re_chain_parts.specs.Chains.{chain_with}
+use Rattle.re_chain_texts.specs.OverChains.{certificate_outcome}
+use Rattle.re_tidy.specs.Tidied.{tidied}
 use Rattle.re_frame.specs.Runs.{MaySay}
 use Rattle.re_chain.specs.declared.refusal.Refusal.{Refusal}
 use Rattle.re_chain_steps.specs.declared.stepping.ChainStepFault.{ChainStepFault}
@@ -31,8 +36,8 @@ shaped_says (Name x y) chain = or_line_says _ _ _
 shaped_says (Drop x) chain = or_line_says _ _ _
 
 pub word_says : (word : ChainWord) (bytes : List ℕ) → MaySay (word_outcome word bytes).status (is_judging word)
-unfolding word_outcome begin_outcome last_outcome tidy_outcome
-word_says (Begin kind) bytes = or_fault_says _ _ false tt
+unfolding begin_outcome last_outcome tidy_outcome
+word_says (Begin kind) bytes = or_fault_says (first_fault 0 1 (lines_of bytes)) (certificate_outcome (chain_with kind (problem_of (lines_of bytes)) [])) false tt
 word_says Last bytes = over_any_says last_outcome bytes false (λ chain. tt)
-word_says Tidy bytes = or_fault_says _ _ false tt
+word_says Tidy bytes = or_fault_says (certificate_fault (text_lines bytes)) (certificate_outcome (tidied (certificate_of (text_lines bytes)))) false tt
 word_says (Shape shaping) bytes = over_sound_says (shaped_outcome shaping) bytes (shaped_says shaping)

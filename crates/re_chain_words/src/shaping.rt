@@ -121,11 +121,7 @@ fn name_output(
 
 // The chain whose last problem lacks the label, or why not.
 #[tactic(auto, unfolding(crate::specs::Shapings::drop_outcome))]
-fn drop_output(
-    alloc: Global,
-    chain: &Certificate,
-    label: &LabelWord,
-) -> Result<Output, NoMemory>
+fn drop_output(alloc: Global, chain: &Certificate, label: &LabelWord) -> Result<Output, NoMemory>
     requires { IsSoundChain chain.now }
     ensures output { IfOk result (λ output. outcome_of output ≡ drop_outcome label.now chain.now) }
     ensures worth { IfOk result (λ output. output.answer ≡ Answer.Done → IsSoundText output.text.items) }

@@ -1,1 +1,1 @@
-mod Builds
+mod Named

@@ -1,31 +1,25 @@
--- What the closure of a problem comes to: what is promised of a certificate that is found.
-use Rattle.std.specs.Prelude.{◌≡◌, List, length, Result, Ok, Err, Option, Some, None}
-use Rattle.re_cert.specs.Bounds.{Bound}
-use Rattle.re_cert.specs.declared.certificate.Kind.{Kind}
+-- What the closure of the last problem of a chain comes to.
+use Rattle.std.specs.Prelude.{◌≡◌, ℕ, ◌<◌, List, length, Result, Ok, Err, Some, None}
+use Rattle.std.specs.List.{AllByRecursion}
+use Rattle.re_cert.specs.Bounds.{Bound, last_problem}
 use Rattle.re_cert.specs.declared.certificate.Kind.TheVariants.{Fixed}
-use Rattle.re_check.specs.Verdicts.{Means, verdict_of}
-use Rattle.re_check.specs.declared.verdict.Verdict.TheVariants.{Accepted}
+use Rattle.re_extend.specs.Extensions.{GoesOn}
+use Rattle.re_labels.specs.declared.TheConstants.{MAX_LABELS}
 use Rattle.re_problem.specs.NamedProblems.{NamedProblem, unnamed}
+use Rattle.re_problem.specs.Zero.{zero_place}
 use Rattle.re_closure.specs.declared.types.Closing.{Closing}
-use Rattle.re_closure.specs.declared.types.Closing.TheVariants.{Found, Solvable, NotFound}
+use Rattle.re_closure.specs.declared.types.Closing.TheVariants.{Found, NotFound, Solvable, SolvableClosure}
 use Rattle.re_closure.specs.declared.types.ClosureFault.{ClosureFault}
 
--- the certificate that is found is one of a fixed point
-abbrev pub FindsFixed : Result Closing ClosureFault → Type 0
-FindsFixed (Ok (Found bound)) = bound.kind ≡ Fixed
-FindsFixed result = Unit {0}
+-- sets of labels of the problem
+abbrev pub AreNamed : NamedProblem → List (List ℕ) → Type 0
+AreNamed problem sets = AllByRecursion (AllByRecursion (λ label. label < length problem.names)) sets
 
--- its first problem is the given one
-abbrev pub FindsFirst : NamedProblem → Result Closing ClosureFault → Type 0
-FindsFirst first (Ok (Found bound)) = bound.first ≡ first
-FindsFirst first result = Unit {0}
-
--- it is accepted
-abbrev pub FindsValid : Result Closing ClosureFault → Type 0
-FindsValid (Ok (Found bound)) = verdict_of bound ≡ Accepted Fixed (length bound.steps)
-FindsValid result = Unit {0}
-
--- what a verdict that accepts it says of algorithms, holds of the given problem: no number of rounds solves it
-abbrev pub FindsTrue : NamedProblem → Result Closing ClosureFault → Type 0
-FindsTrue first (Ok (Found bound)) = Means (Accepted Fixed (length bound.steps)) (unnamed first)
-FindsTrue first result = Unit {0}
+-- a fixed point that goes on from the chain by at most three steps; the place of the first configuration that shows that the chain's last problem is
+-- solvable without communication, exactly where it is; or no fixed point, which says nothing of the problem
+abbrev pub Answers : Bound → Result Closing ClosureFault → Type 0
+Answers chain (Ok (Found bound)) = (zero_place (unnamed (last_problem chain)) ≡ None) × GoesOn Fixed 3 MAX_LABELS chain bound
+Answers chain (Ok (Solvable place)) = zero_place (unnamed (last_problem chain)) ≡ Some place
+Answers chain (Ok (SolvableClosure sets)) = (zero_place (unnamed (last_problem chain)) ≡ None) × AreNamed (last_problem chain) sets.items
+Answers chain (Ok NotFound) = zero_place (unnamed (last_problem chain)) ≡ None
+Answers chain (Err fault) = zero_place (unnamed (last_problem chain)) ≡ None

@@ -4,47 +4,12 @@ ghost use Rattle.std.specs.Prelude.{◌≡◌, ◌<◌, ◌≤◌, IfOk, IfSome,
 
 use crate::types::{ClosureFault, ClosureLimit};
 use arrayvec::ArrayVec;
-use re_config::{Config, Row};
+use re_config::Config;
 use re_exist::{AllowedFault, allowed};
 use re_labels::{LabelSet, MAX_LABELS, NoMemory};
 use re_table::{Constraint, InsertFault};
+use re_topmost::Line;
 use std::alloc::Global;
-
-// The sets, in the order of their numbers and each once.
-fn each_once(alloc: Global, mut sets: Vec<LabelSet>) -> Result<Vec<LabelSet>, NoMemory> {
-    sets.sort_unstable();
-    let mut once: Vec<LabelSet> = Vec::new(alloc);
-    for set in sets.as_slice() {
-        if once.last() != Some(set) {
-            once.push(*set)?;
-        }
-    }
-    Ok(once)
-}
-
-/// The different sets of the rows of both sides, in the order of their numbers.
-pub(crate) fn labels_of(
-    alloc: Global,
-    rows: &[Row],
-    others: &[Row],
-) -> Result<Vec<LabelSet>, ClosureFault>
-    ensures { IfOk result (λ sets. length sets.items ≤ MAX_LABELS) }
-{
-    let mut sets = Vec::new(alloc);
-    for row in rows {
-        sets.extend_from_slice(row.sets())?;
-    }
-    for row in others {
-        sets.extend_from_slice(row.sets())?;
-    }
-    let once = each_once(alloc, sets)?;
-    if once.len() > MAX_LABELS as usize {
-        return Err(ClosureFault::Limit(ClosureLimit::Labels(
-            once.len().min(u32::MAX as usize) as u32,
-        )));
-    }
-    Ok(once)
-}
 
 /// The place of the set among the sets, if it is there.
 pub(crate) fn place_of(sets: &[LabelSet], set: LabelSet) -> Option<usize>
@@ -58,14 +23,17 @@ pub(crate) fn place_of(sets: &[LabelSet], set: LabelSet) -> Option<usize>
     None
 }
 
-// The configuration of the places of the row's sets among the sets, where each is there.
-fn config_of(sets: &[LabelSet], row: &Row) -> Option<Config>
+// The configuration of the places of the line's sets among the sets, where it has at least two and each is there.
+fn config_of(sets: &[LabelSet], line: &Line) -> Option<Config>
     requires { length sets.now ≤ MAX_LABELS }
 {
     let mut labels = ArrayVec::<u8, 6>::new();
-    for set in row.sets() {
+    for set in line.sets() {
         let place = place_of(sets, *set)?;
         labels.push(place as u8);
+    }
+    if labels.len() < 2 {
+        return None;
     }
     Some(Config::from_labels(labels.as_slice()))
 }
@@ -84,20 +52,20 @@ fn put(constraint: &mut Constraint, config: Config) -> Result<(), ClosureFault> 
     }
 }
 
-/// The constraint of the configurations of the rows.
+/// The constraint of the configurations of the lines.
 pub(crate) fn constraint_of(
     alloc: Global,
     degree: u8,
     sets: &[LabelSet],
-    rows: &[Row],
+    lines: &[Line],
 ) -> Result<Constraint, ClosureFault>
     requires few { length sets.now ≤ MAX_LABELS }
     requires least { 2 ≤ degree }
     requires most { degree ≤ 6 }
 {
     let mut constraint = Constraint::new(alloc, degree);
-    for row in rows {
-        if let Some(config) = config_of(sets, row) {
+    for line in lines {
+        if let Some(config) = config_of(sets, line) {
             put(&mut constraint, config)?;
         }
     }

@@ -1,12 +1,9 @@
-//! Fixed points from right-closed sets: the closure of a problem, and the certificate that it comes back.
+//! Fixed points from right-closed sets: the closure of the last problem of a chain, and the certificate that it comes back.
 #![tactic(auto)]
 
-mod closing;
 mod closure;
-mod combining;
 mod finding;
 mod lattice;
-mod marking;
 mod stepping;
 pub mod types;
 

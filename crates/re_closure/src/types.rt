@@ -3,29 +3,35 @@ ghost use Rattle.std.specs.Prelude.{◌≡◌};
 
 use re_cert::Certificate;
 use re_labels::{LabelSet, NoMemory};
+use re_topmost::LinesFault;
 use std::alloc::{AllocError, AllocFailed};
 
-/// What the closure of a problem comes to.
+/// What the closure of the last problem of a chain comes to.
 #[derive(Drop)]
 pub enum Closing {
-    /// The certificate that the closure comes back, and isn't solvable without communication.
+    /// The certificate that goes on from the chain to the closure and back.
     Found(Certificate),
-    /// The closure is solvable without communication: the right-closed sets of the labels of its first active configuration that fits.
-    /// This says nothing of the problem.
-    Solvable(Vec<LabelSet>),
-    /// No certificate came of it. From the closure of a problem one always does (`re_lines::chain_law`); that what is computed is the closure, no clause says.
+    /// The last problem is solvable without communication: the place of its first active configuration that shows it.
+    Solvable(usize),
+    /// The closure is solvable without communication: the right-closed sets of the labels of its first active configuration that shows
+    /// it. This says nothing of the problem.
+    SolvableClosure(Vec<LabelSet>),
+    /// No certificate came of it. From the closure of a problem one always does (`re_lines::chain_law`), but no clause says so of this call.
     NotFound,
 }
 
 /// What the closure of a problem has too many of.
 #[derive(Clone, Copy, Debug, PartialEq, Eq)]
 pub enum ClosureLimit {
-    /// More than `re_config::MAX_ROWS` rows of one side at a time, or more than `MAX_COMBINATIONS` that had to be looked at.
+    /// More than `re_config::MAX_ROWS` lines of one side at a time, or more than `re_topmost::MAX_COMBINATIONS` that had to be looked at;
+    /// or more maximal rows of the problem.
     Rows,
     /// More than `re_labels::MAX_LABELS` labels, and how many.
     Labels(u32),
     /// More than `re_table::MAX_CONFIGURATIONS` configurations of one side.
     Configurations,
+    /// More than `re_cert::MAX_STEPS` steps, with those of the chain.
+    Steps,
 }
 
 /// Why there is no answer.
@@ -60,5 +66,14 @@ impl From<AllocError> for ClosureFault {
 impl<T: Drop> From<AllocFailed<T>> for ClosureFault {
     fn from(_fault: AllocFailed<T>) -> ClosureFault {
         ClosureFault::NoMemory
+    }
+}
+
+impl From<LinesFault> for ClosureFault {
+    fn from(fault: LinesFault) -> ClosureFault {
+        match fault {
+            LinesFault::TooManyLines => ClosureFault::Limit(ClosureLimit::Rows),
+            LinesFault::NoMemory => ClosureFault::NoMemory,
+        }
     }
 }

@@ -5,12 +5,13 @@ use Rattle.re_frame.specs.Outcomes.{Outcome, done, within_limit}
 use Rattle.re_frame.specs.declared.status.Status.TheVariants.{BadWords, Done}
 use Rattle.re_chain_words.specs.Answers.{WordWorth, is_judging as chain_judges, word_outcome}
 use Rattle.re_chain_words.specs.ChainWords.{chain_help, chain_word_of}
+use Rattle.re_closure_words.specs.ClosureWords.{MayGive as MayGiveClosure, closure_help, names_closure}
 use Rattle.re_finding.specs.Answers.{MayAnswer}
 use Rattle.re_search_words.specs.MayGive.{MayGive}
 use Rattle.re_search_words.specs.Words.{IsSearchWord, search_help, search_word_of}
 use Rattle.re_why.specs.Explaining.{explaining_outcome, names_why, why_help}
 use Rattle.re_explore.specs.declared.command.Command.{Command}
-use Rattle.re_explore.specs.declared.command.Command.TheVariants.{Chains, Explains, Help, Searches}
+use Rattle.re_explore.specs.declared.command.Command.TheVariants.{Chains, Closes, Explains, Help, Searches}
 
 abbrev pub is_help : List (List ℕ) → Bool
 is_help (word ∷ []) = bytes_eq (codes "help") word
@@ -23,7 +24,7 @@ or_else None other = other
 
 -- the command that goes on from a chain
 abbrev pub command_over_chains : List (List ℕ) → Option Command
-command_over_chains words = or_else (option_map Chains (chain_word_of words)) (option_map Searches (search_word_of words))
+command_over_chains words = or_else (option_map Chains (chain_word_of words)) (or_else (option_map Searches (search_word_of words)) (if names_closure words then Some Closes else None))
 
 -- the command that these words name
 unfoldable pub command_of : List (List ℕ) → Option Command
@@ -36,7 +37,7 @@ Fits command = Unit {0}
 
 -- the lines of help
 unfoldable pub help_text : List ℕ
-help_text = codes "help: reads nothing, gives these lines\n" ++ chain_help ++ why_help ++ search_help
+help_text = codes "help: reads nothing, gives these lines\n" ++ chain_help ++ why_help ++ search_help ++ closure_help
 
 -- words that are no command are answered by the lines of help, too
 unfoldable pub bad_words : Outcome
@@ -49,12 +50,14 @@ IsOutcome (Some Help) bytes outcome = outcome ≡ done help_text
 IsOutcome (Some (Chains word)) bytes outcome = (outcome ≡ within_limit (word_outcome word) bytes) × (outcome.status ≡ Done → WordWorth word outcome.text)
 IsOutcome (Some Explains) bytes outcome = outcome ≡ within_limit explaining_outcome bytes
 IsOutcome (Some (Searches word)) bytes outcome = MayAnswer (MayGive word) bytes outcome
+IsOutcome (Some Closes) bytes outcome = MayAnswer MayGiveClosure bytes outcome
 
 -- whether the command reads its input
 abbrev pub is_reading : Option Command → Bool
 is_reading (Some (Chains word)) = true
 is_reading (Some Explains) = true
 is_reading (Some (Searches word)) = true
+is_reading (Some Closes) = true
 is_reading command = false
 
 -- whether its answer can be No
@@ -62,4 +65,5 @@ abbrev pub is_judging : Option Command → Bool
 is_judging (Some (Chains word)) = chain_judges word
 is_judging (Some Explains) = true
 is_judging (Some (Searches word)) = true
+is_judging (Some Closes) = true
 is_judging command = false

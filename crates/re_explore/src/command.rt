@@ -4,6 +4,7 @@ ghost use Rattle.re_frame.specs.Outcomes.{done as done_with, outcome_of};
 ghost use Rattle.std.specs.Prelude.{◌≡◌, ◌++◌, IfOk, IfSome, map, string_bytes};
 
 use re_chain_words::{ChainWord, chain_help, chain_word};
+use re_closure_words::{closure_help, names_closure};
 use re_frame::{Answer, Output, begun, done, push_words};
 use re_labels::NoMemory;
 use re_search_words::{SearchWord, search_help, search_word};
@@ -20,6 +21,8 @@ pub(crate) enum Command {
     Explains,
     /// A search that goes on from a chain.
     Searches(SearchWord),
+    /// The fixed point by right-closed sets.
+    Closes,
 }
 
 fn is_help(words: &[String]) -> bool
@@ -41,6 +44,9 @@ fn command_over_chains(words: &[String]) -> Option<Command>
     }
     if let Some(word) = search_word(words) {
         return Some(Command::Searches(word));
+    }
+    if names_closure(words) {
+        return Some(Command::Closes);
     }
     None
 }
@@ -69,6 +75,7 @@ fn with_help(alloc: Global, words: &str) -> Result<Vec<u8>, NoMemory>
     push_words(&mut text, chain_help())?;
     push_words(&mut text, why_help())?;
     push_words(&mut text, search_help())?;
+    push_words(&mut text, closure_help())?;
     Ok(text)
 }
 

@@ -8,6 +8,7 @@ ghost use Rattle.re_frame.specs.Outcomes.{IsAnswer, Outcome, outcome_of, status_
 ghost use Rattle.re_frame.specs.Runs.{Answers, StopsWithin, TakesInput};
 
 use crate::command::{Command, bad_words, command_from, help};
+use re_closure_words::ClosureWord;
 use re_finding::find_input;
 use re_frame::{Output, Status, Stop, answer_input, put_output};
 use re_io::{MAX_BYTES, Sink, Source};
@@ -33,6 +34,7 @@ fn output_from<S: Source>(alloc: Global, words: &[String], source: &mut S) -> Re
         Some(Command::Chains(word)) => answer_input(alloc, &word, source),
         Some(Command::Explains) => answer_input(alloc, &Why, source),
         Some(Command::Searches(word)) => find_input(alloc, &word, source),
+        Some(Command::Closes) => find_input(alloc, &ClosureWord, source),
     }
 }
 

@@ -95,7 +95,7 @@ repeats-built most labels chain bound verdict made is sound end told means =
     let same : bound ≡ continued Lower 0 chain [] [] = built-is _ _ made in
     let whole : bound ≡ chain = same ∙ itself chain is sound.lower in
     let valid : verdict_of bound ≡ Accepted Lower (length bound.steps) =
-        ap verdict_of whole ∙ chain-accepted chain sound end ∙ ap (λ (b : Bound). Accepted Lower (length b.steps)) (sym whole) in
+    ap verdict_of whole ∙ chain-accepted chain sound end ∙ ap (λ (b : Bound). Accepted Lower (length b.steps)) (sym whole) in
     goes_on Lower most labels 0 chain bound [] [] same (omega arith) tt valid (subst (λ (v : Verdict). Means v (unnamed bound.first)) told means)
 
 pub repeats : (most labels : ℕ) (chain bound : Bound) (more : List BoundStep) (renaming : List (ℕ × ℕ)) (found : Option Bound) (verdict : Verdict) → more ≡ [] → renaming ≡ []
@@ -103,5 +103,5 @@ pub repeats : (most labels : ℕ) (chain bound : Bound) (more : List BoundStep) 
     → zero_place (unnamed (last_problem chain)) ≡ None → verdict ≡ verdict_of bound → Means verdict (unnamed bound.first) → GoesOn Lower most labels chain bound
 repeats most labels chain bound more renaming found verdict none no_pairs is_built is_found is sound end told means =
     let made : built (continued Lower 0 chain [] []) ≡ Some bound =
-        ap (λ m. built (continued Lower 0 chain m [])) (sym none) ∙ ap (λ r. built (continued Lower 0 chain more r)) (sym no_pairs) ∙ sym is_built ∙ is_found in
+    ap (λ m. built (continued Lower 0 chain m [])) (sym none) ∙ ap (λ r. built (continued Lower 0 chain more r)) (sym no_pairs) ∙ sym is_built ∙ is_found in
     repeats-built most labels chain bound verdict made is sound end told means

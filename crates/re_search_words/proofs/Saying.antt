@@ -2,9 +2,11 @@
 use Rattle.std.proofs.Common.{◌≡◌, ℕ, Bool, true, false, List, Option, Some, None, sym, subst, refl, inl, inr}
 use Rattle.std.specs.Prelude.{if◌then◌else◌, ◌⊎◌}
 use Rattle.re_problem.specs.NamedProblems.{unnamed}
+use Rattle.re_problem.specs.ProblemTexts.{lines_of, problem_of}
 use Rattle.re_problem.specs.Zero.{zero_place}
 use Rattle.re_problem.specs.declared.fault.InputFault.{InputFault}
 use Rattle.re_cert.specs.Bounds.{Bound, last_problem}
+use Rattle.re_cert.specs.CertificateTexts.{certificate_of, text_lines}
 use Rattle.re_cert.specs.declared.certificate.Kind.{Kind}
 use Rattle.re_cert.specs.declared.certificate.Kind.TheVariants.{Fixed, Lower, Upper}
 use Rattle.re_chain_parts.specs.Chains.{chain_kind, chain_of}
@@ -22,9 +24,9 @@ says_as : (outcome given : Outcome) → outcome ≡ given → MaySay given.statu
 says_as outcome given e may = subst (λ (o : Outcome). MaySay o.status true) (sym e) may
 
 find_says : (word : SearchWord) (chain : Bound) (outcome : Outcome) → MayFind word chain outcome → MaySay outcome.status true
-find_says (Longest steps labels) chain outcome may = says_as outcome _ may.1.0 tt
-find_says (Cycle steps merges nodes) chain outcome (inl may) = says_as outcome _ may.1.0 tt
-find_says (Cycle steps merges nodes) chain outcome (inr (inl may)) = says_as outcome _ may.1.1 refl
+find_says (Longest steps labels) chain outcome may = says_as outcome _ may.1 tt
+find_says (Cycle steps merges nodes) chain outcome (inl may) = says_as outcome _ may.1 tt
+find_says (Cycle steps merges nodes) chain outcome (inr (inl may)) = says_as outcome _ may.2 refl
 find_says (Cycle steps merges nodes) chain outcome (inr (inr may)) = says_as outcome _ may tt
 
 behind_says : (place : Option ℕ) (word : SearchWord) (chain : Bound) (outcome : Outcome) → MayFindBehind place word chain outcome → MaySay outcome.status true
@@ -59,4 +61,5 @@ if_open true x y no_x no_y e = no_x e
 if_open false x y no_x no_y e = no_y e
 
 pub text_open : (bytes : List ℕ) → (text_chain bytes).kind ≡ Fixed → ⊥
-text_open bytes e = if_open (is_certificate_text bytes) _ _ (kind_open _) (kind_open Lower) e
+text_open bytes e =
+    if_open (is_certificate_text bytes) (chain_of (certificate_of (text_lines bytes))) (problem_chain (problem_of (lines_of bytes))) (kind_open (certificate_of (text_lines bytes)).kind) (kind_open Lower) e

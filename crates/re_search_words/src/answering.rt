@@ -125,7 +125,7 @@ fn sound_output(alloc: Global, word: SearchWord, chain: &Certificate) -> Result<
     ensures { IfOk result (λ output. MayGiveSound (steps_refusal chain.now) word chain.now (outcome_of output)) }
 {
     match steps_refusal(chain) {
-        Some(verdict) => verdict_output(alloc, verdict),
+        Some(verdict) => Ok(verdict_output(alloc, verdict)?),
         None => chain_output(alloc, word, chain),
     }
 }
@@ -138,7 +138,7 @@ fn text_output(alloc: Global, word: SearchWord, text: &[u8]) -> Result<Output, N
 {
     match read_chain(alloc, text) {
         Ok(chain) => sound_output(alloc, word, &chain),
-        Err(TextFault::Bad(fault)) => fault_output(alloc, fault),
+        Err(TextFault::Bad(fault)) => Ok(fault_output(alloc, fault)?),
         Err(TextFault::NoMemory) => Err(NoMemory),
     }
 }

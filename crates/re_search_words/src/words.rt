@@ -22,7 +22,8 @@ pub enum SearchWord {
 }
 
 fn longest_with(steps: Option<u32>, labels: Option<u32>) -> Option<SearchWord>
-    ensures { result ≡ longest_with steps labels }
+    ensures word { result ≡ longest_with steps labels }
+    ensures fits { IfSome result IsSearchWord }
 {
     let steps = steps?;
     let labels = labels?;
@@ -34,7 +35,8 @@ fn longest_with(steps: Option<u32>, labels: Option<u32>) -> Option<SearchWord>
 }
 
 fn cycle_with(steps: Option<u32>, merges: Option<u32>, nodes: Option<u32>) -> Option<SearchWord>
-    ensures { result ≡ cycle_with steps merges nodes }
+    ensures word { result ≡ cycle_with steps merges nodes }
+    ensures fits { IfSome result IsSearchWord }
 {
     let steps = steps?;
     let merges = merges?;

@@ -1,0 +1,5 @@
+mod Places
+mod Dominations
+mod Combinations
+mod Keeping
+mod NeededSets

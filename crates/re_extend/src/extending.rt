@@ -6,8 +6,8 @@ ghost use Rattle.re_problem.specs.NamedProblems.{unnamed};
 ghost use Rattle.re_problem.specs.Zero.{zero_place};
 ghost use Rattle.std.specs.Prelude.{◌≡◌, ◌++◌, ◌≤◌, IfOk, IfSome, IsTrue, None, length};
 
-use crate::copying::copied_steps;
 use re_cert::{Certificate, Kind, Step};
+use re_chain_parts::copied_steps;
 use re_check::{Verdict, check};
 use re_labels::NoMemory;
 use std::alloc::Global;

@@ -1,7 +1,6 @@
 //! Certificates that go on from a chain of lower steps: what searches build of the steps that they find.
 #![tactic(auto)]
 
-mod copying;
 mod extending;
 mod stepping;
 

@@ -1,0 +1,11 @@
+use Rattle.std.proofs.Common.{◌≡◌, ◌-◌, Some, length}
+use Rattle.re_bridge.proofs.WalkLemmas.{Partial}
+use Rattle.re_bridge.specs.Bridges.{passes_by_set}
+use Rattle.re_bridge.specs.Walking.{walk, walk_from}
+use Rattle.re_bridge.proofs.walking.walk_by_set.Given as goal
+
+abbrev pub invariant-loop-try : goal.invariant-loop-try
+invariant-loop-try l = record {
+  so_far : walk (passes_by_set l.before l.next) (length l.next.names) (length l.sets) l.tries ≡ walk_from (passes_by_set l.before l.next) (length l.next.names) (length l.sets) (l.tries - l._try) (Some l.labels.items);
+  partial : Partial (length l.next.names) (length l.sets) l.labels.items;
+}

@@ -1,0 +1,3 @@
+pub mod Bridges
+pub mod Laws
+pub mod Walking

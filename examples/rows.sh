@@ -42,6 +42,7 @@ rows_of() {
         function end_command(    words, file, i, name, parts, count) {
             if (command == "") return
             words = command
+            gsub(/ *\\ */, " ", words)
             command = ""
             count = split(words, parts, / \| /)
             for (i = 1; i <= count; i++) if (parts[i] !~ /^(re|explore) /) return

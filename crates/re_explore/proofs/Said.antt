@@ -1,9 +1,11 @@
 -- What a run may say, by the words alone.
-use Rattle.std.proofs.Common.{◌≡◌, ◌≢◌, ℕ, List, Option, Some, None, Result, Ok, Err, refl, sym, ap, ◌∙◌, subst}
+use Rattle.std.proofs.Common.{◌≡◌, ◌≢◌, ◌++◌, append_assoc, ℕ, List, Option, Some, None, Result, Ok, Err, refl, sym, ap, ◌∙◌, subst}
 use Rattle.std.specs.Prelude.{IfOk, IsTrue}
 use Rattle.re_frame.specs.Outcomes.{IsAnswer, Outcome, outcome_of, status_of}
 use Rattle.re_frame.specs.Runs.{MaySay}
 use Rattle.re_frame.specs.declared.output.Output.{Output}
+use Rattle.re_frame.specs.declared.status.Answer.{Answer}
+use Rattle.re_frame.specs.declared.status.Answer.TheVariants as answered
 use Rattle.re_frame.specs.declared.status.Status.{Status}
 use Rattle.re_frame.specs.declared.status.Status.TheVariants.{BadInput, BadWords, Done, Limit, No, NoMemory, ReadFault, WriteFault}
 use Rattle.re_explore.specs.Commands.{bad_words, command_of, is_judging}
@@ -41,3 +43,15 @@ is_answer Limit memory read write = tt
 is_answer ReadFault memory read write = absurd (read refl)
 is_answer WriteFault memory read write = absurd (write refl)
 is_answer NoMemory memory read write = absurd (memory refl)
+
+-- six texts one behind the other
+pub joined : (a b c d e f : List ℕ) → ((((a ++ b) ++ c) ++ d) ++ e) ++ f ≡ a ++ (b ++ (c ++ (d ++ (e ++ f))))
+joined a b c d e f = append_assoc (((a ++ b) ++ c) ++ d) e f ∙ append_assoc ((a ++ b) ++ c) d (e ++ f) ∙ append_assoc (a ++ b) c (d ++ (e ++ f)) ∙ append_assoc a b (c ++ (d ++ (e ++ f)))
+
+-- a command that is done answers Done
+pub done_is : (answer : Answer) → status_of answer ≡ Done → answer ≡ answered.Done
+done_is answered.Done e = refl
+done_is answered.No e = absurd (cc)
+done_is answered.BadWords e = absurd (cc)
+done_is answered.BadInput e = absurd (cc)
+done_is answered.Limit e = absurd (cc)

@@ -1,16 +1,19 @@
 -- What a run may say, by the words alone.
 use Rattle.std.proofs.Common.{◌≡◌, ◌≢◌, ◌++◌, append_assoc, ℕ, List, Option, Some, None, Result, Ok, Err, refl, sym, ap, ◌∙◌, subst}
 use Rattle.std.specs.Prelude.{IfOk, IsTrue}
-use Rattle.re_frame.specs.Outcomes.{IsAnswer, Outcome, outcome_of, status_of}
+use Rattle.re_frame.specs.Outcomes.{IsAnswer, Outcome, outcome_of, status_of, within_limit}
 use Rattle.re_frame.specs.Runs.{MaySay}
 use Rattle.re_frame.specs.declared.output.Output.{Output}
 use Rattle.re_frame.specs.declared.status.Answer.{Answer}
 use Rattle.re_frame.specs.declared.status.Answer.TheVariants as answered
 use Rattle.re_frame.specs.declared.status.Status.{Status}
 use Rattle.re_frame.specs.declared.status.Status.TheVariants.{BadInput, BadWords, Done, Limit, No, NoMemory, ReadFault, WriteFault}
-use Rattle.re_explore.specs.Commands.{bad_words, command_of, is_judging}
-use Rattle.re_explore.specs.Expected.{Says}
+use Rattle.re_chain_words.specs.Answers.{WordWorth, word_outcome}
+use Rattle.re_chain_words.specs.declared.words.ChainWord.{ChainWord}
+use Rattle.re_explore.specs.Commands.{IsOutcome, bad_words, command_of, is_judging, is_reading}
+use Rattle.re_explore.specs.Expected.{IsExpected, IsInput, Says}
 use Rattle.re_explore.specs.declared.command.Command.{Command}
+use Rattle.re_explore.specs.declared.command.Command.TheVariants.{Chains}
 
 pub says_none : (words : List (List ℕ)) (output : Output) → None ≡ command_of words → outcome_of output ≡ bad_words → Says (status_of output.answer) (command_of words)
 unfolding bad_words
@@ -55,3 +58,13 @@ done_is answered.No e = absurd (cc)
 done_is answered.BadWords e = absurd (cc)
 done_is answered.BadInput e = absurd (cc)
 done_is answered.Limit e = absurd (cc)
+
+-- a word over chains has its outcome, and what this is worth
+pub chains_expected : {E : Type 0} (words : List (List ℕ)) (left : Option (List ℕ)) (word : ChainWord) (result : Result Output E) → Some (Chains word) ≡ command_of words
+    → IfOk result (λ output. (bytes : List ℕ) → left ≡ Some bytes → outcome_of output ≡ within_limit (word_outcome word) bytes)
+    → IfOk result (λ output. output.answer ≡ answered.Done → WordWorth word output.text.items)
+    → IfOk result (λ output. (bytes : List ℕ) → IsInput words left bytes → IsExpected words bytes (outcome_of output))
+chains_expected words left word (Ok output) is given worth = λ bytes input.
+    subst (λ command. IsOutcome command bytes (outcome_of output)) is
+    (given bytes (input (subst (λ command. IsTrue (is_reading command)) is refl)), λ done. worth (done_is output.answer done))
+chains_expected words left word (Err fault) is given worth = tt

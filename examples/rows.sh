@@ -95,6 +95,7 @@ examples_of() {
             if (text ~ /^<== certificate [12] upper/ && text !~ /== step.*== step/) return "check extract"
             if (text ~ /^<== certificate/) return "check"
             if (text ~ /^<== from/) return "relax rename"
+            if (text ~ /<== to/) return ""
             if (text ~ /== next/) return "slower"
             if (text ~ /^<== problem/) return "table faster"
             return "read"

@@ -1,0 +1,6 @@
+mod CutLines
+mod NoBridge
+mod Outcomes
+mod ProblemLines
+mod Splits
+mod Wholes

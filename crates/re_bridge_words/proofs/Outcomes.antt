@@ -1,0 +1,73 @@
+-- What is given to a chain, case by case, and what may be said.
+use Rattle.std.proofs.Common.{◌≡◌, ℕ, suc, ◌<◌, Bool, true, false, List, length, refl, ap, ◌∙◌, codes, Option, Some, None}
+use Rattle.std.specs.Prelude.{if◌then◌else◌, nat_lt}
+use Rattle.re_labels.proofs.Tests.{true-below}
+use Rattle.re_problem.specs.NamedProblems.{NamedProblem}
+use Rattle.re_cert.specs.Bounds.{Bound, last_problem}
+use Rattle.re_cert.specs.declared.certificate.Kind.{Kind}
+use Rattle.re_cert.specs.declared.certificate.Kind.TheVariants.{Fixed, Lower, Upper}
+use Rattle.re_cert.specs.declared.certificate.TheConstants.{MAX_STEPS}
+use Rattle.re_check.specs.declared.verdict.Verdict.{Verdict}
+use Rattle.re_chain_texts.proofs.WordsGiven.{or_fault_says}
+use Rattle.re_chain_texts.specs.OverChains.{or_refusal, steps_refusal}
+use Rattle.re_frame.proofs.Said.{check_says}
+use Rattle.re_frame.specs.Outcomes.{Outcome, limit}
+use Rattle.re_frame.specs.Runs.{MaySay}
+use Rattle.re_frame.specs.StepLimits.{limit_line}
+use Rattle.re_step.specs.declared.derivation.StepLimit.TheVariants.{Rows}
+use Rattle.re_bridge.specs.Bridges.{Bridge, bridge_of, cut_off, has_many_rows, missing, over}
+use Rattle.re_bridge_words.specs.BridgeTexts.{bridge_fault, given_chain, given_problem}
+use Rattle.re_bridge_words.specs.BridgeWords.{bridge_outcome, kind_outcome, over_bridge, sound_outcome, text_outcome}
+use Rattle.re_bridge_words.specs.declared.answering.TheConstants.{MAX_TRIES}
+
+-- ---- by cases
+
+module _ (next : NamedProblem) (chain : Bound) where
+  roomy : length chain.steps < MAX_STEPS → (many : Bool) → has_many_rows (last_problem chain) next ≡ many → (bridge : Bridge) → bridge_of (last_problem chain) next MAX_TRIES ≡ bridge
+      → bridge_outcome next chain ≡ (if many then limit (limit_line (suc (length chain.steps)) Rows) else over_bridge bridge next chain)
+  roomy room many is bridge found =
+      ap (λ b. if b then if has_many_rows (last_problem chain) next then limit (limit_line (suc (length chain.steps)) Rows) else over_bridge (bridge_of (last_problem chain) next MAX_TRIES) next chain
+      else limit (codes "limit: more than 64 steps\n")) (true-below (length chain.steps) MAX_STEPS room)
+      ∙ ap (λ b. if b then limit (limit_line (suc (length chain.steps)) Rows) else over_bridge (bridge_of (last_problem chain) next MAX_TRIES) next chain) is
+      ∙ ap (λ b. if many then limit (limit_line (suc (length chain.steps)) Rows) else over_bridge b next chain) found
+
+  -- there are too many rows
+  pub many_rows : length chain.steps < MAX_STEPS → has_many_rows (last_problem chain) next ≡ true → bridge_outcome next chain ≡ limit (limit_line (suc (length chain.steps)) Rows)
+  many_rows room many = roomy room true many (bridge_of (last_problem chain) next MAX_TRIES) refl
+
+  -- the bridge tells
+  pub by_bridge : length chain.steps < MAX_STEPS → has_many_rows (last_problem chain) next ≡ false → (bridge : Bridge) → bridge_of (last_problem chain) next MAX_TRIES ≡ bridge
+      → bridge_outcome next chain ≡ over_bridge bridge next chain
+  by_bridge room few bridge found = roomy room false few bridge found
+
+-- ---- what may be said
+over_says : (bridge : Bridge) (next : NamedProblem) (chain : Bound) → MaySay (over_bridge bridge next chain).status true
+over_says (over map) next chain = tt
+over_says missing next chain = refl
+over_says cut_off next chain = tt
+
+many_says : (many : Bool) (bridge : Bridge) (next : NamedProblem) (chain : Bound)
+    → MaySay (if many then limit (limit_line (suc (length chain.steps)) Rows) else over_bridge bridge next chain).status true
+many_says true bridge next chain = tt
+many_says false bridge next chain = over_says bridge next chain
+
+room_says : (room many : Bool) (bridge : Bridge) (next : NamedProblem) (chain : Bound)
+    → MaySay (if room then if many then limit (limit_line (suc (length chain.steps)) Rows) else over_bridge bridge next chain else limit (codes "limit: more than 64 steps\n")).status true
+room_says true many bridge next chain = many_says many bridge next chain
+room_says false many bridge next chain = tt
+
+kind_says : (kind : Kind) (next : NamedProblem) (chain : Bound) → MaySay (kind_outcome kind next chain).status true
+kind_says Lower next chain = room_says (nat_lt (length chain.steps) MAX_STEPS) (has_many_rows (last_problem chain) next) (bridge_of (last_problem chain) next MAX_TRIES) next chain
+kind_says Upper next chain = refl
+kind_says Fixed next chain = room_says (nat_lt (length chain.steps) MAX_STEPS) (has_many_rows (last_problem chain) next) (bridge_of (last_problem chain) next MAX_TRIES) next chain
+
+refusal_says : (refusal : Option Verdict) (outcome : Outcome) → MaySay outcome.status true → MaySay (or_refusal refusal outcome).status true
+refusal_says (Some verdict) outcome says = check_says verdict
+refusal_says None outcome says = says
+
+sound_says : (next : NamedProblem) (chain : Bound) → MaySay (sound_outcome next chain).status true
+sound_says next chain = refusal_says (steps_refusal chain) (kind_outcome chain.kind next chain) (kind_says chain.kind next chain)
+
+pub text_says : (bytes : List ℕ) → MaySay (text_outcome bytes).status true
+unfolding text_outcome
+text_says bytes = or_fault_says (bridge_fault bytes) (sound_outcome (given_problem bytes) (given_chain bytes)) true (sound_says (given_problem bytes) (given_chain bytes))

@@ -1,0 +1,52 @@
+-- The word `bridge`, and what it answers.
+use Rattle.std.specs.Prelude.{ℕ, suc, Bool, false, nat_lt, List, [], ◌∷◌, codes, length, if◌then◌else◌}
+use Rattle.std.specs.Str.{bytes_eq}
+use Rattle.re_problem.specs.NamedProblems.{NamedProblem}
+use Rattle.re_cert.specs.Bounds.{Bound, last_problem}
+use Rattle.re_cert.specs.declared.certificate.Kind.{Kind}
+use Rattle.re_cert.specs.declared.certificate.Kind.TheVariants.{Upper}
+use Rattle.re_cert.specs.declared.certificate.TheConstants.{MAX_STEPS}
+use Rattle.re_chain_texts.specs.OverChains.{certificate_outcome, or_fault, or_refusal, steps_refusal}
+use Rattle.re_frame.specs.Outcomes.{Outcome, limit, refused}
+use Rattle.re_frame.specs.StepLimits.{limit_line}
+use Rattle.re_step.specs.declared.derivation.StepLimit.TheVariants.{Rows}
+use Rattle.re_bridge.specs.Bridges.{Bridge, bridge_of, cut_off, has_many_rows, missing, over}
+use Rattle.re_bridge_chain.specs.Bridged.{bridged}
+use Rattle.re_bridge_words.specs.BridgeTexts.{bridge_fault, given_chain, given_problem}
+use Rattle.re_bridge_words.specs.declared.answering.TheConstants.{MAX_TRIES}
+
+-- the words are this one
+abbrev pub names_bridge : List (List ℕ) → Bool
+names_bridge (word ∷ []) = bytes_eq (codes "bridge") word
+names_bridge words = false
+
+-- the line of help
+unfoldable pub bridge_help : List ℕ
+bridge_help = codes "bridge: reads a chain of kind lower, a line == to and a problem, gives the chain with one more step, to this problem\n"
+
+-- ---- answers
+-- the chain with the step by the map of the bridge, or that there is none, or that the tries don't suffice
+abbrev pub over_bridge : Bridge → NamedProblem → Bound → Outcome
+over_bridge (over map) next chain = certificate_outcome (bridged chain next map)
+over_bridge missing next chain = refused (codes "no\n")
+over_bridge cut_off next chain = limit (codes "limit: more than 1000000 tries\n")
+
+-- the limits that come before: of the steps of a chain, and of the rows of a step
+abbrev pub bridge_outcome : NamedProblem → Bound → Outcome
+bridge_outcome next chain =
+    if nat_lt (length chain.steps) MAX_STEPS
+    then if has_many_rows (last_problem chain) next then limit (limit_line (suc (length chain.steps)) Rows) else over_bridge (bridge_of (last_problem chain) next MAX_TRIES) next chain
+    else limit (codes "limit: more than 64 steps\n")
+
+-- a chain of kind upper is refused
+abbrev pub kind_outcome : Kind → NamedProblem → Bound → Outcome
+kind_outcome Upper next chain = refused (codes "no: not a lower chain\n")
+kind_outcome kind next chain = bridge_outcome next chain
+
+-- the line of `check` for the first step that fails, and else what is given to the chain
+abbrev pub sound_outcome : NamedProblem → Bound → Outcome
+sound_outcome next chain = or_refusal (steps_refusal chain) (kind_outcome chain.kind next chain)
+
+-- what the word gives to a text
+unfoldable pub text_outcome : List ℕ → Outcome
+text_outcome bytes = or_fault (bridge_fault bytes) (sound_outcome (given_problem bytes) (given_chain bytes))

@@ -1,0 +1,157 @@
+//! The word, and what it answers.
+ghost use Rattle.re_bridge.specs.Bridges.{has_many_rows};
+ghost use Rattle.re_bridge_words.specs.BridgeWords.{bridge_help, bridge_outcome, kind_outcome, names_bridge, sound_outcome, text_outcome};
+ghost use Rattle.re_cert.specs.Bounds.{last_problem};
+ghost use Rattle.re_cert.specs.declared.certificate.Kind.TheVariants.{Fixed, Lower};
+ghost use Rattle.re_cert.specs.declared.certificate.TheConstants.{MAX_STEPS};
+ghost use Rattle.re_chain_parts.specs.Chains.{IsSound};
+ghost use Rattle.re_chain_texts.specs.OverChains.{IsSoundText};
+ghost use Rattle.re_frame.specs.Outcomes.{limit as limited_by, outcome_of};
+ghost use Rattle.re_io.specs.declared.read.TheConstants.{MAX_BYTES};
+ghost use Rattle.std.specs.Prelude.{◌≡◌, ◌<◌, ◌≤◌, IfOk, length, map, string_bytes, suc};
+
+use crate::reading::{BridgeInput, read_bridge};
+use re_bridge::BridgeFault;
+use re_bridge_chain::bridge;
+use re_cert::{Certificate, Kind, MAX_STEPS};
+use re_chain_texts::{certificate_output, steps_refusal};
+use re_frame::{
+    Answer, Answering, Output, begun, fault_output, limit_output, refused, verdict_output,
+};
+use re_labels::NoMemory;
+use re_problem::{Problem, TextFault};
+use re_step::StepLimit;
+use std::alloc::Global;
+
+/// The most tries of each of the two walks: over maps by sets, and over maps by rows.
+pub const MAX_TRIES: u32 = 1_000_000;
+
+/// The word `bridge`. It reads its input as a whole, and takes the time of `check` on the chain, beside that of `bridge` of
+/// `re_bridge_chain` with `MAX_TRIES` tries.
+#[derive(Clone, Copy, Debug, PartialEq, Eq)]
+pub struct BridgeWord;
+
+/// Whether the words are this word.
+pub fn names_bridge(words: &[String]) -> bool
+    ensures { result ≡ names_bridge (map string_bytes words.now) }
+{
+    match words {
+        [word] => "bridge" == word.as_str(),
+        _ => false,
+    }
+}
+
+/// The line of help.
+#[tactic(auto, unfolding(crate::specs::BridgeWords::bridge_help))]
+pub fn bridge_help() -> &'static str
+    ensures { result.now ≡ bridge_help }
+{
+    "bridge: reads a chain of kind lower, a line == to and a problem, gives the chain with one more step, to this problem\n"
+}
+
+// The output of a line that tells of a limit.
+fn limited(alloc: Global, line: &str) -> Result<Output, NoMemory>
+    ensures output { IfOk result (λ output. outcome_of output ≡ limited_by line.now) }
+    ensures limit { IfOk result (λ output. output.answer ≡ Answer.Limit) }
+{
+    Ok(Output {
+        answer: Answer::Limit,
+        text: begun(alloc, line)?,
+    })
+}
+
+// The number of the step that would come next.
+fn next_number(chain: &Certificate) -> u8
+    ensures { result ≡ suc (length chain.now.steps) }
+{
+    chain.steps().len() as u8 + 1
+}
+
+// What the word gives to a sound chain of kind lower that has room for a step.
+fn found_output(alloc: Global, chain: &Certificate, to: &Problem) -> Result<Output, NoMemory>
+    requires kind { chain.now.kind ≡ Lower }
+    requires sound { IsSound chain.now }
+    requires room { length chain.now.steps < MAX_STEPS }
+    ensures output { IfOk result (λ output. outcome_of output ≡ bridge_outcome to.now chain.now) }
+    ensures worth { IfOk result (λ output. output.answer ≡ Answer.Done → IsSoundText output.text.items) }
+{
+    match bridge(alloc, chain, to, MAX_TRIES) {
+        Ok(Some(longer)) => certificate_output(alloc, &longer),
+        Ok(None) => Ok(refused(begun(alloc, "no\n")?)),
+        Err(BridgeFault::TooManyTries) => limited(alloc, "limit: more than 1000000 tries\n"),
+        Err(BridgeFault::TooManyRows) => limit_output(alloc, next_number(chain), StepLimit::Rows),
+        Err(BridgeFault::NoMemory) => Err(NoMemory),
+    }
+}
+
+// What the word gives to a sound chain of kind lower.
+fn lower_output(alloc: Global, chain: &Certificate, to: &Problem) -> Result<Output, NoMemory>
+    requires kind { chain.now.kind ≡ Lower }
+    requires sound { IsSound chain.now }
+    ensures output { IfOk result (λ output. outcome_of output ≡ bridge_outcome to.now chain.now) }
+    ensures worth { IfOk result (λ output. output.answer ≡ Answer.Done → IsSoundText output.text.items) }
+{
+    if chain.steps().len() < MAX_STEPS {
+        found_output(alloc, chain, to)
+    } else {
+        limited(alloc, "limit: more than 64 steps\n")
+    }
+}
+
+// What the word gives to a chain each step of which meets its clauses.
+fn kind_output(alloc: Global, chain: &Certificate, to: &Problem) -> Result<Output, NoMemory>
+    requires sound { IsSound chain.now }
+    requires open { chain.now.kind ≡ Fixed → ⊥ }
+    ensures output { IfOk result (λ output. outcome_of output ≡ kind_outcome chain.now.kind to.now chain.now) }
+    ensures worth { IfOk result (λ output. output.answer ≡ Answer.Done → IsSoundText output.text.items) }
+{
+    match chain.kind() {
+        Kind::Lower => lower_output(alloc, chain, to),
+        Kind::Upper => Ok(refused(begun(alloc, "no: not a lower chain\n")?)),
+        Kind::Fixed => unreachable!(),
+    }
+}
+
+// What the word gives to a chain.
+fn sound_output(alloc: Global, input: &BridgeInput) -> Result<Output, NoMemory>
+    requires { input.now.chain.kind ≡ Fixed → ⊥ }
+    ensures output { IfOk result (λ output. outcome_of output ≡ sound_outcome input.now.to input.now.chain) }
+    ensures worth { IfOk result (λ output. output.answer ≡ Answer.Done → IsSoundText output.text.items) }
+{
+    match steps_refusal(&input.chain) {
+        Some(verdict) => Ok(verdict_output(alloc, verdict)?),
+        None => kind_output(alloc, &input.chain, &input.to),
+    }
+}
+
+// What the word gives to a text.
+#[tactic(auto, unfolding(crate::specs::BridgeWords::text_outcome))]
+fn text_output(alloc: Global, text: &[u8]) -> Result<Output, NoMemory>
+    requires { length text.now ≤ MAX_BYTES }
+    ensures output { IfOk result (λ output. outcome_of output ≡ text_outcome text.now) }
+    ensures worth { IfOk result (λ output. output.answer ≡ Answer.Done → IsSoundText output.text.items) }
+{
+    match read_bridge(alloc, text) {
+        Ok(input) => sound_output(alloc, &input),
+        Err(TextFault::Bad(fault)) => Ok(fault_output(alloc, fault)?),
+        Err(TextFault::NoMemory) => Err(NoMemory),
+    }
+}
+
+impl Answering for BridgeWord {
+    ghost use Rattle.std.specs.Prelude.{true};
+    ghost use Rattle.re_bridge_words.specs.BridgeWords.{text_outcome};
+    ghost use Rattle.re_chain_texts.specs.OverChains.{IsSoundText};
+
+    ghost fits = { λ _. Unit {0} };
+
+    ghost outcome = { λ _ bytes. text_outcome bytes };
+
+    ghost worth = { λ _ text. IsSoundText text };
+
+    ghost judging = { λ _. true };
+
+    fn answer(&self, alloc: Global, text: Vec<u8>) -> Result<Output, NoMemory> {
+        text_output(alloc, text.as_slice())
+    }
+}

@@ -1,0 +1,4 @@
+pub mod Appending
+pub mod Covering
+pub mod Lines
+pub mod Thinning

@@ -4,16 +4,14 @@ use re_changes::Changed;
 use re_extend::Stop;
 use re_labels::NoMemory;
 use re_problem::{LabelMap, Problem};
-use re_renaming::{Colours, first_colours, renaming_to};
+use re_renaming::{Coloured, Renaming, renaming_to};
 use std::alloc::Global;
 
-/// A problem that was looked at: the colours of its labels and their number, the place of the problem of which it was made, the labels that
-/// those of the derived problem have become, and how many steps lead to it.
+/// A problem that was looked at, with the colours of its labels: the place of the problem of which it was made, the labels that those of
+/// the derived problem have become, and how many steps lead to it.
 #[derive(Drop)]
 pub(crate) struct Node {
-    pub(crate) problem: Problem,
-    pub(crate) colours: Colours,
-    pub(crate) mark: u64,
+    pub(crate) coloured: Coloured,
     pub(crate) parent: usize,
     pub(crate) images: Vec<Option<u8>>,
     pub(crate) depth: u8,
@@ -36,12 +34,8 @@ pub(crate) struct Nodes {
 
 // A problem without a step to it.
 fn first_node(alloc: Global, problem: &Problem) -> Result<Node, NoMemory> {
-    let colours = first_colours(problem);
-    let mark = colours.mark();
     Ok(Node {
-        problem: problem.copy()?,
-        colours,
-        mark,
+        coloured: Coloured::new(problem.copy()?),
         parent: 0,
         images: Vec::new(alloc),
         depth: 0,
@@ -55,31 +49,26 @@ pub(crate) fn node_of(
     parent: usize,
     depth: u8,
 ) -> Result<Node, NoMemory> {
-    let problem = made.problem().copy()?;
-    let colours = first_colours(&problem);
-    let mark = colours.mark();
     Ok(Node {
-        problem,
-        colours,
-        mark,
+        coloured: Coloured::new(made.problem().copy()?),
         parent,
         images: Vec::from_slice(alloc, made.images())?,
         depth,
     })
 }
 
-// The renaming that makes the first problem the second, if one is found.
+// The renaming that makes the first problem the second, if one is found: there is none, or too many labels would have to be tried.
 fn renaming(from: &Node, to: &Node) -> Option<LabelMap> {
-    if from.mark != to.mark {
-        return None;
+    match renaming_to(&from.coloured, &to.coloured) {
+        Renaming::Found(map) => Some(map),
+        Renaming::Missing | Renaming::TooMany => None,
     }
-    renaming_to(&from.problem, &to.problem, &from.colours, &to.colours)
 }
 
 // The problem as one on a path.
 fn stop_of(alloc: Global, node: &Node) -> Result<Stop, NoMemory> {
     Ok(Stop {
-        problem: node.problem.copy()?,
+        problem: node.coloured.problem().copy()?,
         images: Vec::from_slice(alloc, node.images.as_slice())?,
     })
 }

@@ -159,7 +159,7 @@ impl Walk {
             parent: place,
             depth: node.depth.saturating_add(1),
         };
-        match step(self.alloc, &node.problem) {
+        match step(self.alloc, node.coloured.problem()) {
             Ok(derived) => {
                 let Derived { problem, .. } = derived;
                 self.spread(problem, origin)

@@ -1,10 +1,15 @@
 //! Numbers by which problems and configurations are compared: equal for equal ones, and for others hardly ever.
+ghost use Rattle.re_marks.specs.Mixing.{mixed};
+ghost use Rattle.std.specs.Prelude.{◌≡◌};
+
 use re_config::Config;
 use re_problem::Problem;
 use re_table::Constraint;
 
 /// The number with its bits mixed.
-pub fn mixed(number: u64) -> u64 {
+pub fn mixed(number: u64) -> u64
+    ensures { result ≡ mixed number }
+{
     let number = (number ^ (number >> 30)).wrapping_mul(0xBF58_476D_1CE4_E5B9);
     let number = (number ^ (number >> 27)).wrapping_mul(0x94D0_49BB_1331_11EB);
     number ^ (number >> 31)

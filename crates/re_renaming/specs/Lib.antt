@@ -1,1 +1,4 @@
+pub mod Colours
 pub mod Renamings
+pub mod Tries
+pub mod Answers

@@ -1,8 +1,13 @@
 //! The search for a renaming.
+ghost use Rattle.re_problem.specs.NamedProblems.{IsNamedProblem};
+ghost use Rattle.re_renaming.specs.Answers.{Answers, AnswersBy, AreApart, IsLost, IsMapBy, IsSettled, Takes};
+ghost use Rattle.re_renaming.specs.Colours.{colour_at};
 ghost use Rattle.re_renaming.specs.Renamings.{IsRenaming};
+ghost use Rattle.re_renaming.specs.Tries.{first_shared, tries_of};
 ghost use Rattle.std.specs.List.{AllByRecursion};
-ghost use Rattle.std.specs.Prelude.{◌≡◌, ◌<◌, IfSome, IsTrue, length};
+ghost use Rattle.std.specs.Prelude.{◌≡◌, ◌<◌, ◌≤◌, ◌↔◌, ℕ, IfSome, IfNone, IsTrue, MatchOption, length, List};
 
+use crate::coloured::Coloured;
 use crate::colours::Colours;
 use arrayvec::ArrayVec;
 use re_labels::MAX_LABELS;
@@ -12,9 +17,20 @@ use re_problem::{LabelMap, Problem};
 /// How many labels are tried at most.
 pub const MAX_TRIES: u32 = 1000;
 
+/// What the search for a renaming answers.
+#[derive(Drop)]
+pub enum Renaming {
+    /// A renaming, as the images of the labels.
+    Found(LabelMap),
+    /// There is none.
+    Missing,
+    /// None was found among the most labels that are tried. This says nothing of the problems.
+    TooMany,
+}
+
 // Whether each image is below the number.
 fn are_below(images: &[u8], labels: usize) -> bool
-    ensures { IsTrue result → AllByRecursion (λ image. image < labels) images.now }
+    ensures { IsTrue result ↔ AllByRecursion (λ image. image < labels) images.now }
 {
     let [image, others @ ..] = images else {
         return true;
@@ -22,50 +38,78 @@ fn are_below(images: &[u8], labels: usize) -> bool
     (*image as usize) < labels && are_below(others, labels)
 }
 
-// The map, where it is a renaming.
-fn judged(from: &Problem, to: &Problem, map: LabelMap) -> Option<LabelMap>
-    ensures { IfSome result (IsRenaming from.now to.now) }
+// Whether the map is a renaming.
+fn is_renaming(from: &Problem, to: &Problem, map: &LabelMap) -> bool
+    ensures { IsTrue result ↔ IsRenaming from.now to.now map.now }
 {
     if map.images().len() != from.names().len() {
-        return None;
+        return false;
     }
     if !are_below(map.images(), to.names().len()) {
-        return None;
+        return false;
     }
-    match renames(from, to, &map) {
-        MapVerdict::Yes => Some(map),
-        _ => None,
-    }
+    renames(from, to, map) == MapVerdict::Yes
 }
 
 // The first label of this colour.
-fn label_of(colours: &Colours, colour: u64) -> Option<u8> {
-    for label in 0..MAX_LABELS {
-        if colours.of(label) == colour {
-            return Some(label);
+fn label_of(colours: &Colours, colour: u64) -> Option<u8>
+    ensures { MatchOption result ((label : ℕ) → label < length colours.now → colour_at colours.now label ≡ colour → ⊥) (λ label. (label < length colours.now) × (colour_at colours.now label ≡ colour)) }
+{
+    for (label, other) in colours.all().iter().enumerate() {
+        if *other == colour {
+            return Some(label as u8);
         }
     }
     None
 }
 
-// The map from each label to the first one of its colour.
-fn map_by(colours: &Colours, others: &Colours) -> Option<LabelMap> {
+// The map from each label to the first one of its colour, where each has one.
+fn map_by(colours: &Colours, others: &Colours) -> Option<LabelMap>
+    ensures { MatchOption result (IsLost colours.now others.now) (IsMapBy colours.now others.now) }
+{
     let mut images: ArrayVec<u8, 128> = ArrayVec::new();
     for colour in colours.all() {
-        let image = label_of(others, *colour)?;
-        if images.len() < MAX_LABELS as usize {
-            images.push(image);
-        }
+        let Some(image) = label_of(others, *colour) else {
+            return None;
+        };
+        images.push(image);
     }
-    LabelMap::new(images.as_slice())
+    match LabelMap::new(images.as_slice()) {
+        Some(map) => Some(map),
+        None => unreachable!(),
+    }
 }
 
-// The first label that has a colour with another one.
-fn first_shared(colours: &Colours) -> Option<u8> {
+// What there is where the colours of the first problem are all different.
+fn renaming_of(from: &Problem, to: &Problem, colours: &Colours, others: &Colours) -> Renaming
+    requires apart { AreApart colours.now }
+    requires from { IsNamedProblem from.now }
+    requires to { IsNamedProblem to.now }
+    ensures answer { AnswersBy from.now to.now colours.now others.now result }
+    ensures settled { IsSettled result }
+{
+    match map_by(colours, others) {
+        Some(map) => {
+            if is_renaming(from, to, &map) {
+                Renaming::Found(map)
+            } else {
+                Renaming::Missing
+            }
+        }
+        None => Renaming::Missing,
+    }
+}
+
+// The first label that has a colour with a later one, and so with another one.
+fn first_shared(colours: &Colours) -> Option<u8>
+    ensures none { IfNone result (AreApart colours.now) }
+    ensures some { IfSome result (λ label. label < length colours.now) }
+    ensures first { result ≡ first_shared colours.now }
+{
     let all = colours.all();
-    for (label, colour) in (0..MAX_LABELS).zip(all) {
-        if all.iter().filter(|other| *other == colour).count() > 1 {
-            return Some(label);
+    for (label, colour) in all.iter().enumerate() {
+        if all[label + 1..].contains(colour) {
+            return Some(label as u8);
         }
     }
     None
@@ -79,43 +123,58 @@ fn renaming_by(
     others: &Colours,
     left: u8,
     tries: &mut u32,
-) -> Option<LabelMap>
-    ensures { IfSome result (IsRenaming from.now to.now) }
+) -> Renaming
+    requires from { IsNamedProblem from.now }
+    requires to { IsNamedProblem to.now }
+    requires few { tries.old ≤ MAX_TRIES }
+    ensures answer { AnswersBy from.now to.now colours.now others.now result }
+    ensures tries { Takes tries.old tries.new (tries_of left from.now to.now colours.now others.now) result }
 {
     if colours.mark() != others.mark() {
-        return None;
+        return Renaming::Missing;
     }
     let Some(single) = first_shared(colours) else {
-        return judged(from, to, map_by(colours, others)?);
+        return renaming_of(from, to, colours, others);
     };
     if left == 0 {
-        return None;
+        return Renaming::TooMany;
     }
-    let refined = colours.with_single(single).refined(from);
-    for label in 0..MAX_LABELS {
-        if others.of(label) == colours.of(single) && *tries > 0 {
-            *tries -= 1;
-            let next = others.with_single(label).refined(to);
-            let found = renaming_by(from, to, &refined, &next, left - 1, tries);
-            if found.is_some() {
-                return found;
-            }
+    let colour = colours.of(single);
+    let refined = colours.with_single(single).refined(from, MAX_LABELS);
+    for label in 0..others.all().len() as u8 {
+        if others.of(label) != colour {
+            continue;
+        }
+        if *tries == 0 {
+            return Renaming::TooMany;
+        }
+        *tries -= 1;
+        let next = others.with_single(label).refined(to, MAX_LABELS);
+        match renaming_by(from, to, &refined, &next, left - 1, tries) {
+            Renaming::Found(map) => return Renaming::Found(map),
+            Renaming::Missing => {}
+            Renaming::TooMany => return Renaming::TooMany,
         }
     }
-    None
+    Renaming::Missing
 }
 
-/// A renaming that makes the first problem the second, where these are the colours of their labels. What it answers is one; it may miss
-/// one where more than `MAX_TRIES` labels would have to be tried. The cost of a try is that of refining the colours of both problems, each
-/// time with a pass over all configurations.
-pub fn renaming_to(
-    from: &Problem,
-    to: &Problem,
-    colours: &Colours,
-    others: &Colours,
-) -> Option<LabelMap>
-    ensures { IfSome result (IsRenaming from.now to.now) }
+/// A renaming that makes the first problem the second: what it answers is one, `Missing` comes only where there is none, and `TooMany`
+/// only where a whole search tries more than `MAX_TRIES` labels. The cost of a try is that of refining the colours of both problems, each
+/// time with a pass over all configurations. Where the marks of the colours are different, there is no try.
+pub fn renaming_to(from: &Coloured, to: &Coloured) -> Renaming
+    ensures { Answers from.now to.now result }
 {
+    if from.mark() != to.mark() {
+        return Renaming::Missing;
+    }
     let mut tries = MAX_TRIES;
-    renaming_by(from, to, colours, others, MAX_LABELS, &mut tries)
+    renaming_by(
+        from.problem(),
+        to.problem(),
+        from.colours(),
+        to.colours(),
+        MAX_LABELS,
+        &mut tries,
+    )
 }

@@ -11,8 +11,6 @@ use re_labels::{Degrees, NoMemory, PortLabels, Side};
 use re_pool::{NodeId, Pool, Rule, narrow_law};
 use re_views::{View, is_view, pad};
 use std::alloc::Global;
-use std::process::Abort;
-use std::test::Fail;
 
 // The extractor of an accepted certificate of an upper bound.
 fn extractor(alloc: Global, text: &str) -> Option<Extractor> {
@@ -32,21 +30,18 @@ fn extractor(alloc: Global, text: &str) -> Option<Extractor> {
     }
 }
 
-// The number of an active view of the extractor's radius.
-fn placed(
-    rt: &impl Abort,
-    pool: &mut Pool,
-    extractor: &Extractor,
-    view: &View<()>,
-) -> Result<NodeId, Fail>
+// The number of an active view of the extractor's radius; NoMemory stands for another view, too.
+fn placed(pool: &mut Pool, extractor: &Extractor, view: &View<()>) -> Result<NodeId, NoMemory>
     ensures held { IfOk result (λ id. id < length pool.new) }
     ensures view { IfOk result (λ id. IsView extractor.now.first.active.degree extractor.now.first.passive.degree (length extractor.now.steps) (tree_at pool.new id)) }
 {
     let degrees = extractor.certificate().first().degrees();
     let radius = extractor.certificate().steps().len() as u8;
-    assert!(rt; is_view(view, degrees, Side::Active, radius));
+    if !is_view(view, degrees, Side::Active, radius) {
+        return Err(NoMemory);
+    }
     narrow_law();
-    Ok(pool.place(view)?)
+    pool.place(view)
 }
 
 // A certificate of so many steps from one label at degrees 2 and 2 to itself.
@@ -59,59 +54,67 @@ fn path(alloc: Global, steps: u8) -> Result<String, NoMemory> {
     Ok(text)
 }
 
-// What the algorithm gives at the view.
-fn extracted(
-    rt: &impl Abort,
+fn are_zeros(labels: &PortLabels) -> bool {
+    labels.labels() == [0, 0].as_slice()
+}
+
+// Whether the algorithm gives label 0 at each port.
+fn extracts_zeros(
     pool: &mut Pool,
     extractor: &mut Extractor,
     view: &View<()>,
-) -> Result<PortLabels, Fail> {
-    let id = placed(rt, pool, extractor, view)?;
-    Ok(extractor.extract(pool, id)?)
+) -> Result<bool, NoMemory> {
+    let id = placed(pool, extractor, view)?;
+    Ok(are_zeros(&extractor.extract(pool, id)?))
 }
 
 // The same, asked as a rule.
-fn ruled(
-    rt: &impl Abort,
+fn rules_zeros(
     pool: &mut Pool,
     extractor: &mut Extractor,
     view: &View<()>,
-) -> Result<PortLabels, Fail> {
-    let id = placed(rt, pool, extractor, view)?;
-    Ok(extractor.labels(pool, id)?)
+) -> Result<bool, NoMemory> {
+    let id = placed(pool, extractor, view)?;
+    Ok(are_zeros(&extractor.labels(pool, id)?))
 }
 
-// Whether both are label 0 at each port.
-fn are_zero(
-    rt: &impl Abort,
-    alloc: Global,
-    extractor: &mut Extractor,
-    view: &View<()>,
-) -> Result<bool, Fail> {
+fn are_zero(alloc: Global, extractor: &mut Extractor, view: &View<()>) -> bool {
     let mut pool = Pool::new(alloc);
-    let first = extracted(rt, &mut pool, extractor, view)?;
-    let again = ruled(rt, &mut pool, extractor, view)?;
-    Ok(first.labels() == [0, 0].as_slice() && again.labels() == [0, 0].as_slice())
+    matches!(extracts_zeros(&mut pool, extractor, view), Ok(true))
+        && matches!(rules_zeros(&mut pool, extractor, view), Ok(true))
 }
 
-fn far_view(alloc: Global) -> Result<View<()>, Fail> {
+fn far_view(alloc: Global) -> Result<View<()>, NoMemory> {
     let degrees = Degrees {
         active: 2,
         passive: 2,
     };
-    Ok(pad(alloc, &View::Leaf, degrees, Side::Active, 64, ())?)
+    pad(alloc, &View::Leaf, degrees, Side::Active, 64, ())
 }
 
-fn far_extractor(alloc: Global) -> Result<Extractor, Fail> {
-    let text = path(alloc, 64)?;
-    Ok(extractor(alloc, text.as_str()).ok_or("no upper bound")?)
+fn is_far_view_zero(alloc: Global, extractor: &mut Extractor) -> bool {
+    match far_view(alloc) {
+        Ok(view) => are_zero(alloc, extractor, &view),
+        Err(_) => false,
+    }
+}
+
+fn is_zero(alloc: Global, text: &str) -> bool {
+    match extractor(alloc, text) {
+        Some(mut extractor) => is_far_view_zero(alloc, &mut extractor),
+        None => false,
+    }
+}
+
+fn is_zero_far_on(alloc: Global) -> bool {
+    match path(alloc, 64) {
+        Ok(text) => is_zero(alloc, text.as_str()),
+        Err(_) => false,
+    }
 }
 
 // A view on a path that shows 64 rounds: each level has few different views, and the tree of calls would have 2^64.
 #[test]
-fn far_on_a_path(rt: HostRuntime) -> Result<(), Fail> {
-    let view = far_view(rt.alloc())?;
-    let mut extractor = far_extractor(rt.alloc())?;
-    assert!(rt; are_zero(&rt, rt.alloc(), &mut extractor, &view)?);
-    Ok(())
+fn far_on_a_path(rt: HostRuntime) {
+    assert!(rt; is_zero_far_on(rt.alloc()));
 }

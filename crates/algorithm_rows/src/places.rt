@@ -22,7 +22,7 @@ fn views_are_counted(rt: HostRuntime) {
         (Side::Passive, 3, Some(11_664)),
         (Side::Passive, 4, None),
     ] {
-        assert_eq!(rt; view_count(DEGREES, side, radius), want);
+        assert!(rt; view_count(DEGREES, side, radius) == want);
     }
 }
 
@@ -33,6 +33,6 @@ fn views_on_paths(rt: HostRuntime) {
         active: 2,
         passive: 2,
     };
-    assert_eq!(rt; view_count(narrow, Side::Active, 8), Some(65_536));
-    assert_eq!(rt; view_count(narrow, Side::Active, 9), None);
+    assert!(rt; view_count(narrow, Side::Active, 8) == Some(65_536));
+    assert!(rt; view_count(narrow, Side::Active, 9).is_none());
 }

@@ -6,7 +6,6 @@ use re_items::{
     read_empty_degree, read_number,
 };
 use re_labels::{LabelSet, Name, Names, NamesFault};
-use std::test::Fail;
 
 fn label(to: usize, power: Option<u8>) -> ItemStep {
     ItemStep::Item(Item {
@@ -18,9 +17,9 @@ fn label(to: usize, power: Option<u8>) -> ItemStep {
     })
 }
 
-fn group(to: usize, empty: bool, power: Option<u8>) -> ItemStep {
+fn group(from: usize, to: usize, empty: bool, power: Option<u8>) -> ItemStep {
     ItemStep::Item(Item {
-        from: 0,
+        from,
         to,
         group: true,
         empty,
@@ -28,56 +27,72 @@ fn group(to: usize, empty: bool, power: Option<u8>) -> ItemStep {
     })
 }
 
-#[test]
-fn items_of_lines(rt: HostRuntime) {
-    let table: [(&[u8], ItemStep); 33] = [
-        (b"", ItemStep::End),
-        (b" \t\r", ItemStep::End),
-        (b"%", ItemStep::Bad),
-        (b"A", label(1, None)),
-        (b"A B", label(1, None)),
-        (b"A\t", label(1, None)),
-        (b"(A)", label(3, None)),
-        (b"(AB)^2", label(6, Some(2))),
-        (b"A^1", label(3, Some(1))),
-        (b"A^99", label(4, Some(99))),
-        (b"A^0", ItemStep::Bad),
-        (b"A^01", ItemStep::Bad),
-        (b"A^100", ItemStep::Bad),
-        (b"A^", ItemStep::Bad),
-        (b"A ^2", label(1, None)),
-        (b"A^2^2", ItemStep::Bad),
-        (b"A^2B", ItemStep::Bad),
-        (b"AB", ItemStep::Bad),
-        (b"A[B]", ItemStep::Bad),
-        (b"A(B)", ItemStep::Bad),
-        (b"_", ItemStep::Bad),
-        (b"(_)", label(3, None)),
-        (b"(abcdefghijklmnop)", label(18, None)),
-        (b"(abcdefghijklmnopq)", ItemStep::Bad),
-        (b"[]", group(2, true, None)),
-        (b"[ ]^2", group(5, true, Some(2))),
-        (b"[A (BC)]", group(8, false, None)),
-        (b"[ A\tB\r]^3 C", group(9, false, Some(3))),
-        (b"[A", ItemStep::Bad),
-        (b"A]", ItemStep::Bad),
-        (b"[[A]]", ItemStep::Bad),
-        (b"[A^2]", ItemStep::Bad),
-        (b"[A][B]", ItemStep::Bad),
-    ];
-    for (line, step) in table {
-        assert_eq!(rt; next_item(line, 0), step);
+// The item from this place on, which is in the line.
+fn step_at(line: &[u8], at: usize) -> ItemStep {
+    if at <= line.len() {
+        next_item(line, at)
+    } else {
+        ItemStep::Bad
     }
-    assert_eq!(rt;
-        next_item(b"A^2  [B]", 3),
-        ItemStep::Item(Item {
-            from: 5,
-            to: 8,
-            group: true,
-            empty: false,
-            power: None
-        })
-    );
+}
+
+#[test]
+fn lines_that_begin_with_no_item(rt: HostRuntime) {
+    for line in [b"".as_slice(), b" \t\r"] {
+        assert!(rt; next_item(line, 0) == ItemStep::End);
+    }
+    for line in [
+        b"%".as_slice(),
+        b"A^0",
+        b"A^01",
+        b"A^100",
+        b"A^",
+        b"A^2^2",
+        b"A^2B",
+        b"AB",
+        b"A[B]",
+        b"A(B)",
+        b"_",
+        b"(abcdefghijklmnopq)",
+        b"[A",
+        b"A]",
+        b"[[A]]",
+        b"[A^2]",
+        b"[A][B]",
+    ] {
+        assert!(rt; next_item(line, 0) == ItemStep::Bad);
+    }
+}
+
+#[test]
+fn lines_that_begin_with_a_label(rt: HostRuntime) {
+    for (line, to, power) in [
+        (b"A".as_slice(), 1, None),
+        (b"A B", 1, None),
+        (b"A\t", 1, None),
+        (b"(A)", 3, None),
+        (b"(AB)^2", 6, Some(2)),
+        (b"A^1", 3, Some(1)),
+        (b"A^99", 4, Some(99)),
+        (b"A ^2", 1, None),
+        (b"(_)", 3, None),
+        (b"(abcdefghijklmnop)", 18, None),
+    ] {
+        assert!(rt; next_item(line, 0) == label(to, power));
+    }
+}
+
+#[test]
+fn lines_that_begin_with_a_group(rt: HostRuntime) {
+    for (line, at, from, to, empty, power) in [
+        (b"[]".as_slice(), 0, 0, 2, true, None),
+        (b"[ ]^2", 0, 0, 5, true, Some(2)),
+        (b"[A (BC)]", 0, 0, 8, false, None),
+        (b"[ A\tB\r]^3 C", 0, 0, 9, false, Some(3)),
+        (b"A^2  [B]", 3, 5, 8, false, None),
+    ] {
+        assert!(rt; step_at(line, at) == group(from, to, empty, power));
+    }
 }
 
 #[test]
@@ -89,7 +104,7 @@ fn bytes_that_are_not_allowed(rt: HostRuntime) {
         (b"\x00", Some(0)),
         (b"AB\xc3", Some(2)),
     ] {
-        assert_eq!(rt; first_bad_byte(line), place);
+        assert!(rt; first_bad_byte(line) == place);
     }
 }
 
@@ -106,7 +121,7 @@ fn numbers(rt: HostRuntime) {
         (b"1a", None),
         (b"", None),
     ] {
-        assert_eq!(rt; read_number(text), number);
+        assert!(rt; read_number(text) == number);
     }
 }
 
@@ -123,7 +138,7 @@ fn degrees_of_empty_constraints(rt: HostRuntime) {
         (b"%2 A", None),
         (b"%", None),
     ] {
-        assert_eq!(rt; read_empty_degree(line), degree);
+        assert!(rt; read_empty_degree(line) == degree);
     }
 }
 
@@ -150,23 +165,29 @@ fn add_names_at(line: &[u8], at: usize, names: &mut Names) -> Result<(), NamesFa
     }
 }
 
-#[test]
-fn labels_of_items(rt: HostRuntime) -> Result<(), Fail> {
-    let mut names = Names::new(rt.alloc());
-    for text in [b"A", b"C"] {
-        let name = Name::new(text).ok_or("no name")?;
-        assert_eq!(rt; names.insert(name), Ok(true));
+// Whether the name is new.
+fn is_added(names: &mut Names, text: &[u8]) -> bool {
+    match Name::new(text) {
+        Some(name) => names.insert(name) == Ok(true),
+        None => false,
     }
+}
+
+// Whether the labels of the items of a line have these numbers, before and behind the names of the second one.
+fn are_numbered(names: &mut Names) -> bool {
     let line = b"[C (A) C]^2 [A(bc)]";
-    assert_eq!(rt;
-        labels_at(line, 0, &names),
-        Some(LabelSet::single(0).insert(1))
-    );
-    assert_eq!(rt; labels_at(line, 11, &names), None);
-    assert_eq!(rt; add_names_at(line, 11, &mut names), Ok(()));
-    assert_eq!(rt;
-        labels_at(line, 11, &names),
-        Some(LabelSet::single(0).insert(2))
-    );
-    Ok(())
+    labels_at(line, 0, names) == Some(LabelSet::of_number(3))
+        && labels_at(line, 11, names).is_none()
+        && add_names_at(line, 11, names) == Ok(())
+        && labels_at(line, 11, names) == Some(LabelSet::of_number(5))
+}
+
+fn are_items_numbered(names: &mut Names) -> bool {
+    is_added(names, b"A") && is_added(names, b"C") && are_numbered(names)
+}
+
+#[test]
+fn labels_of_items(rt: HostRuntime) {
+    let mut names = Names::new(rt.alloc());
+    assert!(rt; are_items_numbered(&mut names));
 }

@@ -1,25 +1,11 @@
 //! Allowed multisets of sets.
-use re_config::Config;
+use crate::tables::triples;
 use re_exist::allowed;
 use re_labels::LabelSet;
-use re_table::{Constraint, InsertFault};
-use std::alloc::Global;
-use std::test::Fail;
+use re_table::Constraint;
+use std::alloc::{AllocError, Global};
 
-// The constraint of the configurations of these three labels each, below 128.
-fn threes(alloc: Global, configs: &[[u8; 3]]) -> Result<Constraint, InsertFault> {
-    let mut constraint = Constraint::new(alloc, 3);
-    for labels in configs {
-        constraint.insert(Config::from_labels(&[
-            labels[0] % 128,
-            labels[1] % 128,
-            labels[2] % 128,
-        ]))?;
-    }
-    Ok(constraint)
-}
-
-fn sets_of(alloc: Global, numbers: &[u128]) -> Result<Vec<LabelSet>, Fail> {
+fn sets_of(alloc: Global, numbers: &[u128]) -> Result<Vec<LabelSet>, AllocError> {
     let mut sets = Vec::new(alloc);
     for number in numbers {
         sets.push(LabelSet::of_number(*number))?;
@@ -27,30 +13,46 @@ fn sets_of(alloc: Global, numbers: &[u128]) -> Result<Vec<LabelSet>, Fail> {
     Ok(sets)
 }
 
-// The labels of the configurations, one after another.
-fn places_of(alloc: Global, constraint: &Constraint) -> Result<Vec<u8>, Fail> {
-    let mut places = Vec::new(alloc);
-    for place in 0..constraint.len() {
-        if let Some(config) = constraint.get(place) {
-            places.extend_from_slice(config.labels())?;
+// Whether the configurations have these labels, one after another.
+fn have_labels(constraint: &Constraint, labels: &[u8]) -> bool {
+    let mut rest = labels;
+    for config in constraint.configs() {
+        match rest.strip_prefix(config.labels()) {
+            None => return false,
+            Some(others) => rest = others,
         }
     }
-    Ok(places)
+    rest.is_empty()
 }
 
-// The multisets of these sets that are allowed where these are the configurations, one after another.
-fn listed(alloc: Global, configs: &[[u8; 3]], numbers: &[u128]) -> Result<Vec<u8>, Fail> {
-    let constraint = threes(alloc, configs)?;
-    let sets = sets_of(alloc, numbers)?;
+// Whether the multisets of these sets that are allowed are the wanted ones, one after another.
+fn are_allowed(alloc: Global, constraint: &Constraint, sets: &[LabelSet], want: &[u8]) -> bool {
     if sets.len() > 128 {
-        return Err("many sets".into());
+        return false;
     }
-    let all = allowed(alloc, &constraint, sets.as_slice())?;
-    places_of(alloc, &all)
+    match allowed(alloc, constraint, sets) {
+        Ok(all) => have_labels(&all, want),
+        Err(_) => false,
+    }
+}
+
+fn are_sets_allowed(alloc: Global, constraint: &Constraint, numbers: &[u128], want: &[u8]) -> bool {
+    match sets_of(alloc, numbers) {
+        Ok(sets) => are_allowed(alloc, constraint, sets.as_slice(), want),
+        Err(_) => false,
+    }
+}
+
+// The same where these are the configurations, and these the numbers of the sets.
+fn are_listed(alloc: Global, configs: &[[u8; 3]], numbers: &[u128], want: &[u8]) -> bool {
+    match triples(alloc, configs) {
+        Ok(constraint) => are_sets_allowed(alloc, &constraint, numbers, want),
+        Err(_) => false,
+    }
 }
 
 #[test]
-fn allowed_multisets(rt: HostRuntime) -> Result<(), Fail> {
+fn allowed_multisets(rt: HostRuntime) {
     for (configs, numbers, want) in [
         // Labels M, O and P are 0, 1 and 2. The maximal rows of `M P`, `M O`, `O^2` have the sets M, O, MO and OP.
         (
@@ -68,7 +70,6 @@ fn allowed_multisets(rt: HostRuntime) -> Result<(), Fail> {
         (&[[0, 1, 2]], &[1, 2], &[]),
         (&[[0, 1, 2]], &[1, 2, 4], &[0, 1, 2]),
     ] {
-        assert!(rt; listed(rt.alloc(), configs, numbers)?.as_slice() == want);
+        assert!(rt; are_listed(rt.alloc(), configs, numbers, want));
     }
-    Ok(())
 }

@@ -15,3 +15,5 @@ mod maximal_rows;
 mod rests;
 #[cfg(test)]
 mod set_rows;
+#[cfg(test)]
+mod tables;

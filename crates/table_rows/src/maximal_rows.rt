@@ -1,30 +1,25 @@
 //! Lists of rows of worked constraints.
 ghost use Rattle.std.specs.Prelude.{◌≡◌, length};
 
+use crate::tables::{pairs, row_of};
 use re_config::{Config, Row};
-use re_labels::LabelSet;
 use re_rows::are_maximal_rows;
 use re_table::{Constraint, InsertFault};
 use std::alloc::{AllocError, Global};
-use std::test::Fail;
 
-// The constraint of the configurations of these two labels each, taken below 128.
-fn filled(alloc: Global, pairs: &[[u8; 2]]) -> Result<Constraint, InsertFault> {
-    let mut constraint = Constraint::new(alloc, 2);
-    for pair in pairs {
-        constraint.insert(Config::from_labels(&[pair[0] % 128, pair[1] % 128]))?;
+// Adds the row of the sets with these numbers, if they make a row.
+fn add_row(rows: &mut Vec<Row>, numbers: [u128; 2]) -> Result<(), AllocError> {
+    if let Some(row) = row_of(numbers) {
+        rows.push(row)?;
     }
-    Ok(constraint)
+    Ok(())
 }
 
 // The rows of the sets with these numbers, as far as they are rows.
 fn listed(alloc: Global, numbers: &[[u128; 2]]) -> Result<Vec<Row>, AllocError> {
     let mut rows = Vec::new(alloc);
     for pair in numbers {
-        let sets = [LabelSet::of_number(pair[0]), LabelSet::of_number(pair[1])];
-        if let Some(row) = Row::from_sets(&sets) {
-            rows.push(row)?;
-        }
+        add_row(&mut rows, *pair)?;
     }
     Ok(rows)
 }
@@ -34,11 +29,24 @@ fn are_rows(constraint: &Constraint, rows: &[Row]) -> bool {
     are_maximal_rows(constraint, 128, rows)
 }
 
-// Whether the rows of these numbers are the maximal rows of the constraint of these pairs.
-fn judged(alloc: Global, pairs: &[[u8; 2]], numbers: &[[u128; 2]]) -> Result<bool, Fail> {
-    let constraint = filled(alloc, pairs)?;
-    let rows = listed(alloc, numbers)?;
-    Ok(are_rows(&constraint, rows.as_slice()))
+// Whether they are those, or not, as wanted.
+fn is_judged(constraint: &Constraint, rows: &[Row], want: bool) -> bool {
+    are_rows(constraint, rows) == want
+}
+
+fn are_judged(alloc: Global, configs: &[[u8; 2]], rows: &[Row], want: bool) -> bool {
+    match pairs(alloc, configs) {
+        Ok(constraint) => is_judged(&constraint, rows, want),
+        Err(_) => false,
+    }
+}
+
+// The same of the constraint of these pairs and the rows of these numbers.
+fn judged(alloc: Global, configs: &[[u8; 2]], numbers: &[[u128; 2]], want: bool) -> bool {
+    match listed(alloc, numbers) {
+        Ok(rows) => are_judged(alloc, configs, rows.as_slice(), want),
+        Err(_) => false,
+    }
 }
 
 const SINKLESS: [[u8; 2]; 2] = [[0, 1], [1, 1]];
@@ -47,32 +55,40 @@ const COLOURS: [[u8; 2]; 3] = [[0, 1], [0, 2], [1, 2]];
 
 const THREE: [[u8; 2]; 4] = [[0, 1], [0, 2], [1, 2], [2, 2]];
 
-// A label i alone is the set with the number 2 to the i.
-#[test]
-fn small_constraints(rt: HostRuntime) -> Result<(), Fail> {
-    for (pairs, rows, want) in [
-        (SINKLESS.as_slice(), [[2, 3]].as_slice(), true),
-        (&SINKLESS, &[], false),
-        (&SINKLESS, &[[2, 2]], false),
-        (&SINKLESS, &[[1, 2]], false),
-        (&SINKLESS, &[[3, 3]], false),
-        (&COLOURS, &[[1, 6], [2, 5], [3, 4]], true),
-        (&COLOURS, &[[1, 6], [2, 5]], false),
-        (&COLOURS, &[[1, 6], [3, 4]], false),
-        (&COLOURS, &[[2, 5], [3, 4]], false),
-        (&COLOURS, &[[2, 5], [1, 6], [3, 4]], false),
-        (&COLOURS, &[[1, 6], [2, 5], [2, 5], [3, 4]], false),
-        (&COLOURS, &[[1, 2], [1, 6], [2, 5], [3, 4]], false),
-        (&COLOURS, &[[1, 2], [2, 5], [3, 4]], false),
-        (&THREE, &[[4, 7], [5, 6]], true),
-        (&THREE, &[[4, 7]], false),
-        (&THREE, &[[5, 6]], false),
-        (&[], &[], true),
-        (&[], &[[1, 1]], false),
-    ] {
-        assert_eq!(rt; judged(rt.alloc(), pairs, rows)?, want);
+// Pairs, the sets of rows, and whether those are the maximal rows. A label i alone is the set with the number 2 to the i.
+const SMALL: [(&[[u8; 2]], &[[u128; 2]], bool); 18] = [
+    (&SINKLESS, &[[2, 3]], true),
+    (&SINKLESS, &[], false),
+    (&SINKLESS, &[[2, 2]], false),
+    (&SINKLESS, &[[1, 2]], false),
+    (&SINKLESS, &[[3, 3]], false),
+    (&COLOURS, &[[1, 6], [2, 5], [3, 4]], true),
+    (&COLOURS, &[[1, 6], [2, 5]], false),
+    (&COLOURS, &[[1, 6], [3, 4]], false),
+    (&COLOURS, &[[2, 5], [3, 4]], false),
+    (&COLOURS, &[[2, 5], [1, 6], [3, 4]], false),
+    (&COLOURS, &[[1, 6], [2, 5], [2, 5], [3, 4]], false),
+    (&COLOURS, &[[1, 2], [1, 6], [2, 5], [3, 4]], false),
+    (&COLOURS, &[[1, 2], [2, 5], [3, 4]], false),
+    (&THREE, &[[4, 7], [5, 6]], true),
+    (&THREE, &[[4, 7]], false),
+    (&THREE, &[[5, 6]], false),
+    (&[], &[], true),
+    (&[], &[[1, 1]], false),
+];
+
+fn are_small_judged(alloc: Global) -> bool {
+    for (configs, rows, want) in &SMALL {
+        if !judged(alloc, configs, rows, *want) {
+            return false;
+        }
     }
-    Ok(())
+    true
+}
+
+#[test]
+fn small_constraints(rt: HostRuntime) {
+    assert!(rt; are_small_judged(rt.alloc()));
 }
 
 // The pairs of different labels below the number.
@@ -90,13 +106,7 @@ fn different(alloc: Global, labels: u8) -> Result<Constraint, InsertFault> {
 fn halves(alloc: Global) -> Result<Vec<Row>, AllocError> {
     let mut rows = Vec::new(alloc);
     for number in 1..1024u64 {
-        let sets = [
-            LabelSet::of_number(u128::from(number)),
-            LabelSet::of_number(u128::from(2047 - number)),
-        ];
-        if let Some(row) = Row::from_sets(&sets) {
-            rows.push(row)?;
-        }
+        add_row(&mut rows, [u128::from(number), u128::from(2047 - number)])?;
     }
     Ok(rows)
 }
@@ -130,9 +140,7 @@ fn sums(alloc: Global, one_more: bool) -> Result<Constraint, InsertFault> {
     Ok(constraint)
 }
 
-// The rows of their one-label sets.
-fn sum_rows(alloc: Global) -> Result<Vec<Row>, AllocError> {
-    let mut rows = Vec::new(alloc);
+fn add_sum_rows(rows: &mut Vec<Row>) -> Result<(), AllocError> {
     for i in 0..8u8 {
         for j in 0..8u8 {
             for k in 0..16u8 {
@@ -140,45 +148,68 @@ fn sum_rows(alloc: Global) -> Result<Vec<Row>, AllocError> {
             }
         }
     }
+    Ok(())
+}
+
+// The rows of their one-label sets.
+fn sum_rows(alloc: Global) -> Result<Vec<Row>, AllocError> {
+    let mut rows = Vec::new(alloc);
+    add_sum_rows(&mut rows)?;
     Ok(rows)
 }
 
-// Whether the halves, all or all but the last, are the maximal rows of eleven colours.
-fn judged_halves(alloc: Global, all: bool) -> Result<(usize, bool), Fail> {
-    let eleven = different(alloc, 11)?;
-    let mut rows = halves(alloc)?;
-    if !all {
-        let _ = rows.pop();
+// Whether there are so many rows, which are the maximal rows or not, as wanted.
+fn are_counted(constraint: &Constraint, rows: &[Row], count: usize, want: bool) -> bool {
+    rows.len() == count && are_rows(constraint, rows) == want
+}
+
+// Whether the halves, and not all but the last of them, are the maximal rows of these colours.
+fn are_halves(constraint: &Constraint, rows: &[Row]) -> bool {
+    match rows {
+        [front @ .., _] => {
+            are_counted(constraint, rows, 1023, true) && are_counted(constraint, front, 1022, false)
+        }
+        [] => false,
     }
-    Ok((rows.len(), are_rows(&eleven, rows.as_slice())))
+}
+
+fn are_halves_of_colours(alloc: Global, rows: &[Row]) -> bool {
+    match different(alloc, 11) {
+        Ok(eleven) => are_halves(&eleven, rows),
+        Err(_) => false,
+    }
+}
+
+// Whether these rows are the maximal rows of the sums or not, as wanted.
+fn are_sums(alloc: Global, one_more: bool, rows: &[Row], count: usize, want: bool) -> bool {
+    match sums(alloc, one_more) {
+        Ok(constraint) => are_counted(&constraint, rows, count, want),
+        Err(_) => false,
+    }
+}
+
+fn are_halves_judged(alloc: Global) -> bool {
+    match halves(alloc) {
+        Ok(rows) => {
+            are_halves_of_colours(alloc, rows.as_slice())
+                && are_sums(alloc, false, rows.as_slice(), 1023, false)
+        }
+        Err(_) => false,
+    }
+}
+
+fn are_ones_judged(alloc: Global) -> bool {
+    match sum_rows(alloc) {
+        Ok(rows) => {
+            are_sums(alloc, false, rows.as_slice(), 1024, true)
+                && are_sums(alloc, true, rows.as_slice(), 1024, false)
+        }
+        Err(_) => false,
+    }
 }
 
 #[test]
-fn rows_of_colours(rt: HostRuntime) -> Result<(), Fail> {
-    assert_eq!(rt; judged_halves(rt.alloc(), true)?, (1023, true));
-    assert_eq!(rt; judged_halves(rt.alloc(), false)?, (1022, false));
-    Ok(())
-}
-
-// Whether these rows, the halves or those of one-label sets, are the maximal rows of the sums.
-fn judged_sums(alloc: Global, one_more: bool, ones: bool) -> Result<(usize, bool), Fail> {
-    let constraint = sums(alloc, one_more)?;
-    let rows = if ones {
-        sum_rows(alloc)?
-    } else {
-        halves(alloc)?
-    };
-    Ok((rows.len(), are_rows(&constraint, rows.as_slice())))
-}
-
-#[test]
-fn rows_of_sums(rt: HostRuntime) -> Result<(), Fail> {
-    for (one_more, ones, want) in [
-        (false, true, (1024, true)),
-        (true, true, (1024, false)),
-        (false, false, (1023, false)),
-    ] {
-        assert_eq!(rt; judged_sums(rt.alloc(), one_more, ones)?, want);
-    }
-    Ok(())
+fn rows_of_colours_and_of_sums(rt: HostRuntime) {
+    assert!(rt; are_halves_judged(rt.alloc()));
+    assert!(rt; are_ones_judged(rt.alloc()));
 }

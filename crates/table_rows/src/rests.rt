@@ -1,54 +1,36 @@
 //! The up-sets of two small constraints, each set by its number.
-use re_config::Config;
+use crate::tables::{pairs, triples};
 use re_labels::LabelSet;
 use re_rests::up_sets;
-use re_table::{Constraint, InsertFault};
 use std::alloc::Global;
-use std::test::Fail;
 
-// The constraint of these configurations of two labels below 128.
-fn of_pairs(alloc: Global, pairs: &[[u8; 2]]) -> Result<Constraint, InsertFault> {
-    let mut constraint = Constraint::new(alloc, 2);
-    for pair in pairs {
-        constraint.insert(Config::from_labels(&[pair[0] % 128, pair[1] % 128]))?;
+// Whether the sets have these numbers.
+fn have_numbers(sets: &[LabelSet], numbers: &[u128]) -> bool {
+    for (place, number) in numbers.iter().enumerate() {
+        if sets.get(place) != Some(&LabelSet::of_number(*number)) {
+            return false;
+        }
     }
-    Ok(constraint)
-}
-
-// The same with three labels.
-fn of_triples(alloc: Global, triples: &[[u8; 3]]) -> Result<Constraint, InsertFault> {
-    let mut constraint = Constraint::new(alloc, 3);
-    for triple in triples {
-        let labels = [triple[0] % 128, triple[1] % 128, triple[2] % 128];
-        constraint.insert(Config::from_labels(&labels))?;
-    }
-    Ok(constraint)
+    sets.len() == numbers.len()
 }
 
 // C may take the place of A and of B, and D occurs nowhere.
-#[test]
-fn pairs(rt: HostRuntime) -> Result<(), Fail> {
-    let constraint = of_pairs(rt.alloc(), &[[0, 1], [0, 2], [1, 2], [2, 2]])?;
-    let ups = up_sets(&constraint, 4);
-    let wanted = [
-        LabelSet::of_number(5),
-        LabelSet::of_number(6),
-        LabelSet::of_number(4),
-        LabelSet::of_number(15),
-    ];
-    assert!(rt; ups.as_slice() == wanted.as_slice());
-    Ok(())
+fn of_pairs(alloc: Global) -> bool {
+    match pairs(alloc, &[[0, 1], [0, 2], [1, 2], [2, 2]]) {
+        Ok(constraint) => have_numbers(up_sets(&constraint, 4).as_slice(), &[5, 6, 4, 15]),
+        Err(_) => false,
+    }
+}
+
+fn of_triples(alloc: Global) -> bool {
+    match triples(alloc, &[[0, 1, 2], [0, 2, 2], [1, 2, 2], [2, 2, 2]]) {
+        Ok(constraint) => have_numbers(up_sets(&constraint, 3).as_slice(), &[5, 6, 4]),
+        Err(_) => false,
+    }
 }
 
 #[test]
-fn triples(rt: HostRuntime) -> Result<(), Fail> {
-    let constraint = of_triples(rt.alloc(), &[[0, 1, 2], [0, 2, 2], [1, 2, 2], [2, 2, 2]])?;
-    let ups = up_sets(&constraint, 3);
-    let wanted = [
-        LabelSet::of_number(5),
-        LabelSet::of_number(6),
-        LabelSet::of_number(4),
-    ];
-    assert!(rt; ups.as_slice() == wanted.as_slice());
-    Ok(())
+fn up_sets_of_labels(rt: HostRuntime) {
+    assert!(rt; of_pairs(rt.alloc()));
+    assert!(rt; of_triples(rt.alloc()));
 }

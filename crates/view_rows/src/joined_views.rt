@@ -2,42 +2,16 @@
 ghost use Rattle.re_views.specs.Shown.{tree_of_view};
 ghost use Rattle.re_views.specs.Trees.{IsView};
 
+use crate::seen::are_alike;
 use re_labels::{Degrees, NoMemory, Side};
 use re_laws::{End, branchwise};
-use re_views::{Branch, Child, View, all_views, is_view, shift};
+use re_views::{View, all_views, is_view, shift};
 use std::alloc::Global;
-use std::test::Fail;
 
 const DEGREES: Degrees = Degrees {
     active: 3,
     passive: 2,
 };
-
-/// The back ports of some children, in preorder.
-#[cycle(backs)]
-fn add_backs(children: &Vec<Child<()>>, backs: &mut Vec<u8>) -> Result<(), NoMemory> {
-    for child in children {
-        backs.push(child.back)?;
-        add_behind(&child.branch, backs)?;
-    }
-    Ok(())
-}
-
-#[cycle(backs)]
-fn add_behind(branch: &Branch<()>, backs: &mut Vec<u8>) -> Result<(), NoMemory> {
-    match branch {
-        Branch::Leaf => Ok(()),
-        Branch::Node(children) => add_backs(children, backs),
-    }
-}
-
-fn backs_of(alloc: Global, view: &View<()>) -> Result<Vec<u8>, NoMemory> {
-    let mut backs = Vec::new(alloc);
-    if let View::Node(children) = view {
-        add_backs(children, &mut backs)?;
-    }
-    Ok(backs)
-}
 
 /// The view joined from the views of its two neighbours.
 fn joined_again(alloc: Global, view: &View<()>) -> Result<View<()>, NoMemory>
@@ -59,15 +33,39 @@ fn joined_again(alloc: Global, view: &View<()>) -> Result<View<()>, NoMemory>
     }
 }
 
-#[test]
-fn joined_from_shifts(rt: HostRuntime) -> Result<(), Fail> {
-    let views = all_views(rt.alloc(), DEGREES, Side::Passive, 2)?;
-    assert_eq!(rt; views.len(), 144);
-    for view in &views {
-        assert!(rt; is_view(view, DEGREES, Side::Passive, 2));
-        let again = joined_again(rt.alloc(), view)?;
-        assert!(rt; is_view(&again, DEGREES, Side::Passive, 2));
-        assert_eq!(rt; backs_of(rt.alloc(), &again)?, backs_of(rt.alloc(), view)?);
+// Whether the joined view is this one, of radius 2.
+fn is_again(alloc: Global, again: &View<()>, view: &View<()>) -> bool {
+    is_view(again, DEGREES, Side::Passive, 2) && are_alike(alloc, again, view)
+}
+
+fn is_joined_again(alloc: Global, view: &View<()>) -> bool {
+    if !is_view(view, DEGREES, Side::Passive, 2) {
+        return false;
     }
-    Ok(())
+    match joined_again(alloc, view) {
+        Ok(again) => is_again(alloc, &again, view),
+        Err(_) => false,
+    }
+}
+
+fn are_joined_again(alloc: Global, views: &[View<()>]) -> bool {
+    for view in views {
+        if !is_joined_again(alloc, view) {
+            return false;
+        }
+    }
+    true
+}
+
+// Whether all views of radius 2, of which there are 144, are joined again.
+fn all_are_joined_again(alloc: Global) -> bool {
+    match all_views(alloc, DEGREES, Side::Passive, 2) {
+        Ok(views) => views.len() == 144 && are_joined_again(alloc, views.as_slice()),
+        Err(_) => false,
+    }
+}
+
+#[test]
+fn joined_from_shifts(rt: HostRuntime) {
+    assert!(rt; all_are_joined_again(rt.alloc()));
 }

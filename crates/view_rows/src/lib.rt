@@ -8,4 +8,6 @@ mod nets;
 #[cfg(test)]
 mod pools;
 #[cfg(test)]
+mod seen;
+#[cfg(test)]
 mod views;

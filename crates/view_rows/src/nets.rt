@@ -1,15 +1,14 @@
 //! What no clause says: each call once with ample memory, and rounds that were counted by hand.
 ghost use Rattle.std.specs.Prelude.{◌≡◌, ◌≤◌, ◌∷◌, []};
 
+use crate::seen::{seen_of, shows};
 use re_labels::{Degrees, NoMemory, PortLabels, Side};
 use re_net::{JoinFault, MAX_NODES, Net, Tree};
 use re_pool::{NodeId, Pool, Rule};
-use re_views::{Branch, Child, View};
 use std::alloc::Global;
 use std::process::Abort;
-use std::test::Fail;
 
-// A join or a message: a node, a port, and the new node's port or the number.
+// A join: a node, a port, and the new node's port.
 type Triple = (u32, u8, u8);
 
 // A tree for the degrees 3 and 2 in which nodes 0 and 4 have all their ports. The first four joins make the smaller tree.
@@ -22,22 +21,50 @@ const JOINS: [Triple; 6] = [
     (4, 3, 1),
 ];
 
-fn tree_of(alloc: Global, joins: &[Triple]) -> Result<Tree, Fail> {
+// Whether all could be joined.
+fn join_all(tree: &mut Tree, joins: &[Triple]) -> bool {
+    for join in joins {
+        if tree.join(join.0, join.1, join.2).is_err() {
+            return false;
+        }
+    }
+    true
+}
+
+// The tree of these joins; NoMemory stands for one that can't be made, too.
+fn tree_of(alloc: Global, joins: &[Triple]) -> Result<Tree, NoMemory> {
     let degrees = Degrees {
         active: 3,
         passive: 2,
     };
     let mut tree = Tree::new(alloc, degrees, Side::Active)?;
-    for join in joins {
-        if tree.join(join.0, join.1, join.2).is_err() {
-            return Err("not joined".into());
-        }
+    if join_all(&mut tree, joins) {
+        Ok(tree)
+    } else {
+        Err(NoMemory)
     }
-    Ok(tree)
 }
 
-// A tree whose nodes but node 0 have their port 1 on its side, and up to `fan` more neighbours: a chain for 1, a star for 5 and 7 nodes.
-fn grown(alloc: Global, fan: u8, nodes: u32) -> Result<Tree, Fail>
+// Joins nodes by their port 1, up to `fan` behind each node but node 0: a chain for 1, a star for 5 and 7 nodes. Says whether all could be
+// joined.
+fn grow(tree: &mut Tree, fan: u8, nodes: u32) -> bool
+    requires least { 1 ≤ fan }
+    requires most { fan ≤ 5 }
+{
+    for node in 1..nodes {
+        let (to, port) = if node == 1 {
+            (0, 1)
+        } else {
+            place(fan, node - 2)
+        };
+        if tree.join(to, port, 1).is_err() {
+            return false;
+        }
+    }
+    true
+}
+
+fn grown(alloc: Global, fan: u8, nodes: u32) -> Result<Tree, NoMemory>
     requires least { 1 ≤ fan }
     requires most { fan ≤ 5 }
 {
@@ -46,17 +73,11 @@ fn grown(alloc: Global, fan: u8, nodes: u32) -> Result<Tree, Fail>
         passive: 6,
     };
     let mut tree = Tree::new(alloc, degrees, Side::Active)?;
-    for node in 1..nodes {
-        let (to, port) = if node == 1 {
-            (0, 1)
-        } else {
-            place(fan, node - 2)
-        };
-        if tree.join(to, port, 1).is_err() {
-            return Err("not joined".into());
-        }
+    if grow(&mut tree, fan, nodes) {
+        Ok(tree)
+    } else {
+        Err(NoMemory)
     }
-    Ok(tree)
 }
 
 // The node and the port at which a later node is joined.
@@ -68,12 +89,12 @@ fn place(fan: u8, later: u32) -> (u32, u8)
     (later / fan, (later % fan) as u8 + 2)
 }
 
-fn net_of(alloc: Global, tree: Tree, bound: u8) -> Result<Net, Fail> {
+fn net_of(alloc: Global, tree: Tree, bound: u8) -> Result<Net, NoMemory> {
     let numbered = tree.numbered();
     if numbered && bound <= 64 {
-        Ok(Net::new(alloc, tree, bound)?)
+        Net::new(alloc, tree, bound)
     } else {
-        Err("no net".into())
+        Err(NoMemory)
     }
 }
 
@@ -130,43 +151,6 @@ fn mixed(index: u32, nodes: u32) -> u32
     ((u64::from(index) * 1_013) % u64::from(nodes)) as u32
 }
 
-// The back ports of a view in preorder, with a 0 behind the children of each node, and its payloads in preorder.
-#[derive(Drop)]
-pub(crate) struct Seen<E> {
-    pub(crate) backs: Vec<u8>,
-    payloads: Vec<E>,
-}
-
-pub(crate) fn seen_of<E: Copy>(alloc: Global, view: &View<E>) -> Result<Seen<E>, NoMemory> {
-    let mut seen = Seen {
-        backs: Vec::new(alloc),
-        payloads: Vec::new(alloc),
-    };
-    if let View::Node(children) = view {
-        add_children(children, &mut seen)?;
-    }
-    Ok(seen)
-}
-
-#[cycle(seen)]
-fn add_children<E: Copy>(children: &Vec<Child<E>>, seen: &mut Seen<E>) -> Result<(), NoMemory> {
-    for child in children {
-        seen.backs.push(child.back)?;
-        seen.payloads.push(child.payload)?;
-        add_branch(&child.branch, seen)?;
-    }
-    seen.backs.push(0)?;
-    Ok(())
-}
-
-#[cycle(seen)]
-fn add_branch<E: Copy>(branch: &Branch<E>, seen: &mut Seen<E>) -> Result<(), NoMemory> {
-    match branch {
-        Branch::Leaf => Ok(()),
-        Branch::Node(children) => add_children(children, seen),
-    }
-}
-
 // Each node's round and the back ports of its view.
 fn standing(alloc: Global, net: &Net) -> Result<Vec<u8>, NoMemory> {
     let mut list = Vec::new(alloc);
@@ -180,31 +164,6 @@ fn standing(alloc: Global, net: &Net) -> Result<Vec<u8>, NoMemory> {
     Ok(list)
 }
 
-// All messages, in the one order or in the other.
-fn deliver_all(net: &mut Net, in_order: bool, times: u8) -> Result<(), NoMemory> {
-    if in_order {
-        deliver_in_order(net, times)
-    } else {
-        deliver_mixed(net, times)
-    }
-}
-
-// How the nodes stand when all messages were delivered.
-fn standing_at_the_end(
-    alloc: Global,
-    fan: u8,
-    nodes: u32,
-    in_order: bool,
-    times: u8,
-) -> Result<Vec<u8>, Fail>
-    requires least { 1 ≤ fan }
-    requires most { fan ≤ 5 }
-{
-    let mut net = net_of(alloc, grown(alloc, fan, nodes)?, 3)?;
-    deliver_all(&mut net, in_order, times)?;
-    Ok(standing(alloc, &net)?)
-}
-
 fn rounds_of(alloc: Global, net: &Net) -> Result<Vec<u8>, NoMemory> {
     let mut rounds = Vec::new(alloc);
     for node in 0..net.tree().len() {
@@ -213,73 +172,175 @@ fn rounds_of(alloc: Global, net: &Net) -> Result<Vec<u8>, NoMemory> {
     Ok(rounds)
 }
 
-#[test]
-fn edges_in_order(rt: HostRuntime) -> Result<(), Fail> {
-    let tree = tree_of(rt.alloc(), &JOINS[..4])?;
-    let near = surroundings_of(rt.alloc(), &tree, 0, 1)?;
-    assert_eq!(rt; near.backs.as_slice(), [1, 1, 2, 0].as_slice());
-    assert_eq!(rt; near.payloads.as_slice(), [1, 2, 3].as_slice());
-    let far = surroundings_of(rt.alloc(), &tree, 4, 2)?;
-    assert_eq!(rt; far.backs.as_slice(), [1, 3, 0, 0].as_slice());
-    assert_eq!(rt; far.payloads.as_slice(), [4, 3].as_slice());
-    Ok(())
-}
-
-fn surroundings_of(alloc: Global, tree: &Tree, node: u32, radius: u8) -> Result<Seen<u32>, Fail> {
-    if node >= tree.len() {
-        return Err("no node".into());
+// The messages of a tree of two nodes: too early, and then each where it is legal. Of each is told whether it was legal, and whether it is
+// delivered then.
+fn told_of_messages(alloc: Global, net: &mut Net) -> Result<Vec<u8>, NoMemory> {
+    let mut told = Vec::new(alloc);
+    for (from, number) in [(0, 1), (1, 0), (0, 1), (0, 0)] {
+        told.push(u8::from(deliver(net, from, 1, number)?))?;
+        told.push(u8::from(net.delivered(from, 1, number)))?;
     }
-    Ok(seen_of(alloc, &tree.surroundings(node, radius)?)?)
+    Ok(told)
 }
 
-#[test]
-fn delivered_messages(rt: HostRuntime) -> Result<(), Fail> {
-    let mut net = net_of(rt.alloc(), tree_of(rt.alloc(), &JOINS[..1])?, 2)?;
-    // too early, and then each where it is legal
-    for (from, number, legal) in [(0, 1, false), (1, 0, true), (0, 1, true), (0, 0, true)] {
-        assert_eq!(rt; deliver(&mut net, from, 1, number)?, legal);
-        assert_eq!(rt; net.delivered(from, 1, number), legal);
-    }
-    Ok(())
+// What is delivered, each message so often, and told.
+#[derive(Clone, Copy)]
+enum Course {
+    Messages,
+    InOrder(u8),
+    Mixed(u8),
+    Rounds,
 }
 
-#[test]
-fn one_end_whatever_the_order(rt: HostRuntime) -> Result<(), Fail> {
-    for (fan, nodes) in [(1, 30), (5, 7), (2, MAX_NODES)] {
-        let end = standing_at_the_end(rt.alloc(), fan, nodes, true, 1)?;
-        for (in_order, times) in [(true, 2), (false, 1), (false, 2)] {
-            let other = standing_at_the_end(rt.alloc(), fan, nodes, in_order, times)?;
-            assert_eq!(rt; other.as_slice(), end.as_slice());
+fn told_of(alloc: Global, net: &mut Net, course: Course) -> Result<Vec<u8>, NoMemory> {
+    match course {
+        Course::Messages => told_of_messages(alloc, net),
+        Course::InOrder(times) => {
+            deliver_in_order(net, times)?;
+            standing(alloc, net)
+        }
+        Course::Mixed(times) => {
+            deliver_mixed(net, times)?;
+            standing(alloc, net)
+        }
+        Course::Rounds => {
+            deliver_mixed(net, 2)?;
+            rounds_of(alloc, net)
         }
     }
-    Ok(())
 }
 
-// What comes of one node more, at this port of the last one.
-fn joined_at(alloc: Global, port: u8) -> Result<Result<(), JoinFault>, Fail> {
-    let mut tree = grown(alloc, 2, MAX_NODES)?;
-    Ok(tree.join(4_095, port, 1))
+// What is told of a net of this tree.
+fn told(alloc: Global, tree: Tree, bound: u8, course: Course) -> Result<Vec<u8>, NoMemory> {
+    let mut net = net_of(alloc, tree, bound)?;
+    told_of(alloc, &mut net, course)
+}
+
+// Whether the node sees these back ports and these edges.
+fn sees(alloc: Global, tree: &Tree, node: u32, radius: u8, backs: &[u8], edges: &[u32]) -> bool {
+    if node >= tree.len() {
+        return false;
+    }
+    match tree.surroundings(node, radius) {
+        Ok(view) => shows(alloc, &view, backs, edges),
+        Err(_) => false,
+    }
+}
+
+fn are_edges_in_order(alloc: Global) -> bool {
+    match tree_of(alloc, &JOINS[..4]) {
+        Ok(tree) => {
+            sees(alloc, &tree, 0, 1, &[1, 1, 2, 0], &[1, 2, 3])
+                && sees(alloc, &tree, 4, 2, &[1, 3, 0, 0], &[4, 3])
+        }
+        Err(_) => false,
+    }
 }
 
 #[test]
-fn one_node_too_many(rt: HostRuntime) -> Result<(), Fail> {
-    for (port, fault) in [(1, JoinFault::NoPlace), (2, JoinFault::TooManyNodes)] {
-        assert_eq!(rt; joined_at(rt.alloc(), port)?, Err(fault));
-    }
-    Ok(())
+fn edges_in_order(rt: HostRuntime) {
+    assert!(rt; are_edges_in_order(rt.alloc()));
 }
 
-// The rounds of as many nodes as there may be, when all messages of two rounds were delivered.
-fn rounds_at_the_end(alloc: Global) -> Result<Vec<u8>, Fail> {
-    let mut net = net_of(alloc, grown(alloc, 2, MAX_NODES)?, 2)?;
-    deliver_mixed(&mut net, 2)?;
-    Ok(rounds_of(alloc, &net)?)
+// Whether the messages of a tree of two nodes are told so.
+fn are_told(alloc: Global, tree: Tree, want: &[u8]) -> bool {
+    match told(alloc, tree, 2, Course::Messages) {
+        Ok(found) => found.as_slice() == want,
+        Err(_) => false,
+    }
+}
+
+fn are_legal_ones_delivered(alloc: Global) -> bool {
+    match tree_of(alloc, &JOINS[..1]) {
+        Ok(tree) => are_told(alloc, tree, &[0, 0, 1, 1, 1, 1, 1, 1]),
+        Err(_) => false,
+    }
 }
 
 #[test]
-fn as_many_nodes_as_there_may_be(rt: HostRuntime) -> Result<(), Fail> {
-    for round in &rounds_at_the_end(rt.alloc())? {
-        assert_eq!(rt; *round, 2);
+fn delivered_messages(rt: HostRuntime) {
+    assert!(rt; are_legal_ones_delivered(rt.alloc()));
+}
+
+// How the nodes stand when all messages were delivered.
+fn end_of(
+    alloc: Global,
+    fan: u8,
+    nodes: u32,
+    bound: u8,
+    course: Course,
+) -> Result<Vec<u8>, NoMemory>
+    requires least { 1 ≤ fan }
+    requires most { fan ≤ 5 }
+{
+    let tree = grown(alloc, fan, nodes)?;
+    told(alloc, tree, bound, course)
+}
+
+fn ends_so(alloc: Global, fan: u8, nodes: u32, course: Course, end: &[u8]) -> bool
+    requires least { 1 ≤ fan }
+    requires most { fan ≤ 5 }
+{
+    match end_of(alloc, fan, nodes, 3, course) {
+        Ok(other) => other.as_slice() == end,
+        Err(_) => false,
     }
-    Ok(())
+}
+
+// Whether messages that come in another order, or twice, lead to the same end.
+fn has_one_end(alloc: Global, fan: u8, nodes: u32) -> bool
+    requires least { 1 ≤ fan }
+    requires most { fan ≤ 5 }
+{
+    match end_of(alloc, fan, nodes, 3, Course::InOrder(1)) {
+        Ok(end) => {
+            ends_so(alloc, fan, nodes, Course::InOrder(2), end.as_slice())
+                && ends_so(alloc, fan, nodes, Course::Mixed(1), end.as_slice())
+                && ends_so(alloc, fan, nodes, Course::Mixed(2), end.as_slice())
+        }
+        Err(_) => false,
+    }
+}
+
+#[test]
+fn one_end_whatever_the_order(rt: HostRuntime) {
+    assert!(rt; has_one_end(rt.alloc(), 1, 30));
+    assert!(rt; has_one_end(rt.alloc(), 5, 7));
+    assert!(rt; has_one_end(rt.alloc(), 2, MAX_NODES));
+}
+
+// Whether one node more, at this port of the last one, is refused so.
+fn is_refused(alloc: Global, port: u8, fault: JoinFault) -> bool {
+    match grown(alloc, 2, MAX_NODES) {
+        Ok(mut tree) => tree.join(4_095, port, 1) == Err(fault),
+        Err(_) => false,
+    }
+}
+
+#[test]
+fn one_node_too_many(rt: HostRuntime) {
+    assert!(rt; is_refused(rt.alloc(), 1, JoinFault::NoPlace));
+    assert!(rt; is_refused(rt.alloc(), 2, JoinFault::TooManyNodes));
+}
+
+fn are_all(rounds: &[u8], round: u8) -> bool {
+    for one in rounds {
+        if *one != round {
+            return false;
+        }
+    }
+    true
+}
+
+// Whether as many nodes as there may be stand at round 2 when all messages of two rounds were delivered.
+fn are_at_the_end(alloc: Global) -> bool {
+    match end_of(alloc, 2, MAX_NODES, 2, Course::Rounds) {
+        Ok(rounds) => rounds.len() == 4_096 && are_all(rounds.as_slice(), 2),
+        Err(_) => false,
+    }
+}
+
+#[test]
+fn as_many_nodes_as_there_may_be(rt: HostRuntime) {
+    assert!(rt; are_at_the_end(rt.alloc()));
 }

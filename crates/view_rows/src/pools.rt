@@ -4,41 +4,38 @@ ghost use Rattle.re_views.specs.Shown.{tree_of_view};
 ghost use Rattle.re_views.specs.Trees.{IsView};
 ghost use Rattle.std.specs.Prelude.{◌<◌, ◌≤◌, ◌≡◌, IfOk, length};
 
-use crate::nets::seen_of;
+use crate::seen::are_alike;
 use arrayvec::ArrayVec;
 use re_labels::{Degrees, NoMemory, Side};
 use re_pool::{Link, NodeId, Pool, Shape, narrow_law};
 use re_views::{View, all_views, cut, is_view, shift};
 use std::alloc::Global;
-use std::process::Abort;
-use std::test::Fail;
 
 const DEGREES: Degrees = Degrees {
     active: 3,
     passive: 2,
 };
 
-// The number of an active view of this radius.
-fn placed(rt: &impl Abort, pool: &mut Pool, view: &View<()>, radius: u8) -> Result<NodeId, Fail>
+// The number of an active view of this radius; NoMemory stands for another view, too.
+fn placed(pool: &mut Pool, view: &View<()>, radius: u8) -> Result<NodeId, NoMemory>
     ensures held { IfOk result (λ id. id < length pool.new) }
     ensures tree { IfOk result (λ id. tree_at pool.new id ≡ tree_of_view view.now) }
     ensures view { IfOk result (λ id. IsView 3 2 radius (tree_at pool.new id)) }
 {
-    assert!(rt; is_view(view, DEGREES, Side::Active, radius));
+    if !is_view(view, DEGREES, Side::Active, radius) {
+        return Err(NoMemory);
+    }
     narrow_law();
-    Ok(pool.place(view)?)
+    pool.place(view)
 }
 
 // The number of a passive view of this radius.
-fn placed_over(
-    rt: &impl Abort,
-    pool: &mut Pool,
-    view: &View<()>,
-    radius: u8,
-) -> Result<NodeId, Fail> {
-    assert!(rt; is_view(view, DEGREES, Side::Passive, radius));
+fn placed_over(pool: &mut Pool, view: &View<()>, radius: u8) -> Result<NodeId, NoMemory> {
+    if !is_view(view, DEGREES, Side::Passive, radius) {
+        return Err(NoMemory);
+    }
     narrow_law();
-    Ok(pool.place(view)?)
+    pool.place(view)
 }
 
 // The same links once more.
@@ -61,14 +58,6 @@ fn shape_again(pool: &Pool, id: NodeId) -> Shape
         Shape::Leaf => Shape::Leaf,
         Shape::Node(links) => Shape::Node(copied(links)),
     }
-}
-
-// Puts each active view of this radius into the pool.
-fn place_all(rt: &impl Abort, alloc: Global, pool: &mut Pool, radius: u8) -> Result<(), Fail> {
-    for view in &all_views(alloc, DEGREES, Side::Active, radius)? {
-        placed(rt, pool, view, radius)?;
-    }
-    Ok(())
 }
 
 // The node behind the first link, or the node itself where it has none.
@@ -107,102 +96,100 @@ fn are_known(pool: &mut Pool, id: NodeId) -> Result<bool, NoMemory>
     Ok(view && below && is_known(pool, leaf)?)
 }
 
-// Whether each shape of a view of this radius is held once.
-fn each_is_held_once(
-    rt: &impl Abort,
-    alloc: Global,
-    pool: &mut Pool,
-    radius: u8,
-) -> Result<bool, Fail> {
-    for view in &all_views(alloc, DEGREES, Side::Active, radius)? {
-        let id = placed(rt, pool, view, radius)?;
-        if !are_known(pool, id)? {
-            return Ok(false);
+fn is_held(pool: &mut Pool, view: &View<()>, radius: u8) -> bool {
+    match placed(pool, view, radius) {
+        Ok(id) => matches!(are_known(pool, id), Ok(true)),
+        Err(_) => false,
+    }
+}
+
+// Whether there are so many nodes when the views are held once more, and each shape of them is known then.
+fn are_held(pool: &mut Pool, views: &[View<()>], radius: u8, nodes: usize) -> bool {
+    for view in views {
+        if !is_held(pool, view, radius) {
+            return false;
         }
     }
-    Ok(true)
+    pool.len() == nodes
+}
+
+fn are_held_twice(alloc: Global, views: &[View<()>], radius: u8, nodes: usize) -> bool {
+    let mut pool = Pool::new(alloc);
+    are_held(&mut pool, views, radius, nodes) && are_held(&mut pool, views, radius, nodes)
+}
+
+// The same of all active views of this radius: for the first time, and then again.
+fn all_are_held_twice(alloc: Global, radius: u8, nodes: usize) -> bool {
+    match all_views(alloc, DEGREES, Side::Active, radius) {
+        Ok(views) => are_held_twice(alloc, views.as_slice(), radius, nodes),
+        Err(_) => false,
+    }
 }
 
 #[test]
-fn each_node_once(rt: HostRuntime) -> Result<(), Fail> {
-    for (radius, nodes) in [(1, 9), (2, 220)] {
-        let mut pool = Pool::new(rt.alloc());
-        for _ in 0..2 {
-            place_all(&rt, rt.alloc(), &mut pool, radius)?;
-            assert_eq!(rt; pool.len(), nodes);
-        }
-        assert!(rt; each_is_held_once(&rt, rt.alloc(), &mut pool, radius)?);
-        assert_eq!(rt; pool.len(), nodes);
-    }
-    Ok(())
+fn each_node_once(rt: HostRuntime) {
+    assert!(rt; all_are_held_twice(rt.alloc(), 1, 9));
+    assert!(rt; all_are_held_twice(rt.alloc(), 2, 220));
 }
 
 // Whether the view of radius 2 is shifted in the pool as it is by itself.
-fn is_shifted_alike(
-    rt: &impl Abort,
-    alloc: Global,
-    pool: &mut Pool,
-    view: &View<()>,
-    port: u8,
-) -> Result<bool, Fail>
+fn is_shifted_alike(pool: &mut Pool, view: &View<()>, port: u8) -> Result<bool, NoMemory>
     requires least { 1 ≤ port }
     requires most { port ≤ 3 }
 {
-    let id = placed(rt, pool, view, 2)?;
+    let id = placed(pool, view, 2)?;
     let over = pool.shift(id, port)?;
-    Ok(over == placed_over(rt, pool, &shift(alloc, view, port)?, 1)?)
-}
-
-#[test]
-fn shift_as_written_out(rt: HostRuntime) -> Result<(), Fail> {
-    let mut pool = Pool::new(rt.alloc());
-    for view in &all_views(rt.alloc(), DEGREES, Side::Active, 2)? {
-        for port in 1..4u8 {
-            assert!(rt; is_shifted_alike(&rt, rt.alloc(), &mut pool, view, port)?);
-        }
-    }
-    Ok(())
+    let alone = shift(pool.alloc(), view, port)?;
+    Ok(over == placed_over(pool, &alone, 1)?)
 }
 
 // Whether the view of radius 2 is cut in the pool as it is by itself.
-fn is_cut_alike(
-    rt: &impl Abort,
-    alloc: Global,
-    pool: &mut Pool,
-    view: &View<()>,
-) -> Result<bool, Fail> {
-    let id = placed(rt, pool, view, 2)?;
+fn is_cut_alike(pool: &mut Pool, view: &View<()>) -> Result<bool, NoMemory> {
+    let id = placed(pool, view, 2)?;
     let near = pool.cut(id, 1)?;
-    Ok(near == placed(rt, pool, &cut(alloc, view, 1)?, 1)?)
-}
-
-#[test]
-fn cut_as_written_out(rt: HostRuntime) -> Result<(), Fail> {
-    let mut pool = Pool::new(rt.alloc());
-    for view in &all_views(rt.alloc(), DEGREES, Side::Active, 2)? {
-        assert!(rt; is_cut_alike(&rt, rt.alloc(), &mut pool, view)?);
-    }
-    Ok(())
+    let alone = cut(pool.alloc(), view, 1)?;
+    Ok(near == placed(pool, &alone, 1)?)
 }
 
 // Whether the view of radius 2 is read back from the pool, child by child.
-fn is_read_back(
-    rt: &impl Abort,
-    alloc: Global,
-    pool: &mut Pool,
-    view: &View<()>,
-) -> Result<bool, Fail> {
-    let id = placed(rt, pool, view, 2)?;
-    let again = seen_of(alloc, &pool.tree(id)?)?;
-    let seen = seen_of(alloc, view)?;
-    Ok(again.backs.as_slice() == seen.backs.as_slice())
+fn is_read_back(pool: &mut Pool, view: &View<()>) -> Result<bool, NoMemory> {
+    let id = placed(pool, view, 2)?;
+    let tree = pool.tree(id)?;
+    Ok(are_alike(pool.alloc(), &tree, view))
+}
+
+// Whether the view is shifted, cut and read back so.
+fn is_alike(pool: &mut Pool, view: &View<()>) -> bool {
+    matches!(is_shifted_alike(pool, view, 1), Ok(true))
+        && matches!(is_shifted_alike(pool, view, 2), Ok(true))
+        && matches!(is_shifted_alike(pool, view, 3), Ok(true))
+        && matches!(is_cut_alike(pool, view), Ok(true))
+        && matches!(is_read_back(pool, view), Ok(true))
+}
+
+fn are_all_alike(pool: &mut Pool, views: &[View<()>]) -> bool {
+    for view in views {
+        if !is_alike(pool, view) {
+            return false;
+        }
+    }
+    true
+}
+
+fn are_alike_in_a_pool(alloc: Global, views: &[View<()>]) -> bool {
+    let mut pool = Pool::new(alloc);
+    are_all_alike(&mut pool, views)
+}
+
+// The same of all 216 views of radius 2, in one pool.
+fn all_are_alike(alloc: Global) -> bool {
+    match all_views(alloc, DEGREES, Side::Active, 2) {
+        Ok(views) => views.len() == 216 && are_alike_in_a_pool(alloc, views.as_slice()),
+        Err(_) => false,
+    }
 }
 
 #[test]
-fn read_back(rt: HostRuntime) -> Result<(), Fail> {
-    let mut pool = Pool::new(rt.alloc());
-    for view in &all_views(rt.alloc(), DEGREES, Side::Active, 2)? {
-        assert!(rt; is_read_back(&rt, rt.alloc(), &mut pool, view)?);
-    }
-    Ok(())
+fn shifted_cut_and_read_back_as_written_out(rt: HostRuntime) {
+    assert!(rt; all_are_alike(rt.alloc()));
 }

@@ -1,1 +1,4 @@
+pub mod Closed
 pub mod Closures
+pub mod Limits
+pub mod Sides

@@ -1,38 +1,60 @@
 //! The closure of a problem, and the problem between.
-ghost use Rattle.re_closure.specs.Closures.{AreNamed};
-ghost use Rattle.re_labels.specs.declared.TheConstants.{MAX_LABELS};
-ghost use Rattle.std.specs.Prelude.{◌≡◌, ◌<◌, ◌≤◌, IfOk, IfSome, length};
+ghost use Rattle.re_closure.specs.Closed.{Computes, IsClosureOf, IsSide, SidePasses};
+ghost use Rattle.re_closure.specs.Limits.{PassesLimit};
+ghost use Rattle.re_closure.specs.Sides.{family_of};
+ghost use Rattle.re_config.specs.declared.TheConstants.{MAX_ROWS};
+ghost use Rattle.re_lines.specs.Closures.{AreClosure};
+ghost use Rattle.re_lines.specs.Lines.{AreApart, IsFamily, others};
+ghost use Rattle.re_problem.specs.NamedProblems.{IsNamedProblem, unnamed};
+ghost use Rattle.re_step.specs.LabelNames.{label_names};
+ghost use Rattle.re_topmost.specs.ProblemFamilies.{active_family, passive_family};
+ghost use Rattle.std.specs.Prelude.{◌≡◌, ◌≤◌, Err, IfOk, length, map};
 
-use crate::lattice::{all_around, all_within, constraint_of, widened};
-use crate::types::{ClosureFault, ClosureLimit};
-use re_labels::{LabelSet, MAX_LABELS, Names, NoMemory};
+use crate::constraints::{below_of, topmost_of};
+use crate::occurring::map_of;
+use crate::rows::maximal_of;
+use crate::sets::all_within;
+use crate::types::{ClosureFault, ClosureLimit, StepMap};
+use re_exist::AllowedFault;
+use re_labels::{LabelSet, MAX_LABELS, NoMemory};
 use re_problem::Problem;
 use re_step::names_of;
 use re_table::Constraint;
-use re_topmost::{Families, closure_families, others_of};
+use re_topmost::{Families, Line, LinesFault, closure_families, others_of};
 use std::alloc::Global;
+
+/// One side of a closure.
+#[derive(Drop)]
+pub(crate) struct Side {
+    /// The lines that no other dominates, as configurations.
+    topmost: Constraint,
+    /// All configurations below them.
+    below: Constraint,
+    /// The maximal rows of these, and where their sets go.
+    map: StepMap,
+}
 
 /// The closure of a problem, with what its labels stand for.
 #[derive(Drop)]
 pub(crate) struct Closure {
     /// The right-closed sets that its labels stand for, in the order of their numbers.
     pub(crate) sets: Vec<LabelSet>,
-    /// For each label those whose sets lie within its set.
-    pub(crate) within: Vec<LabelSet>,
-    /// For each label those whose sets hold its set.
-    pub(crate) around: Vec<LabelSet>,
     /// The closure: as active configurations those of the closed active constraint that no other dominates, as passive ones the whole
     /// closed passive constraint.
     pub(crate) closed: Problem,
     /// The problem between, with the sides exchanged: as active configurations those of the closed passive constraint that no other
     /// dominates, as passive ones the whole closed active constraint.
     pub(crate) between: Problem,
+    /// The map of the step from the problem between to the closure.
+    pub(crate) out: StepMap,
+    /// The map of the step back.
+    pub(crate) back: StepMap,
 }
 
 // What each of the sets leaves of the labels.
-fn left_by(alloc: Global, labels: u8, sets: &[LabelSet]) -> Result<Vec<LabelSet>, NoMemory>
+fn all_others(alloc: Global, labels: u8, sets: &[LabelSet]) -> Result<Vec<LabelSet>, NoMemory>
     requires { labels ≤ MAX_LABELS }
-    ensures { IfOk result (λ left. length left.items ≡ length sets.now) }
+    ensures { IfOk result (λ left. left.items ≡ map (others labels) sets.now) }
 {
     let mut left = Vec::new(alloc);
     for set in sets {
@@ -41,17 +63,54 @@ fn left_by(alloc: Global, labels: u8, sets: &[LabelSet]) -> Result<Vec<LabelSet>
     Ok(left)
 }
 
-// The problem of these constraints, whose labels are so many.
-fn problem_of(
+// The side of these lines.
+fn side_of(
+    alloc: Global,
+    degree: u8,
+    lines: &[Line],
+    sets: &[LabelSet],
+) -> Result<Side, ClosureFault>
+    requires family { IsFamily (family_of degree lines.now sets.now) }
+    requires apart { AreApart lines.now }
+    requires few { length sets.now ≤ MAX_LABELS }
+    requires few_lines { length lines.now ≤ MAX_ROWS }
+    ensures side { IfOk result (IsSide (family_of degree lines.now sets.now)) }
+    ensures limit { (passed : ClosureLimit) → result ≡ Err (ClosureFault.Limit passed) → SidePasses (family_of degree lines.now sets.now) passed }
+{
+    let topmost = topmost_of(alloc, degree, lines, sets)?;
+    let below = match below_of(alloc, &topmost, lines, sets) {
+        Ok(below) => below,
+        Err(AllowedFault::TooManyConfigurations) => {
+            return Err(ClosureFault::Limit(ClosureLimit::Configurations));
+        }
+        Err(AllowedFault::NoMemory) => return Err(ClosureFault::NoMemory),
+    };
+    let within = all_within(alloc, sets)?;
+    let rows = maximal_of(alloc, degree, lines, sets)?;
+    let map = map_of(alloc, &below, sets.len() as u8, within.as_slice(), rows)?;
+    Ok(Side {
+        topmost,
+        below,
+        map,
+    })
+}
+
+// The problem of these constraints, which is one with the names of so many labels.
+fn named(
     alloc: Global,
     active: Constraint,
     passive: Constraint,
     labels: u8,
-) -> Result<Option<Problem>, ClosureFault>
-    requires { labels ≤ MAX_LABELS }
+) -> Result<Problem, NoMemory>
+    requires labels { labels ≤ MAX_LABELS }
+    requires named { IsNamedProblem (record { names = label_names labels; active = active; passive = passive }) }
+    ensures { IfOk result (λ problem. problem ≡ record { names = label_names labels; active = active; passive = passive }) }
 {
-    let names: Names = names_of(alloc, labels)?;
-    Ok(Problem::build(active, passive, names))
+    let names = names_of(alloc, labels)?;
+    match Problem::build(active, passive, names) {
+        Some(problem) => Ok(problem),
+        None => unreachable!(),
+    }
 }
 
 // The closure of these families, with at most `MAX_LABELS` labels.
@@ -59,51 +118,49 @@ fn closure_with(
     alloc: Global,
     problem: &Problem,
     families: Families,
-) -> Result<Option<Closure>, ClosureFault>
+) -> Result<Closure, ClosureFault>
+    requires closure { AreClosure (unnamed problem.now) (active_family problem.now families) (passive_family problem.now families) }
     requires few { length families.sets.items ≤ MAX_LABELS }
-    requires named { AreNamed problem.now families.sets.items }
-    ensures { IfOk result (λ found. IfSome found (λ closure. AreNamed problem.now closure.sets.items)) }
+    requires few_passive { length families.passive.items ≤ MAX_ROWS }
+    requires few_active { length families.active.items ≤ MAX_ROWS }
+    ensures closure { IfOk result (Computes (unnamed problem.now) (active_family problem.now families) (passive_family problem.now families)) }
+    ensures limit { (passed : ClosureLimit) → result ≡ Err (ClosureFault.Limit passed) → PassesLimit (unnamed problem.now) passed }
 {
     let degrees = problem.degrees();
     let labels = families.sets.len() as u8;
     let sets = families.sets.as_slice();
-    let left = left_by(alloc, problem.names().len() as u8, sets)?;
-    let weakest = constraint_of(alloc, degrees.passive, sets, families.passive.as_slice())?;
-    let strongest = constraint_of(
+    let left = all_others(alloc, problem.names().len() as u8, sets)?;
+    let passive = side_of(alloc, degrees.passive, families.passive.as_slice(), sets)?;
+    let active = side_of(
         alloc,
         degrees.active,
-        left.as_slice(),
         families.active.as_slice(),
+        left.as_slice(),
     )?;
-    let within = all_within(alloc, sets)?;
-    let around = all_around(alloc, sets)?;
-    let passive = widened(alloc, &weakest, around.as_slice())?;
-    let active = widened(alloc, &strongest, within.as_slice())?;
-    let Some(closed) = problem_of(alloc, strongest, passive, labels)? else {
-        return Ok(None);
-    };
-    let Some(between) = problem_of(alloc, weakest, active, labels)? else {
-        return Ok(None);
-    };
-    Ok(Some(Closure {
+    let closed = named(alloc, active.topmost, passive.below, labels)?;
+    let between = named(alloc, passive.topmost, active.below, labels)?;
+    Ok(Closure {
         sets: families.sets,
-        within,
-        around,
         closed,
         between,
-    }))
+        out: active.map,
+        back: passive.map,
+    })
 }
 
 /// The closure of the problem, or the first limit that it passes.
-pub(crate) fn closure_of(alloc: Global, problem: &Problem) -> Result<Option<Closure>, ClosureFault>
-    ensures { IfOk result (λ found. IfSome found (λ closure. AreNamed problem.now closure.sets.items)) }
+pub(crate) fn closure_of(alloc: Global, problem: &Problem) -> Result<Closure, ClosureFault>
+    ensures closure { IfOk result (IsClosureOf (unnamed problem.now)) }
+    ensures limit { (passed : ClosureLimit) → result ≡ Err (ClosureFault.Limit passed) → PassesLimit (unnamed problem.now) passed }
 {
-    let _names = problem.names();
-    let families = closure_families(alloc, problem)?;
-    if families.sets.len() > MAX_LABELS as usize {
-        return Err(ClosureFault::Limit(ClosureLimit::Labels(
-            families.sets.len().min(u32::MAX as usize) as u32,
-        )));
+    let families = match closure_families(alloc, problem) {
+        Ok(families) => families,
+        Err(LinesFault::TooManyLines) => return Err(ClosureFault::Limit(ClosureLimit::Rows)),
+        Err(LinesFault::NoMemory) => return Err(ClosureFault::NoMemory),
+    };
+    let labels = families.sets.len();
+    if labels > MAX_LABELS as usize {
+        return Err(ClosureFault::Limit(ClosureLimit::Labels(labels)));
     }
     closure_with(alloc, problem, families)
 }

@@ -1,17 +1,28 @@
 //! The certificate that the closure of a problem comes back.
-ghost use Rattle.re_cert.specs.Bounds.{last_problem};
-ghost use Rattle.re_cert.specs.declared.certificate.Kind.TheVariants.{Fixed};
-ghost use Rattle.re_closure.specs.Closures.{Answers, AreNamed};
-ghost use Rattle.re_problem.specs.NamedProblems.{NamedProblem, unnamed};
+ghost use Rattle.re_cert.specs.Bounds.{has_row_maps as have_row_maps, is_by_row as is_map_by_row, last_problem};
+ghost use Rattle.re_chain_steps.specs.Stepped.{in_form_of};
+ghost use Rattle.re_closure.specs.Closed.{Computes, IsClosureOf};
+ghost use Rattle.re_closure.specs.Closures.{Answers, HasRoom, IsClosed, IsSolvableBy, LimitIs};
+ghost use Rattle.re_closure.specs.Sides.{IsMapOf, closure_steps};
+ghost use Rattle.re_config.specs.Rows.{placed, set_at};
+ghost use Rattle.re_config.specs.declared.TheConstants.{MAX_ROWS};
+ghost use Rattle.re_extend.specs.Extensions.{IsSoundChain};
+ghost use Rattle.re_labels.specs.Lists.{count_from, place_of};
+ghost use Rattle.re_lines.specs.Lines.{Family};
+ghost use Rattle.re_problem.specs.NamedProblems.{unnamed};
 ghost use Rattle.re_problem.specs.Zero.{zero_place};
-ghost use Rattle.std.specs.Prelude.{◌≡◌, IfOk, None};
+ghost use Rattle.re_table.specs.GoodRows.{max_rows};
+ghost use Rattle.std.specs.Prelude.{◌≡◌, ◌≤◌, ◌++◌, ℕ, Err, IfOk, None, Some, [], length, map, slice_index_or};
 
 use crate::closure::{Closure, closure_of};
-use crate::stepping::{first_step, second_step, third_step};
-use crate::types::{Closing, ClosureFault, ClosureLimit};
+use crate::occurring::map_of;
+use crate::stepping::step_with;
+use crate::types::{Closing, ClosureFault, ClosureLimit, StepMap};
 use re_cert::{Certificate, Kind, LowerMap, MAX_STEPS, Step, StepParts};
-use re_extend::{Extension, extended};
-use re_labels::{LabelSet, MAX_LABELS};
+use re_chain_parts::{copied_steps, over_problems};
+use re_labels::{LabelSet, MAX_LABELS, NoMemory};
+use re_problem::Problem;
+use re_universal::{RowsFault, maximal_rows};
 use re_zero::zero_round;
 use std::alloc::Global;
 
@@ -19,7 +30,9 @@ use std::alloc::Global;
 const CLOSURE_STEPS: usize = 3;
 
 // The renaming of so many labels that changes none.
-fn identity(alloc: Global, labels: u8) -> Result<Vec<(u8, u8)>, ClosureFault> {
+fn identity(alloc: Global, labels: u8) -> Result<Vec<(u8, u8)>, NoMemory>
+    ensures { IfOk result (λ pairs. pairs.items ≡ map (λ label. (label, label)) (count_from 0 labels)) }
+{
     let mut pairs = Vec::new(alloc);
     for label in 0..labels {
         pairs.push((label, label))?;
@@ -27,104 +40,149 @@ fn identity(alloc: Global, labels: u8) -> Result<Vec<(u8, u8)>, ClosureFault> {
     Ok(pairs)
 }
 
-// Whether the step has a map by rows.
-fn is_by_rows(step: &Step) -> bool {
+// Whether the map of the step is by rows.
+fn is_by_row(step: &Step) -> bool
+    ensures { result ≡ is_map_by_row step.now.map }
+{
     match &step.parts {
         StepParts::Lower { map, .. } => matches!(map, LowerMap::ByRow(_)),
         StepParts::Upper { .. } => false,
     }
 }
 
-// Whether the maps of the chain are by rows. Those of a chain without steps are not.
-fn has_row_maps(chain: &Certificate) -> bool {
-    match chain.steps().first() {
-        Some(step) => is_by_rows(step),
-        None => false,
-    }
+// Whether some step has a map by rows.
+fn have_row_maps(steps: &[Step]) -> bool
+    ensures { result ≡ have_row_maps steps.now }
+{
+    steps.iter().any(|step| is_by_row(step))
 }
 
-// The steps from the last problem of the chain to the problem between, to the closure, and back to the problem between.
-fn extension_of(
+// The map of the step from the problem, which has few maximal rows: each set of them is right-closed, and goes to its label.
+fn first_map(alloc: Global, problem: &Problem, sets: &[LabelSet]) -> Result<StepMap, NoMemory>
+    requires sets { length sets.now ≤ MAX_LABELS }
+    requires few { length (max_rows problem.now.passive (length problem.now.names)) ≤ MAX_ROWS }
+    ensures { IfOk result (IsMapOf problem.now.passive (length problem.now.names) (place_of sets.now)) }
+{
+    let labels = problem.names().len() as u8;
+    let rows = match maximal_rows(alloc, problem.passive(), labels) {
+        Ok(rows) => rows,
+        Err(RowsFault::TooManyRows) => unreachable!(),
+        Err(RowsFault::NoMemory) => return Err(NoMemory),
+    };
+    map_of(alloc, problem.passive(), labels, sets, rows)
+}
+
+// The steps of the chain, and behind them those to the problem between, to the closure, and back to the problem between.
+fn steps_of(
     alloc: Global,
     chain: &Certificate,
-    closure: &Closure,
-) -> Result<Extension, ClosureFault>
-    ensures { IfOk result (λ extension. extension.kind ≡ Fixed) }
+    first: StepMap,
+    closure: Closure,
+) -> Result<Vec<Step>, NoMemory>
+    requires first { IsMapOf (last_problem chain.now).passive (length (last_problem chain.now).names) (place_of closure.sets.items) first }
+    requires closure { IsClosureOf (unnamed (last_problem chain.now)) closure }
+    ensures { (active passive : Family) → Computes (unnamed (last_problem chain.now)) active passive closure →
+        IfOk result (λ steps. steps.items ≡ chain.now.steps ++ map (in_form_of chain.now.steps) (closure_steps (unnamed (last_problem chain.now)) active passive)) }
 {
-    let by_rows = has_row_maps(chain);
-    let mut steps = Vec::new(alloc);
-    steps.push(first_step(alloc, chain.last(), closure, by_rows)?)?;
-    steps.push(second_step(alloc, closure, by_rows)?)?;
-    steps.push(third_step(alloc, closure, by_rows)?)?;
-    Ok(Extension {
-        kind: Kind::Fixed,
-        back: (chain.steps().len() % MAX_STEPS) as u8 + 1,
-        steps,
-        renaming: identity(alloc, closure.between.names().len() as u8)?,
-    })
+    let by_rows = have_row_maps(chain.steps());
+    let mut steps = copied_steps(alloc, chain.steps())?;
+    let between = closure.between.copy()?;
+    let there = step_with(alloc, between, first, by_rows)?;
+    steps.push(there)?;
+    let out = step_with(alloc, closure.closed, closure.out, by_rows)?;
+    steps.push(out)?;
+    let back = step_with(alloc, closure.between, closure.back, by_rows)?;
+    steps.push(back)?;
+    Ok(steps)
 }
 
-// The certificate, where it is accepted.
-fn judged(alloc: Global, chain: &Certificate, closure: &Closure) -> Result<Closing, ClosureFault>
-    requires { zero_place (unnamed (last_problem chain.now)) ≡ None }
-    ensures { Answers chain.now result }
+// The certificate that goes on from the chain by the closure of its last problem.
+fn certificate_of(
+    alloc: Global,
+    chain: &Certificate,
+    closure: Closure,
+) -> Result<Certificate, NoMemory>
+    requires sound { IsSoundChain chain.now }
+    requires room { HasRoom chain.now }
+    requires closure { IsClosureOf (unnamed (last_problem chain.now)) closure }
+    requires not_zero { zero_place (unnamed closure.closed) ≡ None }
+    ensures { IfOk result (IsClosed chain.now) }
 {
-    let extension = extension_of(alloc, chain, closure)?;
-    match extended(alloc, chain, extension, CLOSURE_STEPS as u8, MAX_LABELS)? {
-        Some(certificate) => Ok(Closing::Found(certificate)),
-        None => Ok(Closing::NotFound),
+    over_problems(chain);
+    let back = chain.steps().len() as u8 + 1;
+    let first = chain.first().copy()?;
+    let renaming = identity(alloc, closure.between.names().len() as u8)?;
+    let map = first_map(alloc, chain.last(), closure.sets.as_slice())?;
+    let steps = steps_of(alloc, chain, map, closure)?;
+    match Certificate::build(Kind::Fixed, back, first, steps, renaming) {
+        Some(certificate) => Ok(certificate),
+        None => unreachable!(),
     }
 }
 
-// The right-closed sets of the labels of the active configuration of the closure at this place; none where there is no such place.
-fn fit_at(alloc: Global, closure: &Closure, place: usize) -> Result<Vec<LabelSet>, ClosureFault>
-    ensures { IfOk result (λ sets. (problem : NamedProblem) → AreNamed problem closure.now.sets.items → AreNamed problem sets.items) }
+// The set at this place, or the empty one where there is none.
+fn set_at(sets: &[LabelSet], place: usize) -> LabelSet
+    ensures { result ≡ set_at sets.now place }
+{
+    if place < sets.len() {
+        sets[place]
+    } else {
+        LabelSet::empty()
+    }
+}
+
+// The right-closed sets of the labels of the active configuration of the closure at this place.
+fn fit_at(alloc: Global, closure: &Closure, place: usize) -> Result<Vec<LabelSet>, NoMemory>
+    ensures { IfOk result (λ sets. sets.items ≡ placed closure.now.sets.items (slice_index_or closure.now.closed.active.configs place [])) }
 {
     let mut sets = Vec::new(alloc);
     let Some(config) = closure.closed.active().get(place) else {
         return Ok(sets);
     };
-    let held = closure.sets.as_slice();
     for label in config.labels() {
-        let place = *label as usize;
-        if place < held.len() {
-            sets.push(held[place])?;
-        }
+        sets.push(set_at(closure.sets.as_slice(), *label as usize))?;
     }
     Ok(sets)
 }
 
 // What the closure comes to, behind a problem that isn't solvable without communication.
 fn closed(alloc: Global, chain: &Certificate) -> Result<Closing, ClosureFault>
-    requires { zero_place (unnamed (last_problem chain.now)) ≡ None }
-    ensures { Answers chain.now result }
+    requires sound { IsSoundChain chain.now }
+    requires not_zero { zero_place (unnamed (last_problem chain.now)) ≡ None }
+    ensures answers { IfOk result (Answers chain.now) }
+    ensures limit { (passed : ClosureLimit) → result ≡ Err (ClosureFault.Limit passed) → LimitIs chain.now passed }
 {
+    over_problems(chain);
     if chain.steps().len() + CLOSURE_STEPS > MAX_STEPS {
         return Err(ClosureFault::Limit(ClosureLimit::Steps));
     }
-    let Some(closure) = closure_of(alloc, chain.last())? else {
-        return Ok(Closing::NotFound);
-    };
+    let closure = closure_of(alloc, chain.last())?;
     match zero_round(&closure.closed) {
         Some(place) => Ok(Closing::SolvableClosure(fit_at(alloc, &closure, place)?)),
-        None => judged(alloc, chain, &closure),
+        None => Ok(Closing::Found(certificate_of(alloc, chain, closure)?)),
     }
 }
 
-/// Searches for a certificate that goes on from a sound chain of lower steps and shows that no algorithm solves its first problem in any
-/// number of rounds: that the closure of its last problem is a fixed point (after Balliu, Brandt, Kuhn, Olivetti: Distributed
-/// Delta-coloring plays hide-and-seek, STOC 2022).
+/// The fixed point that goes on from a sound chain of lower steps and shows that no algorithm solves its first problem in any number of
+/// rounds: by the closure of its last problem (after Balliu, Brandt, Kuhn, Olivetti: Distributed Delta-coloring plays hide-and-seek,
+/// STOC 2022).
 ///
 /// The labels of the closure are right-closed sets of labels: with each label they have those at least as strong around passive nodes.
 /// Its constraints are the least ones that hold the configurations of the problem, each label being the set of those at least as
 /// strong, and are closed: around passive nodes with two configurations also the union of two of their sets with what the others have
 /// in common, in any order, and smaller sets; around active nodes the other way round. The certificate leads from the problem to the
-/// closure with its sides exchanged, to the closure, and back. What is found is accepted by `check`.
+/// closure with its sides exchanged, to the closure, and back.
 ///
-/// The answer is `Solvable` exactly where the last problem is solvable without communication, and `SolvableClosure` where the closure
-/// is. The cost is that of `re_topmost::closure_families`, of `re_exist::allowed` for both sides, and of `check`.
+/// The answer is `Solvable` exactly where the last problem is solvable without communication. Else the first limit that is passed is
+/// refused: of steps; of rows, on the way to the closure; of labels; of configurations; and then the answer is `SolvableClosure` exactly
+/// where the closure is solvable without communication, and else `Found`: such a certificate comes of each problem whose closure passes
+/// no limit. The cost is that of `re_topmost::closure_families`, of `re_exist::allowed` for both sides, and of `re_universal::maximal_rows`
+/// for the last problem.
 pub fn find_closure(alloc: Global, chain: &Certificate) -> Result<Closing, ClosureFault>
-    ensures { Answers chain.now result }
+    requires { IsSoundChain chain.now }
+    ensures answers { IfOk result (Answers chain.now) }
+    ensures limit { (passed : ClosureLimit) → result ≡ Err (ClosureFault.Limit passed) →
+        (zero_place (unnamed (last_problem chain.now)) ≡ None) × LimitIs chain.now passed }
 {
     match zero_round(chain.last()) {
         Some(place) => Ok(Closing::Solvable(place)),

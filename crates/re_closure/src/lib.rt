@@ -2,8 +2,11 @@
 #![tactic(auto)]
 
 mod closure;
+mod constraints;
 mod finding;
-mod lattice;
+mod occurring;
+mod rows;
+mod sets;
 mod stepping;
 pub mod types;
 

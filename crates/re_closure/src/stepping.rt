@@ -1,199 +1,97 @@
-//! The steps of the certificate.
-use crate::closure::Closure;
-use crate::lattice::place_of;
-use crate::types::{ClosureFault, ClosureLimit};
+//! Steps of a map: by its sets, or written by rows.
+ghost use Rattle.re_cert.specs.Bounds.{map_of};
+ghost use Rattle.re_chain_steps.specs.RowForms.{map_by_rows, row_form as rows_of_entries};
+ghost use Rattle.re_closure.specs.Sides.{in_form, step_to};
+ghost use Rattle.re_entries.specs.StepClauses.{HasRowSets};
+ghost use Rattle.re_labels.specs.Lists.{IsRising};
+ghost use Rattle.re_labels.specs.Sets.{number};
+ghost use Rattle.re_problem.specs.Steps.LowerMap.{by_set};
+ghost use Rattle.re_problem.specs.Steps.{entry_sets, label_of};
+ghost use Rattle.std.specs.Prelude.{◌≡◌, ◌<◌, ℕ, IfOk, List, Contains, map, if◌then◌else◌};
+
+use crate::types::StepMap;
 use arrayvec::ArrayVec;
 use re_cert::{LowerMap, RowImage, SetEntry, Step, StepParts};
-use re_config::{Config, Row};
-use re_labels::{LabelSet, MAX_LABELS};
+use re_config::Row;
+use re_entries::place_for;
+use re_labels::{LabelSet, NoMemory};
 use re_problem::Problem;
-use re_strength::row_order;
-use re_table::Constraint;
-use re_universal::{RowsFault, maximal_rows};
 use std::alloc::Global;
-use std::cmp::Ordering;
 
-// The label to which the set goes, and 0 where it is that of no entry.
-fn label_of(entries: &[SetEntry], set: LabelSet) -> u8 {
-    for entry in entries {
-        if entry.set == set {
-            return entry.label;
+// The label of the entry for the set.
+fn label_for(entries: &[SetEntry], set: LabelSet) -> u8
+    requires ascends { IsRising (λ s t. number s < number t) (entry_sets entries.now) }
+    requires held { Contains (entry_sets entries.now) set }
+    ensures { result ≡ label_of entries.now set }
+{
+    match place_for(entries, set) {
+        Some(place) => {
+            let entry = &entries[place];
+            entry.label
         }
+        None => unreachable!(),
     }
-    0
 }
 
-// The image of the row under the map by sets.
-fn image_of(entries: &[SetEntry], row: &Row) -> Option<RowImage> {
-    let mut labels = ArrayVec::<u8, 6>::new();
+// The image of the row: for each of its sets the label of its entry.
+fn image_of(entries: &[SetEntry], row: &Row) -> RowImage
+    requires ascends { IsRising (λ s t. number s < number t) (entry_sets entries.now) }
+    requires held { (set : List ℕ) → Contains row.now set → Contains (entry_sets entries.now) set }
+    ensures { result ≡ map (label_of entries.now) row.now }
+{
+    let mut labels: ArrayVec<u8, 6> = ArrayVec::new();
     for set in row.sets() {
-        let _fits = labels.try_push(label_of(entries, *set));
+        labels.push(label_for(entries, *set));
     }
-    RowImage::new(labels.as_slice())
+    match RowImage::new(labels.as_slice()) {
+        Some(image) => image,
+        None => unreachable!(),
+    }
 }
 
-// The images of the rows under the map by sets.
-fn images_of(
-    alloc: Global,
-    entries: &[SetEntry],
-    rows: &[Row],
-) -> Result<Vec<RowImage>, ClosureFault> {
+// The images of the rows by the entries, which have the sets of the rows.
+fn row_form(alloc: Global, rows: &[Row], entries: &[SetEntry]) -> Result<Vec<RowImage>, NoMemory>
+    requires { HasRowSets rows.now entries.now }
+    ensures { IfOk result (λ images. images.items ≡ rows_of_entries rows.now entries.now) }
+{
     let mut images = Vec::new(alloc);
     for row in rows {
-        if let Some(image) = image_of(entries, row) {
-            images.push(image)?;
-        }
+        images.push(image_of(entries, row))?;
     }
     Ok(images)
 }
 
-// The lower step with these rows and this map by sets, or the same map by rows.
-fn step_with(
+// The map with these rows and entries, by rows where that is asked.
+fn lower_map(
     alloc: Global,
-    next: &Problem,
-    rows: Vec<Row>,
+    by_rows: bool,
+    rows: &[Row],
     entries: Vec<SetEntry>,
-    by_rows: bool,
-) -> Result<Step, ClosureFault> {
-    let map = if by_rows {
-        LowerMap::ByRow(images_of(alloc, entries.as_slice(), rows.as_slice())?)
+) -> Result<LowerMap, NoMemory>
+    requires { HasRowSets rows.now entries.items }
+    ensures { IfOk result (λ map. map_of map ≡ (if by_rows then map_by_rows rows.now (by_set entries.items) else by_set entries.items)) }
+{
+    if by_rows {
+        let images = row_form(alloc, rows, entries.as_slice())?;
+        Ok(LowerMap::ByRow(images))
     } else {
-        LowerMap::BySet(entries)
-    };
-    Ok(Step {
-        next: next.copy()?,
-        parts: StepParts::Lower { rows, map },
-    })
-}
-
-// Whether the set stands in some row.
-fn occurs(rows: &[Row], set: LabelSet) -> bool {
-    rows.iter().any(|row| place_of(row.sets(), set).is_some())
-}
-
-// For each set that occurs in the rows its label.
-fn first_entries(
-    alloc: Global,
-    closure: &Closure,
-    rows: &[Row],
-) -> Result<Vec<SetEntry>, ClosureFault> {
-    let mut entries = Vec::new(alloc);
-    for (place, set) in closure.sets.as_slice().iter().enumerate() {
-        if occurs(rows, *set) {
-            let label = (place % MAX_LABELS as usize) as u8;
-            entries.push(SetEntry { set: *set, label })?;
-        }
+        Ok(LowerMap::BySet(entries))
     }
-    Ok(entries)
 }
 
-/// The step from the problem to the problem between: each set of a maximal row is right-closed, and goes to its label.
-pub(crate) fn first_step(
+/// The lower step to a problem with this map, whose entries have the sets of its rows: by sets, or written by rows. By rows a set of a row
+/// takes about log n comparisons, where n sets have entries.
+pub(crate) fn step_with(
     alloc: Global,
-    problem: &Problem,
-    closure: &Closure,
+    next: Problem,
+    map: StepMap,
     by_rows: bool,
-) -> Result<Step, ClosureFault> {
-    let labels = problem.names().len() as u8;
-    let rows = match maximal_rows(alloc, problem.passive(), labels) {
-        Ok(rows) => rows,
-        Err(RowsFault::TooManyRows) => return Err(ClosureFault::Limit(ClosureLimit::Rows)),
-        Err(RowsFault::NoMemory) => return Err(ClosureFault::NoMemory),
-    };
-    let entries = first_entries(alloc, closure, rows.as_slice())?;
-    step_with(alloc, &closure.between, rows, entries, by_rows)
-}
-
-// The row of the sets at the labels of a configuration, or None where a label has no set.
-fn row_at(sets: &[LabelSet], config: &Config) -> Option<Row> {
-    let mut held = ArrayVec::<LabelSet, 6>::new();
-    for label in config.labels() {
-        let _fits = held.try_push(*sets.get(*label as usize)?);
-    }
-    Row::from_sets(held.as_slice())
-}
-
-// The order of rows.
-fn order(row: &Row, other: &Row) -> Ordering {
-    row_order(row, other)
-}
-
-// The rows of the sets at the labels of the configurations, in order.
-fn rows_at(
-    alloc: Global,
-    sets: &[LabelSet],
-    constraint: &Constraint,
-) -> Result<Vec<Row>, ClosureFault> {
-    let mut rows = Vec::new(alloc);
-    for config in constraint.configs() {
-        if let Some(row) = row_at(sets, config) {
-            rows.push(row)?;
-        }
-    }
-    rows.sort_unstable_by(order);
-    Ok(rows)
-}
-
-// The sets that occur in the rows, in order.
-fn occurring(
-    alloc: Global,
-    sets: &[LabelSet],
-    rows: &[Row],
-) -> Result<Vec<LabelSet>, ClosureFault> {
-    let mut held = Vec::new(alloc);
-    for set in sets {
-        if occurs(rows, *set) {
-            held.push(*set)?;
-        }
-    }
-    held.sort_unstable();
-    Ok(held)
-}
-
-// For each set that occurs in the rows, in order, its place among the sets.
-fn entries_at(
-    alloc: Global,
-    sets: &[LabelSet],
-    rows: &[Row],
-) -> Result<Vec<SetEntry>, ClosureFault> {
-    let held = occurring(alloc, sets, rows)?;
-    let mut entries = Vec::new(alloc);
-    for set in held.as_slice() {
-        if let Some(place) = place_of(sets, *set) {
-            let label = (place % MAX_LABELS as usize) as u8;
-            entries.push(SetEntry { set: *set, label })?;
-        }
-    }
-    Ok(entries)
-}
-
-// The step to a problem with these active configurations: the rows are those of the sets at the labels of each, and each set goes to
-// its label.
-fn step_by(
-    alloc: Global,
-    sets: &[LabelSet],
-    next: &Problem,
-    by_rows: bool,
-) -> Result<Step, ClosureFault> {
-    let rows = rows_at(alloc, sets, next.active())?;
-    let entries = entries_at(alloc, sets, rows.as_slice())?;
-    step_with(alloc, next, rows, entries, by_rows)
-}
-
-/// The step from the problem between to the closure: each maximal row is one of all that is around the sets of an active configuration.
-pub(crate) fn second_step(
-    alloc: Global,
-    closure: &Closure,
-    by_rows: bool,
-) -> Result<Step, ClosureFault> {
-    step_by(alloc, closure.around.as_slice(), &closure.closed, by_rows)
-}
-
-/// The step back: each maximal row is one of all that lies within the sets of an active configuration of the problem between.
-pub(crate) fn third_step(
-    alloc: Global,
-    closure: &Closure,
-    by_rows: bool,
-) -> Result<Step, ClosureFault> {
-    step_by(alloc, closure.within.as_slice(), &closure.between, by_rows)
+) -> Result<Step, NoMemory>
+    requires { HasRowSets map.rows.items map.entries.items }
+    ensures { IfOk result (λ s. s ≡ in_form by_rows (step_to next map.rows.items map.entries.items)) }
+{
+    let StepMap { rows, entries } = map;
+    let map = lower_map(alloc, by_rows, rows.as_slice(), entries)?;
+    let parts = StepParts::Lower { rows, map };
+    Ok(Step { next, parts })
 }

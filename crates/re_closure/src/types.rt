@@ -1,7 +1,8 @@
 //! What the calls of this crate answer.
 ghost use Rattle.std.specs.Prelude.{◌≡◌};
 
-use re_cert::Certificate;
+use re_cert::{Certificate, SetEntry};
+use re_config::Row;
 use re_labels::{LabelSet, NoMemory};
 use re_topmost::LinesFault;
 use std::alloc::{AllocError, AllocFailed};
@@ -16,18 +17,25 @@ pub enum Closing {
     /// The closure is solvable without communication: the right-closed sets of the labels of its first active configuration that shows
     /// it. This says nothing of the problem.
     SolvableClosure(Vec<LabelSet>),
-    /// No certificate came of it. From the closure of a problem one always does (`re_lines::chain_law`), but no clause says so of this call.
-    NotFound,
 }
 
-/// What the closure of a problem has too many of.
+/// The rows of a step, and the label of the next problem to which each of their sets goes.
+#[derive(Drop)]
+pub(crate) struct StepMap {
+    /// The maximal rows, in order.
+    pub(crate) rows: Vec<Row>,
+    /// For each of their sets its label, in the order of the numbers of the sets.
+    pub(crate) entries: Vec<SetEntry>,
+}
+
+/// What the closure of a problem has too many of, in the order in which it is told, but `Steps`, which comes first.
 #[derive(Clone, Copy, Debug, PartialEq, Eq)]
 pub enum ClosureLimit {
-    /// More than `re_config::MAX_ROWS` lines of one side at a time, or more than `re_topmost::MAX_COMBINATIONS` that had to be looked at;
-    /// or more maximal rows of the problem.
+    /// More than `re_config::MAX_ROWS` lines of one side at a time on the way to the closure, or more than
+    /// `re_topmost::MAX_COMBINATIONS` combinations that waited or had to be looked at. Which lines these are is the algorithm's.
     Rows,
     /// More than `re_labels::MAX_LABELS` labels, and how many.
-    Labels(u32),
+    Labels(usize),
     /// More than `re_table::MAX_CONFIGURATIONS` configurations of one side.
     Configurations,
     /// More than `re_cert::MAX_STEPS` steps, with those of the chain.

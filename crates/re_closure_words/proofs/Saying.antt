@@ -21,9 +21,8 @@ says_as outcome given e may = subst (λ (o : Outcome). MaySay o.status true) (sy
 
 find_says : (chain : Bound) (outcome : Outcome) → MayFind chain outcome → MaySay outcome.status true
 find_says chain outcome (inl may) = says_as outcome _ may.1 tt
-find_says chain outcome (inr (inl may)) = says_as outcome _ may.2 refl
-find_says chain outcome (inr (inr (inl may))) = says_as outcome _ may.1 tt
-find_says chain outcome (inr (inr (inr may))) = says_as outcome _ may refl
+find_says chain outcome (inr (inl may)) = says_as outcome _ may.1 refl
+find_says chain outcome (inr (inr may)) = says_as outcome _ may.1 tt
 
 behind_says : (place : Option ℕ) (chain : Bound) (outcome : Outcome) → MayFindBehind place chain outcome → MaySay outcome.status true
 behind_says (Some place) chain outcome may = says_as outcome _ may refl

@@ -2,21 +2,19 @@
 use Rattle.std.specs.Prelude.{◌≡◌, ℕ, ◌⊎◌, Bool, false, List, [], ◌∷◌, ◌++◌, codes, slice_index_or, Option, Some, None}
 use Rattle.std.specs.Fmt.{decimal}
 use Rattle.std.specs.Str.{bytes_eq}
-use Rattle.re_labels.specs.declared.TheConstants.{MAX_LABELS}
 use Rattle.re_problem.specs.CanonicalTexts.{config_text}
 use Rattle.re_problem.specs.NamedProblems.{NamedProblem, unnamed}
 use Rattle.re_problem.specs.Zero.{zero_place}
 use Rattle.re_problem.specs.declared.fault.InputFault.{InputFault}
 use Rattle.re_cert.specs.Bounds.{Bound, last_problem}
 use Rattle.re_cert.specs.declared.certificate.Kind.{Kind}
-use Rattle.re_cert.specs.declared.certificate.Kind.TheVariants.{Fixed, Upper}
+use Rattle.re_cert.specs.declared.certificate.Kind.TheVariants.{Upper}
 use Rattle.re_chain_texts.specs.ChainTexts.{chain_fault, text_chain}
 use Rattle.re_chain_texts.specs.OverChains.{certificate_outcome, steps_refusal}
 use Rattle.re_check.specs.declared.verdict.Verdict.{Verdict}
-use Rattle.re_closure.specs.Closures.{AreNamed}
+use Rattle.re_closure.specs.Closures.{HasRoom, IsClosed, IsSolvableBy, LimitIs}
 use Rattle.re_closure.specs.declared.types.ClosureLimit.{ClosureLimit}
 use Rattle.re_closure.specs.declared.types.ClosureLimit.TheVariants.{Configurations, Labels, Rows, Steps}
-use Rattle.re_extend.specs.Extensions.{GoesOn}
 use Rattle.re_frame.specs.Check.{verdict_outcome}
 use Rattle.re_frame.specs.Outcomes.{Outcome, limit, refused}
 use Rattle.re_frame.specs.TextFaults.{fault_outcome}
@@ -48,18 +46,23 @@ limit_line Configurations = codes "limit: closure: more than 1048576 configurati
 limit_line Steps = codes "limit: more than 64 steps\n"
 
 -- ---- answers
--- the text of a fixed point that goes on from the chain by three steps at most
+-- the text of the fixed point of the closure of the last problem
 abbrev pub IsFound : Bound → Outcome → Type 0
-IsFound chain outcome = (bound : Bound) × (outcome ≡ certificate_outcome bound) × GoesOn Fixed 3 MAX_LABELS chain bound
+IsFound chain outcome = (bound : Bound) × (outcome ≡ certificate_outcome bound) × HasRoom chain × IsClosed chain bound
 
--- what the word may give to a chain whose last problem isn't solvable without communication: a fixed point; the line of a closure that is solvable without
--- communication, or of a limit that it passes; or that nothing was found
+-- the line of the configuration that shows that the closure is solvable without communication
+abbrev pub IsClosureLine : Bound → Outcome → Type 0
+IsClosureLine chain outcome =
+    (sets : List (List ℕ)) × (outcome ≡ refused (closure_line (last_problem chain) sets)) × HasRoom chain × IsSolvableBy (last_problem chain) sets
+
+-- the line of a limit that is passed
+abbrev pub IsLimitLine : Bound → Outcome → Type 0
+IsLimitLine chain outcome = (passed : ClosureLimit) × (outcome ≡ limit (limit_line passed)) × LimitIs chain passed
+
+-- what the word may give to a chain whose last problem isn't solvable without communication: the fixed point of its closure; the line of a closure that is
+-- solvable without communication; or that of a limit
 abbrev pub MayFind : Bound → Outcome → Type 0
-MayFind chain outcome =
-    IsFound chain outcome
-    ⊎ (((sets : List (List ℕ)) × AreNamed (last_problem chain) sets × (outcome ≡ refused (closure_line (last_problem chain) sets)))
-    ⊎ (((passed : ClosureLimit) × (outcome ≡ limit (limit_line passed)))
-    ⊎ (outcome ≡ refused (codes "not found\n"))))
+MayFind chain outcome = IsFound chain outcome ⊎ (IsClosureLine chain outcome ⊎ IsLimitLine chain outcome)
 
 -- the line of the configuration where the last problem is solvable without communication, and else what may be found
 abbrev pub MayFindBehind : Option ℕ → Bound → Outcome → Type 0

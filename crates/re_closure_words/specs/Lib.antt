@@ -1,1 +1,2 @@
 pub mod ClosureWords
+pub mod Laws

@@ -2,13 +2,15 @@
 ghost use Rattle.re_cert.specs.Bounds.{last_problem};
 ghost use Rattle.re_cert.specs.declared.certificate.Kind.TheVariants.{Fixed};
 ghost use Rattle.re_chain_texts.specs.OverChains.{steps_refusal};
+ghost use Rattle.re_check.specs.Verdicts.{steps_fault};
 ghost use Rattle.re_closure.specs.Closures.{Answers};
 ghost use Rattle.re_closure_words.specs.ClosureWords.{MayFindBehind, MayGive, MayGiveAt, MayGiveSound, closure_help, names_closure};
+ghost use Rattle.re_extend.specs.Extensions.{IsSoundChain};
 ghost use Rattle.re_frame.specs.Outcomes.{outcome_of};
 ghost use Rattle.re_io.specs.declared.read.TheConstants.{MAX_BYTES};
 ghost use Rattle.re_problem.specs.NamedProblems.{unnamed};
 ghost use Rattle.re_problem.specs.Zero.{zero_place};
-ghost use Rattle.std.specs.Prelude.{◌≡◌, ◌≤◌, Err, IfOk, None, Ok, length, map, string_bytes};
+ghost use Rattle.std.specs.Prelude.{◌≡◌, ◌≤◌, IfOk, None, length, map, string_bytes};
 
 use crate::lines::{limit_output, solvable, solvable_closure};
 use re_cert::{Certificate, Kind};
@@ -20,7 +22,7 @@ use re_labels::NoMemory;
 use re_problem::TextFault;
 use std::alloc::Global;
 
-/// The word `closure`. It reads a chain as a whole, and takes the time of `check` on the chain twice, beside that of `find_closure`.
+/// The word `closure`. It reads a chain as a whole, and takes the time of `check` on the chain, beside that of `find_closure`.
 #[derive(Clone, Copy, Debug, PartialEq, Eq)]
 pub struct ClosureWord;
 
@@ -44,19 +46,19 @@ pub fn closure_help() -> &'static str
 
 // What the word gives where this was found behind the chain.
 fn closing_output(alloc: Global, chain: &Certificate, closing: Closing) -> Result<Output, NoMemory>
-    requires { Answers chain.now (Ok closing) }
+    requires { Answers chain.now closing }
     ensures { IfOk result (λ output. MayFindBehind (zero_place (unnamed (last_problem chain.now))) chain.now (outcome_of output)) }
 {
     match closing {
         Closing::Found(certificate) => certificate_output(alloc, &certificate),
         Closing::Solvable(place) => solvable(alloc, chain.last(), place),
         Closing::SolvableClosure(sets) => solvable_closure(alloc, chain.last(), sets.as_slice()),
-        Closing::NotFound => Ok(refused(begun(alloc, "not found\n")?)),
     }
 }
 
-// What the word gives to a chain of kind lower.
+// What the word gives to a sound chain of kind lower.
 fn lower_output(alloc: Global, chain: &Certificate) -> Result<Output, NoMemory>
+    requires { IsSoundChain chain.now }
     ensures { IfOk result (λ output. MayFindBehind (zero_place (unnamed (last_problem chain.now))) chain.now (outcome_of output)) }
 {
     match find_closure(alloc, chain) {
@@ -68,7 +70,8 @@ fn lower_output(alloc: Global, chain: &Certificate) -> Result<Output, NoMemory>
 
 // What the word gives to a chain each step of which meets its clauses.
 fn chain_output(alloc: Global, chain: &Certificate) -> Result<Output, NoMemory>
-    requires { chain.now.kind ≡ Fixed → ⊥ }
+    requires meets { steps_fault chain.now.first 1 chain.now.steps ≡ None }
+    requires open { chain.now.kind ≡ Fixed → ⊥ }
     ensures { IfOk result (λ output. MayGiveAt chain.now.kind chain.now (outcome_of output)) }
 {
     match chain.kind() {

@@ -42,11 +42,11 @@ pub(crate) fn solvable_closure(
 }
 
 // The line for more labels than a problem may have.
-fn labels_line(alloc: Global, count: u32) -> Result<Vec<u8>, NoMemory>
+fn labels_line(alloc: Global, count: usize) -> Result<Vec<u8>, NoMemory>
     ensures { IfOk result (λ text. text.items ≡ limit_line (Labels count)) }
 {
     let mut text = begun(alloc, "limit: closure: more than 128 labels: ")?;
-    push_number(alloc, &mut text, count as usize)?;
+    push_number(alloc, &mut text, count)?;
     push_words(&mut text, "\n")?;
     Ok(text)
 }

@@ -1,5 +1,6 @@
 //! The lines of the closure of a problem, and the sets for which its labels stand.
 ghost use Rattle.re_config.specs.Rows.{placed, set_at};
+ghost use Rattle.re_config.specs.declared.TheConstants.{MAX_ROWS};
 ghost use Rattle.re_labels.specs.Lists.{IsRising};
 ghost use Rattle.re_labels.specs.Sets.{number};
 ghost use Rattle.re_labels.specs.declared.TheConstants.{MAX_LABELS};
@@ -151,11 +152,14 @@ fn needed_sets(
 }
 
 /// The closure of the problem: the topmost lines of both sides, and the sets for which its labels stand. `TooManyLines` comes where
-/// `topmost_lines` answers it for one of the sides, the passive one first; the labels may be more than a problem may have.
+/// `topmost_lines` answers it for one of the sides, the passive one first; the labels may be more than a problem may have. Each side has at
+/// most `re_config::MAX_ROWS` lines.
 ///
 /// It costs what `re_rests::up_sets` and `topmost_lines` cost.
 pub fn closure_families(alloc: Global, problem: &Problem) -> Result<Families, LinesFault>
-    ensures { IfOk result (λ families. AreClosure (unnamed problem.now) (active_family problem.now families) (passive_family problem.now families)) }
+    ensures closure { IfOk result (λ families. AreClosure (unnamed problem.now) (active_family problem.now families) (passive_family problem.now families)) }
+    ensures few_passive { IfOk result (λ families. length families.passive.items ≤ MAX_ROWS) }
+    ensures few_active { IfOk result (λ families. length families.active.items ≤ MAX_ROWS) }
 {
     let labels = problem.names().len() as u8;
     let ups = re_rests::up_sets(problem.passive(), labels);

@@ -1,8 +1,9 @@
 //! The topmost of the lines that come from some lines by combinations.
 ghost use Rattle.re_config.specs.Rows.{Dominates};
+ghost use Rattle.re_config.specs.declared.TheConstants.{MAX_ROWS};
 ghost use Rattle.re_lines.specs.Closures.{AreTopmost};
 ghost use Rattle.re_topmost.specs.Kept.{AreOfLength, AreOffered, AreSettled, IsKept, IsTaken};
-ghost use Rattle.std.specs.Prelude.{◌≡◌, ◌<◌, ◌↔◌, Contains, IfOk, List, OnOk, length, ℕ, ◌∷◌};
+ghost use Rattle.std.specs.Prelude.{◌≡◌, ◌<◌, ◌≤◌, ◌↔◌, Contains, IfOk, List, OnOk, length, ℕ, ◌∷◌};
 
 use crate::combining::combinations;
 use crate::dominating::{dominates, is_dominated};
@@ -131,8 +132,9 @@ fn settle(
     line: &Line,
     waiting: &mut Vec<Line>,
 ) -> Result<(), LinesFault>
-    ensures { OnOk result ((d : ℕ) (starts : List (List (List ℕ))) → IsKept d starts kept.old.items (line.now ∷ waiting.old.items)
+    ensures kept { OnOk result ((d : ℕ) (starts : List (List (List ℕ))) → IsKept d starts kept.old.items (line.now ∷ waiting.old.items)
         → IsKept d starts kept.new.items waiting.new.items) }
+    ensures few { OnOk result (length kept.old.items ≤ MAX_ROWS → length kept.new.items ≤ MAX_ROWS) }
 {
     if is_dominated(kept.as_slice(), line) {
         return Ok(());
@@ -148,13 +150,14 @@ fn settle(
 }
 
 /// The topmost lines of what comes from some lines of one length by combinations: each such line is dominated by one of them, and
-/// none of them dominates another. They come in no certain order. `TooManyLines` depends on the lines on the way, which dominate one
+/// none of them dominates another. They are at most `re_config::MAX_ROWS`, and come in no certain order. `TooManyLines` depends on the lines on the way, which dominate one
 /// another; these are settled with many labels first.
 ///
 /// The cost is that of the combinations of each line that is kept at some time with those that are kept then, each compared with
 /// the kept ones.
 pub fn topmost_lines(alloc: Global, starts: Vec<Line>) -> Result<Vec<Line>, LinesFault>
-    ensures { IfOk result (λ lines. (d : ℕ) → AreOfLength d starts.items → AreTopmost d starts.items lines.items) }
+    ensures topmost { IfOk result (λ lines. (d : ℕ) → AreOfLength d starts.items → AreTopmost d starts.items lines.items) }
+    ensures few { IfOk result (λ lines. length lines.items ≤ MAX_ROWS) }
 {
     let mut waiting = starts;
     let mut kept = Vec::new(alloc);

@@ -1,10 +1,20 @@
-use Rattle.std.proofs.Common.{subst}
-use Rattle.std.specs.Prelude.{IfSome}
-use Rattle.re_cert.specs.Bounds.{last_problem}
-use Rattle.re_closure.specs.Closures.{AreNamed}
+use Rattle.std.proofs.Common.{◌+◌, ◌≤◌, Err, length, rules, sym, ap, ◌∙◌, subst}
+use Rattle.re_cert.specs.declared.certificate.TheConstants.{MAX_STEPS}
+use Rattle.re_problem.specs.NamedProblems.{NamedProblem, unnamed}
+use Rattle.re_closure.proofs.Computed.{err_is, limit_of}
+use Rattle.re_closure.proofs.Joined.{solvable_by}
+use Rattle.re_closure.specs.Closed.{IsClosureOf}
+use Rattle.re_closure.specs.Limits.{PassesLimit}
 use Rattle.re_closure.proofs.finding.closed.Goals as goal
 
-pub returns-in-Some-zero_round : goal.returns-in-Some-zero_round
-returns-in-Some-zero_round c =
-    let named = subst (λ o. IfSome o (λ closure. AreNamed c.last.result.now closure.sets.items)) c.in-Some.is c.in_ok-closure.ensures in
-    (c.requires, c.in_ok-fit_at-in-Some-zero_round.ensures (last_problem c.args.chain.now) (subst (λ p. AreNamed p c.in-Some.closure.sets.items) c.last.ensures named))
+pub returns-in_err-closure-clause-limit : goal.returns-in_err-closure-clause-limit
+returns-in_err-closure-clause-limit c = λ passed e.
+    let room : length c.args.chain.now.steps + 3 ≤ MAX_STEPS = search rules in
+    limit_of c.args.chain.now passed room (subst (λ (p : NamedProblem). PassesLimit (unnamed p) passed) c.last.ensures
+    (c.in_err-closure.ensures.limit passed (ap Err (err_is c.from_residual.result c.in_err-closure.field-0.0 passed c.from_residual.ensures.1 e))))
+
+pub returns-in_ok-fit_at-in-Some-clause-answers : goal.returns-in_ok-fit_at-in-Some-clause-answers
+returns-in_ok-fit_at-in-Some-clause-answers c =
+    let room : length c.args.chain.now.steps + 3 ≤ MAX_STEPS = search rules in
+    let of = subst (λ (p : NamedProblem). IsClosureOf (unnamed p) c.in_ok-closure.closure) c.last.ensures c.in_ok-closure.ensures.closure in
+    (c.requires.not_zero, room, solvable_by c.args.chain.now c.over_problems.ensures c.in_ok-closure.closure of c.in-Some.place _ (sym c.zero_round.ensures.place ∙ c.in-Some.is) c.in_ok-fit_at-in-Some.ensures)

@@ -1,6 +1,6 @@
-use Rattle.re_closure.specs.Closures.{AreNamed}
-use Rattle.re_problem.specs.NamedProblems.{NamedProblem}
+use Rattle.std.proofs.Common.{◌≡◌, take}
+use Rattle.re_config.specs.Rows.{placed}
 use Rattle.re_closure.proofs.finding.fit_at.Given as goal
 
 abbrev pub invariant-loop-label : goal.invariant-loop-label
-invariant-loop-label l = (problem : NamedProblem) → AreNamed problem l.closure.sets.items → AreNamed problem l.sets.items
+invariant-loop-label l = l.sets.items ≡ placed l.closure.sets.items (take l.label-index l.label-items)

@@ -8,8 +8,8 @@ use Rattle.re_topmost.proofs.NeededSets.{closure_is}
 use Rattle.re_topmost.specs.ProblemFamilies.{IsNeeded}
 use Rattle.re_topmost.proofs.families.closure_families.Goals as goal
 
-pub returns : goal.returns
-returns c =
+pub returns-clause-closure : goal.returns-clause-closure
+returns-clause-closure c =
     let problem = c.args.problem.now in
     let sets = c.in_ok-sets.sets.items in
     let count : c.len-labels.result ≡ length problem.names = c.len-labels.ensures.len ∙ ap length c.names.ensures.names in
@@ -21,4 +21,4 @@ returns c =
     (subst (λ l. (set : List ℕ) → Contains sets set ↔ IsNeeded c.len-labels.result l c.in_ok-active.active.items set) c.as_slice-4.ensures.value
     (subst (λ l. (set : List ℕ) → Contains sets set ↔ IsNeeded c.len-labels.result c.as_slice-4.result.now l set) c.as_slice-5.ensures.value c.in_ok-sets.ensures.needed)) in
     closure_is problem c.up_sets-ups.result.items c.in_ok-left.left.items c.in_ok-starts.starts.items c.in_ok-starts-2.starts.items c.in_ok-passive.passive.items c.in_ok-active.active.items sets
-    c.names.ensures.problem.problem ups left starts downs c.in_ok-passive.ensures c.in_ok-active.ensures c.in_ok-sets.ensures.rises need
+    c.names.ensures.problem.problem ups left starts downs c.in_ok-passive.ensures.topmost c.in_ok-active.ensures.topmost c.in_ok-sets.ensures.rises need

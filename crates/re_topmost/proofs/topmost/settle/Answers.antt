@@ -7,12 +7,12 @@ use Rattle.re_table.specs.GoodRows.{IsDominated}
 use Rattle.re_topmost.proofs.Keeping.{kept_dominated, kept_more}
 use Rattle.re_topmost.proofs.topmost.settle.Goals as goal
 
-pub returns-then-is_dominated : goal.returns-then-is_dominated
-returns-then-is_dominated c = λ d starts before. kept_dominated d starts c.args.kept.now.items c.args.waiting.now.items c.args.line.now
+pub returns-then-is_dominated-clause-kept : goal.returns-then-is_dominated-clause-kept
+returns-then-is_dominated-clause-kept c = λ d starts before. kept_dominated d starts c.args.kept.now.items c.args.waiting.now.items c.args.line.now
     (subst (λ l. IsDominated l c.args.line.now) c.as_slice.ensures.value (c.is_dominated.ensures.0 c.if-is_dominated.true)) before
 
-pub returns : goal.returns
-returns c = λ d starts before. kept_more d starts c.args.kept.now.items c.in_ok-more.more.items c.push.new.self.items c.args.waiting.now.items c.offer_combinations.new.waiting.items c.args.line.now c.copy.result
+pub returns-clause-kept : goal.returns-clause-kept
+returns-clause-kept c = λ d starts before. kept_more d starts c.args.kept.now.items c.in_ok-more.more.items c.push.new.self.items c.args.waiting.now.items c.offer_combinations.new.waiting.items c.args.line.now c.copy.result
     (λ held. false≢true (sym c.if-is_dominated.false ∙ c.is_dominated.ensures.1 (subst (λ l. IsDominated l c.args.line.now) (sym c.as_slice.ensures.value) held)))
     (subst (λ l. (line : List (List ℕ)) → Contains c.in_ok-more.more.items line ↔ (Contains l line × (Dominates c.args.line.now line → ⊥))) c.as_slice-2.ensures.value c.in_ok-more.ensures)
     c.copy.ensures c.in_ok-push.ensures.items

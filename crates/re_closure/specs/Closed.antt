@@ -1,0 +1,44 @@
+-- What the computed parts of a closure are.
+use Rattle.std.specs.Prelude.{◌≡◌, ◌<◌, ◌≤◌, length, map}
+use Rattle.re_config.specs.declared.TheConstants.{MAX_ROWS}
+use Rattle.re_labels.specs.Lists.{place_of}
+use Rattle.re_table.specs.declared.constraint_table.TheConstants.{MAX_CONFIGURATIONS}
+use Rattle.re_problem.specs.Problems.{Problem}
+use Rattle.re_lines.specs.Lines.{Family, below, labels_within, topmost}
+use Rattle.re_closure.specs.Limits.{IsSmallClosure}
+use Rattle.re_closure.specs.Sides.{IsMapOf, named_of}
+use Rattle.re_closure.specs.declared.closure.Closure.{Closure}
+use Rattle.re_closure.specs.declared.closure.Side.{Side}
+use Rattle.re_closure.specs.declared.types.ClosureLimit.{ClosureLimit}
+use Rattle.re_closure.specs.declared.types.ClosureLimit.TheVariants.{Configurations}
+use Rattle.re_closure.specs.declared.types.StepMap.{StepMap}
+
+-- the map of the step to the problem whose active configurations are the lines of a family
+abbrev pub IsMapWithin : Family → StepMap → Type 0
+IsMapWithin family m = IsMapOf (below family) (length family.sets) (place_of (map (labels_within family.sets) family.sets)) m
+
+pub record IsSide (family : Family) (side : Side) : Type 0 where
+  pub topmost_is : side.topmost ≡ topmost family
+  pub below_is : side.below ≡ below family
+  pub few : length (below family).configs ≤ MAX_CONFIGURATIONS
+  pub map_is : IsMapWithin family side.map
+
+-- the only limit that a side may pass
+abbrev pub SidePasses : Family → ClosureLimit → Type 0
+SidePasses family Configurations = MAX_CONFIGURATIONS < length (below family).configs
+SidePasses family passed = ⊥
+
+-- the closure of the problem, of these families; its passive lines are few
+pub record Computes (problem : Problem) (active passive : Family) (closure : Closure) : Type 0 where
+  pub small : IsSmallClosure problem active passive
+  pub few_lines : length passive.lines ≤ MAX_ROWS
+  pub sets_are : closure.sets.items ≡ passive.sets
+  pub closed_is : closure.closed ≡ named_of active passive
+  pub between_is : closure.between ≡ named_of passive active
+  pub out_is : IsMapWithin active closure.out
+  pub back_is : IsMapWithin passive closure.back
+
+pub record IsClosureOf (problem : Problem) (closure : Closure) : Type 0 where
+  pub active : Family
+  pub passive : Family
+  pub computed : Computes problem active passive closure

@@ -8,12 +8,9 @@ use Rattle.re_frame.specs.declared.status.Answer.{Answer}
 use Rattle.re_frame.specs.declared.status.Answer.TheVariants as answered
 use Rattle.re_frame.specs.declared.status.Status.{Status}
 use Rattle.re_frame.specs.declared.status.Status.TheVariants.{BadInput, BadWords, Done, Limit, No, NoMemory, ReadFault, WriteFault}
-use Rattle.re_chain_words.specs.Answers.{WordWorth, word_outcome}
-use Rattle.re_chain_words.specs.declared.words.ChainWord.{ChainWord}
 use Rattle.re_explore.specs.Commands.{IsOutcome, bad_words, command_of, is_judging, is_reading}
 use Rattle.re_explore.specs.Expected.{IsExpected, IsInput, Says}
 use Rattle.re_explore.specs.declared.command.Command.{Command}
-use Rattle.re_explore.specs.declared.command.Command.TheVariants.{Chains}
 
 pub says_none : (words : List (List ℕ)) (output : Output) → None ≡ command_of words → outcome_of output ≡ bad_words → Says (status_of output.answer) (command_of words)
 unfolding bad_words
@@ -47,9 +44,11 @@ is_answer ReadFault memory read write = absurd (read refl)
 is_answer WriteFault memory read write = absurd (write refl)
 is_answer NoMemory memory read write = absurd (memory refl)
 
--- six texts one behind the other
-pub joined : (a b c d e f : List ℕ) → ((((a ++ b) ++ c) ++ d) ++ e) ++ f ≡ a ++ (b ++ (c ++ (d ++ (e ++ f))))
-joined a b c d e f = append_assoc (((a ++ b) ++ c) ++ d) e f ∙ append_assoc ((a ++ b) ++ c) d (e ++ f) ∙ append_assoc (a ++ b) c (d ++ (e ++ f)) ∙ append_assoc a b (c ++ (d ++ (e ++ f)))
+-- eight texts one behind the other
+pub joined : (a b c d e f g h : List ℕ) → ((((((a ++ b) ++ c) ++ d) ++ e) ++ f) ++ g) ++ h ≡ a ++ (b ++ (c ++ (d ++ (e ++ (f ++ (g ++ h))))))
+joined a b c d e f g h =
+    append_assoc (((((a ++ b) ++ c) ++ d) ++ e) ++ f) g h ∙ append_assoc ((((a ++ b) ++ c) ++ d) ++ e) f (g ++ h) ∙ append_assoc (((a ++ b) ++ c) ++ d) e (f ++ (g ++ h))
+    ∙ append_assoc ((a ++ b) ++ c) d (e ++ (f ++ (g ++ h))) ∙ append_assoc (a ++ b) c (d ++ (e ++ (f ++ (g ++ h)))) ∙ append_assoc a b (c ++ (d ++ (e ++ (f ++ (g ++ h)))))
 
 -- a command that is done answers Done
 pub done_is : (answer : Answer) → status_of answer ≡ Done → answer ≡ answered.Done
@@ -59,12 +58,14 @@ done_is answered.BadWords e = absurd (cc)
 done_is answered.BadInput e = absurd (cc)
 done_is answered.Limit e = absurd (cc)
 
--- a word over chains has its outcome, and what this is worth
-pub chains_expected : {E : Type 0} (words : List (List ℕ)) (left : Option (List ℕ)) (word : ChainWord) (result : Result Output E) → Some (Chains word) ≡ command_of words
-    → IfOk result (λ output. (bytes : List ℕ) → left ≡ Some bytes → outcome_of output ≡ within_limit (word_outcome word) bytes)
-    → IfOk result (λ output. output.answer ≡ answered.Done → WordWorth word output.text.items)
+-- a word with one outcome has it, and what this is worth
+pub exactly_expected : {E : Type 0} (words : List (List ℕ)) (left : Option (List ℕ)) (command : Command) (outcome : List ℕ → Outcome) (Worth : List ℕ → Type 0) (result : Result Output E)
+    → Some command ≡ command_of words → IsTrue (is_reading (Some command))
+    → ((bytes : List ℕ) (o : Outcome) → (o ≡ within_limit outcome bytes) × (o.status ≡ Done → Worth o.text) → IsOutcome (Some command) bytes o)
+    → IfOk result (λ output. (bytes : List ℕ) → left ≡ Some bytes → outcome_of output ≡ within_limit outcome bytes)
+    → IfOk result (λ output. output.answer ≡ answered.Done → Worth output.text.items)
     → IfOk result (λ output. (bytes : List ℕ) → IsInput words left bytes → IsExpected words bytes (outcome_of output))
-chains_expected words left word (Ok output) is given worth = λ bytes input.
-    subst (λ command. IsOutcome command bytes (outcome_of output)) is
-    (given bytes (input (subst (λ command. IsTrue (is_reading command)) is refl)), λ done. worth (done_is output.answer done))
-chains_expected words left word (Err fault) is given worth = tt
+exactly_expected words left command outcome Worth (Ok output) is reads exact given worth = λ bytes input.
+    subst (λ c. IsOutcome c bytes (outcome_of output)) is
+    (exact bytes (outcome_of output) (given bytes (input (subst (λ c. IsTrue (is_reading c)) is reads)), λ done. worth (done_is output.answer done)))
+exactly_expected words left command outcome Worth (Err fault) is reads exact given worth = tt

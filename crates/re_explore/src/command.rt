@@ -1,10 +1,12 @@
 // The command that the words name. A family of words is a variant here, an arm in `command_from` and in `output_from`, and its lines of help.
-ghost use Rattle.re_explore.specs.Commands.{Fits, bad_words, command_of, command_over_chains, help_text, is_help};
+ghost use Rattle.re_explore.specs.Commands.{Fits, bad_words, command_of, command_over_certificates, command_over_chains, help_text, is_help};
 ghost use Rattle.re_frame.specs.Outcomes.{done as done_with, outcome_of};
 ghost use Rattle.std.specs.Prelude.{◌≡◌, ◌++◌, IfOk, IfSome, map, string_bytes};
 
+use re_bridge_words::{bridge_help, names_bridge};
 use re_chain_words::{ChainWord, chain_help, chain_word};
 use re_closure_words::{closure_help, names_closure};
+use re_describe_words::{describe_help, names_describe};
 use re_frame::{Answer, Output, begun, done, push_words};
 use re_labels::NoMemory;
 use re_search_words::{SearchWord, search_help, search_word};
@@ -23,6 +25,10 @@ pub(crate) enum Command {
     Searches(SearchWord),
     /// The fixed point by right-closed sets.
     Closes,
+    /// A step to a given problem.
+    Bridges,
+    /// A report on a certificate.
+    Describes,
 }
 
 fn is_help(words: &[String]) -> bool
@@ -48,7 +54,24 @@ fn command_over_chains(words: &[String]) -> Option<Command>
     if names_closure(words) {
         return Some(Command::Closes);
     }
+    if names_bridge(words) {
+        return Some(Command::Bridges);
+    }
     None
+}
+
+// The command that tells of a certificate.
+fn command_over_certificates(words: &[String]) -> Option<Command>
+    ensures command { result ≡ command_over_certificates (map string_bytes words.now) }
+    ensures fits { IfSome result Fits }
+{
+    if names_why(words) {
+        Some(Command::Explains)
+    } else if names_describe(words) {
+        Some(Command::Describes)
+    } else {
+        None
+    }
 }
 
 #[tactic(auto, unfolding(crate::specs::Commands::command_of))]
@@ -57,12 +80,12 @@ pub(crate) fn command_from(words: &[String]) -> Option<Command>
     ensures fits { IfSome result Fits }
 {
     if is_help(words) {
-        Some(Command::Help)
-    } else if names_why(words) {
-        Some(Command::Explains)
-    } else {
-        command_over_chains(words)
+        return Some(Command::Help);
     }
+    if let Some(command) = command_over_certificates(words) {
+        return Some(command);
+    }
+    command_over_chains(words)
 }
 
 // The lines of help behind these words.
@@ -76,6 +99,8 @@ fn with_help(alloc: Global, words: &str) -> Result<Vec<u8>, NoMemory>
     push_words(&mut text, why_help())?;
     push_words(&mut text, search_help())?;
     push_words(&mut text, closure_help())?;
+    push_words(&mut text, bridge_help())?;
+    push_words(&mut text, describe_help())?;
     Ok(text)
 }
 

@@ -8,7 +8,9 @@ ghost use Rattle.re_frame.specs.Outcomes.{IsAnswer, Outcome, outcome_of, status_
 ghost use Rattle.re_frame.specs.Runs.{Answers, StopsWithin, TakesInput};
 
 use crate::command::{Command, bad_words, command_from, help};
+use re_bridge_words::BridgeWord;
 use re_closure_words::ClosureWord;
+use re_describe_words::Describe;
 use re_finding::find_input;
 use re_frame::{Output, Status, Stop, answer_input, put_output};
 use re_io::{MAX_BYTES, Sink, Source};
@@ -35,6 +37,8 @@ fn output_from<S: Source>(alloc: Global, words: &[String], source: &mut S) -> Re
         Some(Command::Explains) => answer_input(alloc, &Why, source),
         Some(Command::Searches(word)) => find_input(alloc, &word, source),
         Some(Command::Closes) => find_input(alloc, &ClosureWord, source),
+        Some(Command::Bridges) => answer_input(alloc, &BridgeWord, source),
+        Some(Command::Describes) => find_input(alloc, &Describe, source),
     }
 }
 

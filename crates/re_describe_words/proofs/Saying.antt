@@ -1,5 +1,5 @@
 -- What the word may say.
-use Rattle.std.proofs.Common.{◌≡◌, ℕ, false, List, Option, Some, None, sym, subst}
+use Rattle.std.proofs.Common.{ℕ, false, List, Option, Some, None, sym, subst}
 use Rattle.re_problem.specs.declared.fault.InputFault.{InputFault}
 use Rattle.re_cert.specs.Bounds.{Bound}
 use Rattle.re_chain_texts.specs.ChainTexts.{chain_fault}

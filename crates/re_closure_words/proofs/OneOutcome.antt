@@ -1,6 +1,6 @@
 -- All closures of a problem have one certificate, and one answer.
-use Rattle.std.proofs.Common.{◌≡◌, ℕ, suc, ◌+◌, ◌<◌, ◌≤◌, List, [], ◌∷◌, ◌++◌, length, map, Option, None, Some, refl, sym, ap, ◌∙◌, subst, ◌⊎◌, inl, inr, arith}
-use Rattle.std.specs.Prelude.{Contains, slice_index_or}
+use Rattle.std.proofs.Common.{◌≡◌, ℕ, suc, ◌<◌, List, [], ◌∷◌, ◌++◌, length, map, None, Some, refl, sym, ap, ◌∙◌, subst, ◌⊎◌, inl, inr, arith}
+use Rattle.std.specs.Prelude.{slice_index_or}
 use Rattle.re_config.specs.Rows.{placed}
 use Rattle.re_labels.proofs.Membership.{Contains-In, In, In-Contains}
 use Rattle.re_labels.proofs.Rising.{same_members}
@@ -12,7 +12,7 @@ use Rattle.re_problem.specs.NamedProblems.{NamedProblem, unnamed}
 use Rattle.re_problem.specs.Problems.{IsProblem, Problem}
 use Rattle.re_problem.specs.Steps.{SetEntry}
 use Rattle.re_problem.specs.Zero.{zero_place}
-use Rattle.re_cert.specs.Bounds.{Bound, BoundStep, last_problem}
+use Rattle.re_cert.specs.Bounds.{Bound, last_problem}
 use Rattle.re_cert.specs.declared.certificate.Kind.TheVariants.{Fixed}
 use Rattle.re_chain_steps.specs.Stepped.{in_form_of}
 use Rattle.re_chain_texts.specs.OverChains.{certificate_outcome}
@@ -27,7 +27,7 @@ use Rattle.re_closure.specs.Sides.{closed_bound, entries_by, named_of, step_to}
 use Rattle.re_closure.specs.declared.types.ClosureLimit.{ClosureLimit}
 use Rattle.re_closure.specs.declared.types.ClosureLimit.TheVariants.{Configurations, Labels, Rows, Steps}
 use Rattle.re_frame.specs.Outcomes.{Outcome, limit, refused}
-use Rattle.re_closure_words.specs.ClosureWords.{MayFind, closure_line, limit_line}
+use Rattle.re_closure_words.specs.ClosureWords.{closure_line, limit_line}
 use Rattle.re_closure_words.specs.Laws.{OneOutcomeLaw}
 
 module _ (problem : Problem) (a p b q : Family) (is : IsProblem problem) (one : AreClosure problem a p) (two : AreClosure problem b q) where

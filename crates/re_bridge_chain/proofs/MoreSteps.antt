@@ -12,7 +12,8 @@ use Rattle.re_cert.specs.Bounds.{Bound, BoundStep, built, has_row_maps, is_bound
 use Rattle.re_cert.specs.declared.certificate.Kind.TheVariants.{Lower}
 use Rattle.re_cert.specs.declared.certificate.TheConstants.{MAX_STEPS}
 use Rattle.re_chain_parts.specs.Chains.{IsSound, chain_with}
-use Rattle.re_chain_steps.proofs.RowForms.{step-fits, step-form, step-sound}
+use Rattle.re_chain_steps.proofs.MoreSteps.{all-sets}
+use Rattle.re_chain_steps.proofs.RowForms.{next-same, step-fits, step-form, step-sound}
 use Rattle.re_chain_steps.specs.RowForms.{by_rows, step_by_rows}
 use Rattle.re_clauses.specs.Clauses.{step_fault}
 use Rattle.re_check.specs.Verdicts.{steps_fault}
@@ -64,15 +65,6 @@ any-more (t ∷ steps) s = ap (λ b. is_by_row t.map || b) (any-more steps s) �
     go true = refl
     go false = refl
 
--- where none is by rows, all are by sets
-all-sets : (steps : List BoundStep) → has_row_maps steps ≡ false → list_all (λ (s : BoundStep). not (is_by_row s.map)) steps ≡ true
-all-sets [] none = refl
-all-sets (s ∷ steps) none = go (is_by_row s.map) refl (all-sets steps)
-  where
-    go : (b : Bool) → is_by_row s.map ≡ b → (has_row_maps steps ≡ false → list_all (λ (s : BoundStep). not (is_by_row s.map)) steps ≡ true) → list_all (λ (s : BoundStep). not (is_by_row s.map)) (s ∷ steps) ≡ true
-    go true e rest = let some : true ≡ false = ap (λ b. b || has_row_maps steps) (sym e) ∙ none in absurd (cc)
-    go false e rest = true-and (not (is_by_row s.map)) (list_all (λ (s : BoundStep). not (is_by_row s.map)) steps) (ap not e) (rest (ap (λ b. b || has_row_maps steps) (sym e) ∙ none))
-
 pub sets-form : (steps : List BoundStep) (s : BoundStep) (r : Bool) → r ≡ (has_row_maps steps || is_by_row s.map) → r ≡ false → one_form (steps ++ s ∷ []) ≡ true
 sets-form steps s r is none =
     or-right (list_all (λ (s : BoundStep). is_by_row s.map) (steps ++ s ∷ [])) (list_all (λ (s : BoundStep). not (is_by_row s.map)) (steps ++ s ∷ []))
@@ -89,11 +81,6 @@ pub rows-form : (bound : Bound) (s : BoundStep) → is_bound bound ≡ true → 
 rows-form bound s is lower fit =
     or-left (list_all (λ (s : BoundStep). is_by_row s.map) (map step_by_rows bound.steps ++ step_by_rows s ∷ [])) (list_all (λ (s : BoundStep). not (is_by_row s.map)) (map step_by_rows bound.steps ++ step_by_rows s ∷ []))
     (one_more (λ (s : BoundStep). is_by_row s.map) (map step_by_rows bound.steps) (step_by_rows s) (rows-all bound.first bound.steps (bound-parts bound is lower).0) (step-form Lower (last_problem bound) s fit))
-
--- the problems are the same
-next-same : (steps : List BoundStep) → next_problems (map step_by_rows steps) ≡ next_problems steps
-next-same [] = refl
-next-same (s ∷ steps) = ap (λ l. s.next ∷ l) (next-same steps)
 
 pub last-same : (bound : Bound) → last_problem (by_rows bound) ≡ last_problem bound
 last-same bound = ap (last_or bound.first) (next-same bound.steps)

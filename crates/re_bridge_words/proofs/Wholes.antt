@@ -49,16 +49,3 @@ module _ (text : List ℕ) (cut : Cut) (is : IsCut text cut) where
   unfolding behind_fault
   both_read input none chain right to =
       (rest none ∙ right, chain ∙ ap text_chain is.chain, to ∙ ap (λ l. problem_of (problem_lines l)) is.behind)
-
--- ---- the chain of a text is no fixed point
-kind_open : (kind : Kind) → chain_kind kind ≡ Fixed → ⊥
-kind_open Lower e = cc
-kind_open Upper e = cc
-kind_open Fixed e = cc
-
-if_open : (b : Bool) (x y : Bound) → (x.kind ≡ Fixed → ⊥) → (y.kind ≡ Fixed → ⊥) → (if b then x else y).kind ≡ Fixed → ⊥
-if_open true x y no_x no_y e = no_x e
-if_open false x y no_x no_y e = no_y e
-
-pub text_open : (bytes : List ℕ) → (text_chain bytes).kind ≡ Fixed → ⊥
-text_open bytes e = if_open (is_certificate_text bytes) _ _ (kind_open _) (kind_open Lower) e

@@ -8,6 +8,7 @@ use Rattle.re_labels.specs.Lists.{count_from}
 use Rattle.re_labels.specs.Names.{IsName, IsNames}
 use Rattle.re_labels.specs.Sets.{IsLabelSet}
 use Rattle.re_problem.proofs.Building.{occurs-fact}
+use Rattle.re_problem.proofs.NewNumbers.{named_in}
 use Rattle.re_problem.specs.NamedProblems.{IsNamedProblem, NamedProblem, all_occur, are_named, built, occurs, unnamed}
 use Rattle.re_problem.specs.Problems.{IsProblem}
 use Rattle.re_changes.proofs.Numbering.{rising-names}
@@ -35,18 +36,12 @@ IsNamed-built named names problem is = record {
       ];
 }
 
--- the name of a label is one of the names
-pub In-get : (names : List (List ℕ)) (k : ℕ) → k < length names → In (get_or names k []) names
-In-get [] k l = absurd (omega arith)
-In-get (name ∷ names) zero l = inl refl
-In-get (name ∷ names) (suc k) l = inr (In-get names k (omega arith))
-
 -- the names of labels that stay are names
 pub IsNames-kept : (names : List (List ℕ)) (stay : List ℕ) → IsNames names → IsLabelSet (length names) stay → IsNames (map (λ label. get_or names label []) stay)
 IsNames-kept names stay is set = record {
   ascends = rising-names names stay is.ascends set;
   each = AllByRecursion-from_In IsName (map (λ label. get_or names label []) stay) (λ name i.
       let (label, j, e) = In-map_from (λ label. get_or names label []) name stay i in
-      subst IsName (sym e) (AllByRecursion-In IsName names (get_or names label []) is.each (In-get names label (AllByRecursion-In (λ x. x < length names) stay label set.1 j))));
+      subst IsName (sym e) (AllByRecursion-In IsName names (get_or names label []) is.each (named_in names label (AllByRecursion-In (λ x. x < length names) stay label set.1 j))));
   few = let c = length-map' (λ label. get_or names label []) stay in let l = length-set (length names) stay set in let f = is.few in omega arith;
 }

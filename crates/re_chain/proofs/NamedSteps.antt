@@ -20,7 +20,7 @@ use Rattle.re_labels.specs.Lists.{IsBefore, count_from, place_of, same_list}
 use Rattle.re_labels.specs.ListSets.{list_set}
 use Rattle.re_labels.specs.Names.{IsName, IsNames}
 use Rattle.re_problem.proofs.ListSizes.{length-list_set}
-use Rattle.re_problem.proofs.NewNumbers.{names_rise}
+use Rattle.re_problem.proofs.NewNumbers.{named_in, names_rise}
 use Rattle.re_problem.proofs.StepLaws.{map-map}
 use Rattle.re_problem.proofs.UsedLabels.{all_counted}
 use Rattle.re_problem.specs.NamedProblems.{IsNamedProblem, NamedProblem, all_occur, are_named, built, occurs, unnamed}
@@ -40,7 +40,7 @@ use Rattle.re_clauses.specs.Clauses.{is_filled, meets, step_clauses, step_fault}
 use Rattle.re_clauses.specs.declared.clause.Clause.TheVariants.{U1, U2, U3, U4}
 use Rattle.re_chain.proofs.DroppedSteps.{entries-fit}
 use Rattle.re_chain.proofs.LastSteps.{Keeps}
-use Rattle.re_chain.proofs.NamedProblems.{In-get, IsNamed-built}
+use Rattle.re_chain.proofs.NamedProblems.{IsNamed-built}
 use Rattle.re_chain.proofs.RelaxedSteps.{relaxed-step}
 use Rattle.re_chain.proofs.StepsAlong.{along-form, is-lower, is-upper, map-fits, parts-fit, step-parts}
 use Rattle.re_chain.specs.Chains.{entry_sent, sent_along, step_along}
@@ -99,7 +99,7 @@ module _ (x : ℕ) (name : List ℕ) (problem : NamedProblem) (is : IsNamedProbl
 
   held : (label : ℕ) → label < length problem.names → Contains (list_set (names_with x name problem)) (get_or (names_with x name problem) label [])
   held label l = In-Contains (get_or (names_with x name problem) label []) (list_set (names_with x name problem))
-      (list_set-In (names_with x name problem) (get_or (names_with x name problem) label []) (In-get (names_with x name problem) label (let c = count in omega arith)))
+      (list_set-In (names_with x name problem) (get_or (names_with x name problem) label []) (named_in (names_with x name problem) label (let c = count in omega arith)))
 
   pub number-below : (label : ℕ) → label < length problem.names → image_at (name_numbers x name problem) label < length (list_set (names_with x name problem))
   number-below label l = subst (λ k. k < length (list_set (names_with x name problem))) (sym (number-is label l))
@@ -108,7 +108,7 @@ module _ (x : ℕ) (name : List ℕ) (problem : NamedProblem) (is : IsNamedProbl
   -- each new label is the number of a label
   number-from : (k : ℕ) → k < length (list_set (names_with x name problem)) → (label : ℕ) × (label < length problem.names) × (image_at (name_numbers x name problem) label ≡ k)
   number-from k l =
-      let i = In-list_set (names_with x name problem) (get_or (list_set (names_with x name problem)) k []) (In-get (list_set (names_with x name problem)) k l) in
+      let i = In-list_set (names_with x name problem) (get_or (list_set (names_with x name problem)) k []) (named_in (list_set (names_with x name problem)) k l) in
       let (label, m, e) = get-below (names_with x name problem) (get_or (list_set (names_with x name problem)) k []) i in
       let low : label < length problem.names = (let c = count in omega arith) in
       (label, low, number-is label low ∙ place_of-at (list_set (names_with x name problem)) k (get_or (names_with x name problem) label []) (rising-list_set (names_with x name problem)) l (sym e))
@@ -179,7 +179,7 @@ module _ (x : ℕ) (name : List ℕ) (problem : NamedProblem) (is : IsNamedProbl
     -- another label doesn't have the name
     not-taken : (b : ℕ) → b < length problem.names → (b ≡ x → ⊥) → name ≡ get_or problem.names b [] → ⊥
     not-taken b l apart e =
-        let yes : list_any (same_list name) problem.names ≡ true = any-In (same_list name) (get_or problem.names b []) problem.names (In-get problem.names b l) (ap (same_list name) (sym e) ∙ same_list-refl name) in
+        let yes : list_any (same_list name) problem.names ≡ true = any-In (same_list name) (get_or problem.names b []) problem.names (named_in problem.names b l) (ap (same_list name) (sym e) ∙ same_list-refl name) in
         go (same_list name (get_or problem.names x [])) refl (ap (λ t. t && not (same_list name (get_or problem.names x []))) (sym yes) ∙ free)
       where
         go : (t : Bool) → same_list name (get_or problem.names x []) ≡ t → (true && not (same_list name (get_or problem.names x []))) ≡ false → ⊥
@@ -214,7 +214,7 @@ module _ (x : ℕ) (name : List ℕ) (problem : NamedProblem) (is : IsNamedProbl
 
     there : (k : ℕ) → k < length (list_set (names_with x name problem)) → Contains (names_with x name problem) (get_or (list_set (names_with x name problem)) k [])
     there k l = In-Contains (get_or (list_set (names_with x name problem)) k []) (names_with x name problem)
-        (In-list_set (names_with x name problem) (get_or (list_set (names_with x name problem)) k []) (In-get (list_set (names_with x name problem)) k l))
+        (In-list_set (names_with x name problem) (get_or (list_set (names_with x name problem)) k []) (named_in (list_set (names_with x name problem)) k l))
 
     back-below : (k : ℕ) → k < length (list_set (names_with x name problem)) → place_of (names_with x name problem) (get_or (list_set (names_with x name problem)) k []) < length problem.names
     back-below k l = let low = place_of-below (names_with x name problem) (get_or (list_set (names_with x name problem)) k []) (there k l) in let c = count in omega arith

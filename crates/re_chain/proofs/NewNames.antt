@@ -14,12 +14,12 @@ use Rattle.re_labels.specs.Lists.{count_from, place_of, same_list}
 use Rattle.re_labels.specs.ListSets.{list_set, with_list}
 use Rattle.re_labels.specs.Names.{IsName, IsNames}
 use Rattle.re_labels.specs.declared.TheConstants.{MAX_LABELS}
+use Rattle.re_problem.proofs.NewNumbers.{named_in}
 use Rattle.re_problem.specs.NamedProblems.{IsNamedProblem, NamedProblem, built}
 use Rattle.re_problem.specs.Steps.{SetEntry}
 use Rattle.re_table.proofs.ConstraintImages.{config-below}
 use Rattle.re_table.proofs.Insertions.{list_set-step}
 use Rattle.re_table.specs.Constraints.{Constraint, IsConstraint}
-use Rattle.re_chain.proofs.NamedProblems.{In-get}
 use Rattle.re_chain.proofs.NamedSteps.{named-built, named-names}
 use Rattle.std.specs.Prelude.{if◌then◌else◌}
 use Rattle.re_items.specs.Steps.{is_nil}
@@ -65,7 +65,7 @@ names-whole names x name i kept l so_far = so_far ∙ ap list_set (take_all i (s
 pub name-there : (names renamed : List (List ℕ)) (x : ℕ) (name v : List ℕ) (i : ℕ) → i < length names → v ≡ get_or (set names x name) i [] → renamed ≡ list_set (set names x name) → Contains renamed v
 name-there names renamed x name v i l at same =
     let m : i < length (set names x name) = (let c = length-set names x name in omega arith) in
-    subst (λ (k : List (List ℕ)). Contains k v) (sym same) (In-Contains v (list_set (set names x name)) (list_set-In (set names x name) v (subst (λ w. In w (set names x name)) (sym at) (In-get (set names x name) i m))))
+    subst (λ (k : List (List ℕ)). Contains k v) (sym same) (In-Contains v (list_set (set names x name)) (list_set-In (set names x name) v (subst (λ w. In w (set names x name)) (sym at) (named_in (set names x name) i m))))
 
 -- ---- the problem
 module _ (x : ℕ) (name : List ℕ) (problem : NamedProblem) (is : IsNamedProblem problem) (below : x < length problem.names) (is_name : IsName name) (numbers : List ℕ) (t : numbers ≡ name_numbers x name problem) where

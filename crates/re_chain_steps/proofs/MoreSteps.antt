@@ -94,7 +94,7 @@ all-rows steps form some = elim (or-true (list_all (λ (s : BoundStep). is_by_ro
 ]
 
 -- where none is, all are by sets
-all-sets : (steps : List BoundStep) → has_row_maps steps ≡ false → list_all (λ (s : BoundStep). not (is_by_row s.map)) steps ≡ true
+pub all-sets : (steps : List BoundStep) → has_row_maps steps ≡ false → list_all (λ (s : BoundStep). not (is_by_row s.map)) steps ≡ true
 all-sets [] none = refl
 all-sets (s ∷ steps) none = go (is_by_row s.map) refl (all-sets steps)
   where

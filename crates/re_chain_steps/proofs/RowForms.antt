@@ -211,7 +211,7 @@ steps-sets number before (s ∷ steps) none =
     let sound = neither_fails number before s steps none in
     (step-sets before s sound.0, steps-sets (suc number) s.next steps sound.1)
 
-next-same : (steps : List BoundStep) → next_problems (map step_by_rows steps) ≡ next_problems steps
+pub next-same : (steps : List BoundStep) → next_problems (map step_by_rows steps) ≡ next_problems steps
 next-same steps = map-map (λ (s : BoundStep). s.next) step_by_rows steps
 
 all-by_row : (kind : Kind) (before : NamedProblem) (steps : List BoundStep) → is_lower kind ≡ true → steps_fit kind before steps ≡ true → list_all (λ (s : BoundStep). is_by_row s.map) (map step_by_rows steps) ≡ true

@@ -14,9 +14,9 @@ use re_problem::{Problem, TextFault, cut_line, read_problem};
 use re_sections::begins_section;
 use std::alloc::Global;
 
-// Whether the first line that isn't empty begins with `==`.
+/// Whether the text is that of a certificate, and not of a problem: whether its first line that isn't empty begins with `==`.
 #[tactic(auto, unfolding(crate::specs::ChainTexts::is_certificate_text))]
-fn is_certificate_text(text: &[u8]) -> bool
+pub fn is_certificate_text(text: &[u8]) -> bool
     ensures { result ≡ is_certificate_text text.now }
 {
     let mut rest = text;

@@ -1,5 +1,5 @@
 -- What is allowed where each label may become those around it: what lies below the lines.
-use Rattle.std.proofs.Common.{◌≡◌, ℕ, ◌<◌, Bool, cond, List, [], ◌∷◌, length, map, refl, sym, ap, ◌∙◌, subst, arith}
+use Rattle.std.proofs.Common.{◌≡◌, ℕ, ◌<◌, List, [], ◌∷◌, length, map, sym, ap, ◌∙◌, subst, arith}
 use Rattle.std.specs.Prelude.{Contains, filter}
 use Rattle.std.specs.List.{AllByRecursion}
 use Rattle.re_config.proofs.LawsOfRows.{multisets_law}
@@ -14,6 +14,7 @@ use Rattle.re_labels.proofs.Tests.{same_tests}
 use Rattle.re_labels.specs.Lists.{count_from, place_of}
 use Rattle.re_labels.specs.Sets.{IsIn, IsWithin, within}
 use Rattle.re_table.proofs.Goodness.{IsAllowed-is_allowed, IsDominated-is_dominated, is_allowed-IsAllowed, is_dominated-IsDominated}
+use Rattle.re_table.proofs.Strengths.{filter-same}
 use Rattle.re_table.specs.Constraints.{Constraint}
 use Rattle.re_table.specs.GoodRows.{IsAllowed, IsDominated, allowed, is_allowed, is_dominated}
 use Rattle.re_lines.proofs.Steps.{Has-topmost, Has-topmost_cases}
@@ -33,10 +34,6 @@ IsIn-around_cases sets set x i =
 
 around_at : (sets : List (List ℕ)) (k : ℕ) → k < length sets → set_at (map (labels_around sets) sets) k ≡ labels_around sets (set_at sets k)
 around_at sets k low = get_or-map (labels_around sets) sets k [] [] low
-
-filter-alike : {X : Type 0} (f g : X → Bool) (xs : List X) → ((x : X) → Contains xs x → f x ≡ g x) → filter f xs ≡ filter g xs
-filter-alike f g [] same = refl
-filter-alike f g (x ∷ xs) same = (λ i. cond (same x (Contains-here x xs) i) (x ∷ filter-alike f g xs (λ y k. same y (Contains-later y x xs k)) i) (filter-alike f g xs (λ y k. same y (Contains-later y x xs k)) i))
 
 module _ (family : Family) (is : IsFamily family) where
   abbrev arounds : List (List ℕ)
@@ -83,7 +80,7 @@ module _ (family : Family) (is : IsFamily family) where
   pub allowed_below : allowed (topmost family) (map (labels_around family.sets) family.sets) family.degree ≡ (below family).configs
   allowed_below =
       ap (λ m. filter (λ places. is_allowed (topmost family) (placed arounds places)) (multisets family.degree 0 m)) (length-map' (labels_around family.sets) family.sets)
-      ∙ filter-alike (λ places. is_allowed (topmost family) (placed arounds places)) (λ labels. is_dominated family.lines (placed family.sets labels)) (multisets family.degree 0 (length family.sets))
+      ∙ filter-same (λ places. is_allowed (topmost family) (placed arounds places)) (λ labels. is_dominated family.lines (placed family.sets labels)) (multisets family.degree 0 (length family.sets))
       (λ labels held. one_test labels (((multisets_law family.degree (length family.sets)).1 labels).0 held).below)
 
 pub below_is : (family : Family) → IsFamily family → (K : Constraint) (wide : List (List ℕ)) → K ≡ topmost family → wide ≡ map (labels_around family.sets) family.sets → allowed K wide family.degree ≡ (below family).configs

@@ -1,20 +1,11 @@
 -- The labels below a number that pass a test, one after another.
-use Rattle.std.proofs.Common.{◌≡◌, ℕ, suc, ◌+◌, ◌<◌, Bool, true, false, cond, eqb, ltb, List, [], ◌∷◌, ◌++◌, filter, ap, refl, sym, ◌∙◌, arith}
-use Rattle.std.specs.Prelude.{if◌then◌else◌}
+use Rattle.std.proofs.Common.{◌≡◌, ℕ, suc, ◌+◌, ◌<◌, Bool, true, false, cond, List, [], ◌∷◌, ◌++◌, filter, ap, refl, sym, ◌∙◌, arith}
 use Rattle.std.specs.List.{AllByRecursion}
-use Rattle.std.proofs.lemmas.Bool.Decides.{nat_tests}
 use Rattle.std.proofs.lemmas.List.Elements.{filter-append}
 use Rattle.re_labels.proofs.Membership.{AllByRecursion-from_contains, Contains-filter_cases, count_from-last, count_from_range}
 use Rattle.re_labels.specs.Lists.{count_from}
 use Rattle.re_labels.specs.Sets.{with_label}
-
-with_label-last : (s : List ℕ) (x : ℕ) → AllByRecursion (λ y. y < x) s → with_label s x ≡ s ++ x ∷ []
-with_label-last [] x h = refl
-with_label-last (y ∷ s) x h =
-    let low : y < x = h.0 in
-    let a : ltb x y ≡ false = grind (arith, nat_tests) in
-    let b : eqb x y ≡ false = grind (arith, nat_tests) in
-    (λ i. if a i then x ∷ y ∷ s else if b i then y ∷ s else y ∷ with_label s x) ∙ ap (λ l. y ∷ l) (with_label-last s x h.1)
+use Rattle.re_changes.proofs.Counted.{with_label-above}
 
 module _ (test : ℕ → Bool) where
   abbrev passing : ℕ → List ℕ
@@ -39,7 +30,7 @@ module _ (test : ℕ → Bool) where
   -- the next label, where it passes
   pub one_in : (left more : List ℕ) (n : ℕ) → test n ≡ true → left ≡ filter test (count_from 0 n) → more ≡ with_label left n → more ≡ filter test (count_from 0 (n + 1))
   one_in left more n passes is e =
-      e ∙ ap (λ l. with_label l n) is ∙ with_label-last (filter test (count_from 0 n)) n (below n)
+      e ∙ ap (λ l. with_label l n) is ∙ with_label-above (filter test (count_from 0 n)) n (below n)
       ∙ sym (one_more n ∙ ap (λ b. filter test (count_from 0 n) ++ cond b (n ∷ []) []) passes)
 
   -- and where it doesn't

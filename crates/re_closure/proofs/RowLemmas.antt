@@ -24,8 +24,8 @@ use Rattle.re_labels.specs.Sets.{IsIn, IsLabelSet, IsWithin, number}
 use Rattle.re_labels.specs.declared.TheConstants.{MAX_LABELS}
 use Rattle.re_table.proofs.MaxRows.{rising-max_rows}
 use Rattle.re_table.specs.GoodRows.{max_rows}
+use Rattle.re_boxes.proofs.Spread.{IsIn-filled}
 use Rattle.re_problem.specs.Problems.{IsProblem, Problem}
-use Rattle.re_lines.proofs.Below.{filled_by}
 use Rattle.re_lines.proofs.FirstSteps.{of_maximal}
 use Rattle.re_lines.proofs.Generated.{closure_families_law}
 use Rattle.re_lines.proofs.MaximalLines.{in_order-row, maximal_lines_law}
@@ -47,7 +47,7 @@ sets_in sets [] known = tt
 sets_in sets (s ∷ line) known =
     let held = known s (Contains-here s line) in
     let own : IsIn (place_of sets s) (labels_within sets s) = IsIn-labels_within sets s (place_of sets s) (place_of-below sets s held) (subst (λ t. IsWithin t s) (sym (get-place_of sets s held)) (λ z i. i)) in
-    ((IsLabelSet-labels_within sets s, filled_by (place_of sets s) (labels_within sets s) own), sets_in sets line (λ set i. known set (Contains-later set s line i)))
+    ((IsLabelSet-labels_within sets s, IsIn-filled (place_of sets s) (labels_within sets s) own), sets_in sets line (λ set i. known set (Contains-later set s line i)))
 
 wider_set : (n m : ℕ) → n ≤ m → (s : List ℕ) → IsLabelSet n s × (0 < length s) → IsLabelSet m s × (0 < length s)
 wider_set n m le s h = ((h.0.0, AllByRecursion-weaker (λ x. x < n) (λ x. x < m) (λ x l. omega (arith, l, le)) s h.0.1), h.1)

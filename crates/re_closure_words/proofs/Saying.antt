@@ -44,16 +44,3 @@ read_says None chain outcome may = sound_says (steps_refusal chain) chain outcom
 pub give_says : (bytes : List ℕ) (outcome : Outcome) → MayGive bytes outcome → MaySay outcome.status true
 unfolding MayGive
 give_says bytes outcome may = read_says (chain_fault bytes) (text_chain bytes) outcome may
-
--- ---- the chain of a text is no fixed point
-kind_open : (kind : Kind) → chain_kind kind ≡ Fixed → ⊥
-kind_open Lower e = cc
-kind_open Upper e = cc
-kind_open Fixed e = cc
-
-if_open : (b : Bool) (x y : Bound) → (x.kind ≡ Fixed → ⊥) → (y.kind ≡ Fixed → ⊥) → (if b then x else y).kind ≡ Fixed → ⊥
-if_open true x y no_x no_y e = no_x e
-if_open false x y no_x no_y e = no_y e
-
-pub text_open : (bytes : List ℕ) → (text_chain bytes).kind ≡ Fixed → ⊥
-text_open bytes e = if_open (is_certificate_text bytes) _ _ (kind_open _) (kind_open Lower) e

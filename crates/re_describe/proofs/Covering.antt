@@ -14,6 +14,7 @@ use Rattle.re_labels.proofs.Membership.{AllByRecursion-contains, any_found, any_
 use Rattle.re_table.proofs.ClosureLaw.{closure_law}
 use Rattle.re_table.specs.Constraints.{Constraint, IsConstraint}
 use Rattle.re_table.specs.GoodRows.{IsDominated, IsGood, is_dominated, max_rows}
+use Rattle.re_universal.proofs.Keeping.{up_to}
 use Rattle.re_describe.specs.Spelling.{Spells, TakesIn}
 
 abbrev Rows : Type 0
@@ -73,12 +74,6 @@ pub record SpellsFirst (constraint : Constraint) (count : ℕ) (rows : Rows) : T
 
 pub none_first : (constraint : Constraint) (rows : Rows) → rows ≡ [] → SpellsFirst constraint 0 rows
 none_first constraint rows none = record { good = λ row held. absurd (Contains-none row (subst (λ r. Contains r row) none held)); first = λ k low. absurd (omega arith) }
-
-up_to : (place : ℕ) (P : ℕ → Type 0) → ((k : ℕ) → k < place → P k) → P place → (k : ℕ) → k < place + 1 → P k
-up_to place P before here k h = elim (before_or_at k place h) [ inl l ↦ before k l | inr e ↦ subst P (sym e) here ]
-  where
-    before_or_at : (a b : ℕ) → a < b + 1 → (a < b) ⊎ (a ≡ b)
-    before_or_at a b h = grind arith
 
 pub one_kept : (constraint : Constraint) (place : ℕ) (rows : Rows) → SpellsFirst constraint place rows → IsDominated rows (singles (get_or constraint.configs place [])) → SpellsFirst constraint (place + 1) rows
 one_kept constraint place rows before here = record {

@@ -1,33 +1,15 @@
 //! The certificate that a text stands for.
 ghost use Rattle.re_cert.specs.CertificateTexts.{certificate_fault, certificate_of, text_lines};
-ghost use Rattle.re_chain_texts.specs.ChainTexts.{ReadGives, chain_fault, is_certificate_text, problem_chain};
+ghost use Rattle.re_chain_texts.specs.ChainTexts.{ReadGives, chain_fault, problem_chain};
 ghost use Rattle.re_describe_words.specs.DescribeWords.{described};
 ghost use Rattle.re_io.specs.declared.read.TheConstants.{MAX_BYTES};
 ghost use Rattle.re_problem.specs.ProblemTexts.{first_fault, lines_of, problem_of};
 ghost use Rattle.std.specs.Prelude.{◌≡◌, ◌≤◌, length};
 
 use re_cert::{Certificate, read_certificate};
-use re_chain_texts::problem_chain;
-use re_items::is_empty_line;
-use re_problem::{TextFault, cut_line, read_problem};
-use re_sections::begins_section;
+use re_chain_texts::{is_certificate_text, problem_chain};
+use re_problem::{TextFault, read_problem};
 use std::alloc::Global;
-
-// Whether the first line that isn't empty begins with `==`.
-#[tactic(auto, unfolding(re_chain_texts::specs::ChainTexts::is_certificate_text))]
-fn is_certificate_text(text: &[u8]) -> bool
-    ensures { result ≡ is_certificate_text text.now }
-{
-    let mut rest = text;
-    'lines: while !rest.is_empty() {
-        let (line, behind) = cut_line(rest);
-        if !is_empty_line(line) {
-            return begins_section(line);
-        }
-        rest = behind;
-    }
-    false
-}
 
 // The certificate that the text of a certificate writes.
 fn read_whole(alloc: Global, text: &[u8]) -> Result<Certificate, TextFault>

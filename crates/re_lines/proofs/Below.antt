@@ -21,6 +21,7 @@ use Rattle.re_table.proofs.Goodness.{IsDominated-is_dominated, IsGood-Rearranged
 use Rattle.re_table.proofs.MaxRows.{max_rows-IsMaximal}
 use Rattle.re_table.specs.Constraints.{Constraint, Has}
 use Rattle.re_table.specs.GoodRows.{IsDominated, IsGood, IsMaximal, is_dominated, max_rows}
+use Rattle.re_boxes.proofs.Spread.{IsIn-filled}
 use Rattle.re_lines.proofs.Unders.{IsIn-labels_within, IsLabelSet-labels_within, choice_under, dominated_moved, map_moved, shape-map, singles_under, under-labels_within, under_combined}
 use Rattle.re_lines.specs.Lines.{Family, IsFamily, below, labels_within}
 
@@ -40,10 +41,6 @@ IsFull-Rearranged unmoved h = h
 IsFull-Rearranged (kept p) h = (h.0, IsFull-Rearranged p h.1)
 IsFull-Rearranged swapped h = (h.1.0, (h.0, h.1.1))
 IsFull-Rearranged (chained p q) h = IsFull-Rearranged q (IsFull-Rearranged p h)
-
-pub filled_by : (x : ℕ) (s : List ℕ) → IsIn x s → 0 < length s
-filled_by x [] i = absurd (Contains-none x i)
-filled_by x (y ∷ s) i = omega arith
 
 pub placed-Rearranged_labels : (sets : List (List ℕ)) {c d : List ℕ} → Rearranged c d → Rearranged (placed sets c) (placed sets d)
 placed-Rearranged_labels sets p = Rearranged-map (set_at sets) p
@@ -88,7 +85,7 @@ module _ (family : Family) (is : IsFamily family) where
   sets_of : (line : List (List ℕ)) → ((set : List ℕ) → Contains line set → Contains family.sets set) → AreSets (length family.sets) (map (labels_within family.sets) line)
   sets_of [] h = tt
   sets_of (s ∷ line) h =
-      ((IsLabelSet-labels_within family.sets s, filled_by (place_of family.sets s) (labels_within family.sets s) (own_label s (h s (Contains-here s line)))), sets_of line (λ set i. h set (Contains-later set s line i)))
+      ((IsLabelSet-labels_within family.sets s, IsIn-filled (place_of family.sets s) (labels_within family.sets s) (own_label s (h s (Contains-here s line)))), sets_of line (λ set i. h set (Contains-later set s line i)))
 
   pub line_sets : (line : List (List ℕ)) → Contains family.lines line → AreSets (length family.sets) (map (labels_within family.sets) line)
   line_sets line held = sets_of line (λ set i. is.known line set held i)

@@ -22,9 +22,10 @@ use Rattle.re_table.proofs.MaxRows.{max_rows-IsMaximal}
 use Rattle.re_table.proofs.MaxSets.{allowed_law, max_sets-from, max_sets-row}
 use Rattle.re_table.specs.Constraints.{Constraint, Has}
 use Rattle.re_table.specs.GoodRows.{IsAllowed, IsDominated, IsGood, IsMaximal, allowed, max_rows, max_sets}
+use Rattle.re_boxes.proofs.Spread.{IsIn-filled}
 use Rattle.re_problem.specs.Problems.{IsProblem, Problem}
 use Rattle.re_problem.specs.Steps.{IsLowerStepBySet, label_at, label_of}
-use Rattle.re_lines.proofs.Below.{Has-below, HasLabel-filled, IsFull-Rearranged, IsFull-under, filled_by, maximal_is}
+use Rattle.re_lines.proofs.Below.{Has-below, HasLabel-filled, IsFull-Rearranged, IsFull-under, maximal_is}
 use Rattle.re_lines.proofs.Entries.{labels_at_by, labels_of_by, other_default, placed_in, sets_by}
 use Rattle.re_lines.proofs.Steps.{Has-topmost}
 use Rattle.re_lines.proofs.Unders.{dominated_moved, dominated_under, one_in}
@@ -120,11 +121,11 @@ module _ (problem : Problem) (active passive : Family) (is : IsProblem problem) 
 
   line_sets : (line : List (List ℕ)) → ((set : List ℕ) → Contains line set → Contains passive.sets set) → IsFull line → AreSets problem.labels line
   line_sets [] known full = tt
-  line_sets (s ∷ line) known full = ((around.sets s (known s (Contains-here s line)), filled_by full.0.0 s full.0.1), line_sets line (λ set i. known set (Contains-later set s line i)) full.1)
+  line_sets (s ∷ line) known full = ((around.sets s (known s (Contains-here s line)), IsIn-filled full.0.0 s full.0.1), line_sets line (λ set i. known set (Contains-later set s line i)) full.1)
 
   line_filled : (line : List (List ℕ)) → IsFull line → AllByRecursion (λ s. 0 < length s) line
   line_filled [] full = tt
-  line_filled (s ∷ line) full = (filled_by full.0.0 s full.0.1, line_filled line full.1)
+  line_filled (s ∷ line) full = (IsIn-filled full.0.0 s full.0.1, line_filled line full.1)
 
   -- each maximal row is a line
   pub of_maximal : (r : List (List ℕ)) → Contains (max_rows problem.passive problem.labels) r → (line : List (List ℕ)) × Contains passive.lines line × Rearranged line r

@@ -8,6 +8,7 @@ use Rattle.re_labels.proofs.Membership.{get_or-count_from, length-count_from}
 use Rattle.re_labels.specs.Lists.{IsBefore, IsRising, count_from}
 use Rattle.re_labels.specs.ListSets.{list_set}
 use Rattle.re_table.specs.Constraints.{Constraint, IsConstraint, images_of}
+use Rattle.re_problem.proofs.Walks.{alone}
 use Rattle.re_problem.specs.Problems.{IsProblem, Problem}
 use Rattle.re_problem.specs.Steps.{IsRenamed}
 
@@ -22,11 +23,8 @@ own_configs : (d n : ℕ) (configs : List (List ℕ)) → AllByRecursion (IsConf
 own_configs d n [] h = refl
 own_configs d n (c ∷ configs) h = (λ i. (ap sorted (own_images n c h.0.below) ∙ sorted_again c h.0.ascends) i ∷ own_configs d n configs h.1 i)
 
-list_set-rising : (lists : List (List ℕ)) → IsRising IsBefore lists → list_set lists ≡ lists
-list_set-rising lists h = one_set (list_set lists) lists (rising-list_set lists) h (In-list_set lists) (list_set-In lists)
-
 own_constraint : (n : ℕ) (K : Constraint) → IsConstraint n K → images_of (count_from 0 n) K ≡ K.configs
-own_constraint n K is = ap list_set (own_configs K.degree n K.configs is.configs) ∙ list_set-rising K.configs is.ascends
+own_constraint n K is = ap list_set (own_configs K.degree n K.configs is.configs) ∙ alone K.configs is.ascends
 
 pub renamed_itself : (problem : Problem) → IsProblem problem → IsRenamed problem problem (count_from 0 problem.labels)
 renamed_itself problem is = record {

@@ -6,7 +6,7 @@ use Rattle.re_config.specs.Configs.{IsConfig}
 use Rattle.re_labels.proofs.Membership.{AllByRecursion-contains}
 use Rattle.re_table.specs.Constraints.{Constraint, Has, IsConstraint}
 use Rattle.re_table.specs.GoodRows.{max_rows}
-use Rattle.re_problem.proofs.StepLaws.{IsMapped-lower}
+use Rattle.re_problem.proofs.StepLaws.{IsMapped-lower, IsRelaxed-itself}
 use Rattle.re_problem.specs.Problems.{IsProblem, Problem}
 use Rattle.re_problem.specs.Steps.{IsRelaxed}
 use Rattle.re_problem.specs.Steps.LowerMap.{by_set}
@@ -35,14 +35,6 @@ Has-same n K is config held =
     let c = AllByRecursion-contains (IsConfig K.degree n) K.configs config is.configs held in
     subst (Has K) (sym (map-same config)) (subst (Contains K.configs) (sym (sorted_again config c.ascends)) held)
 
-pub itself : (problem : Problem) → IsProblem problem → IsRelaxed problem problem (λ x. x)
-itself problem is = record {
-  active_degree = refl;
-  passive_degree = refl;
-  active = Has-same problem.labels problem.active is.active;
-  passive = Has-same problem.labels problem.passive is.passive;
-}
-
 pub fixed_law : FixedLaw
 fixed_law problem active passive T is a p around not_zero solvable =
     let first = first_step_law problem active passive is a p around in
@@ -54,4 +46,4 @@ fixed_law problem active passive T is a p around not_zero solvable =
     let around_again : IsLowerChain (problem_of passive active) 2 (problem_of passive active) =
     step out.0 (IsMapped-lower (problem_of passive active) (problem_of active passive) (max_rows (below active) (length active.sets)) (by_set (entries_within active)) back.1)
     (step back.0 (IsMapped-lower (problem_of active passive) (problem_of passive active) (max_rows (below passive) (length passive.sets)) (by_set (entries_within passive)) out.1) done) in
-    fixed_point is to_middle around_again (itself (problem_of passive active) back.0) not_zero T solvable
+    fixed_point is to_middle around_again (IsRelaxed-itself (problem_of passive active) back.0) not_zero T solvable

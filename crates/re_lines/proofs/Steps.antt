@@ -13,7 +13,7 @@ use Rattle.re_config.specs.Rearranging.{Rearranged, chained}
 use Rattle.re_config.specs.Rows.{IsChoice, IsUnder, placed, set_at}
 use Rattle.re_labels.proofs.Before.{IsBefore-trans}
 use Rattle.re_labels.proofs.ListSets.{law as list_set_law}
-use Rattle.re_labels.proofs.Membership.{AllByRecursion-from_contains, Contains-filter_cases, Contains-here, Contains-later, Contains-map, Contains-map_cases, length-map'}
+use Rattle.re_labels.proofs.Membership.{AllByRecursion-from_contains, Contains-filter_cases, Contains-here, Contains-later, Contains-map, Contains-map_cases, length-map', map-alike}
 use Rattle.re_labels.proofs.Places.{get-place_of, map-get-place_of, place_of-below}
 use Rattle.re_labels.proofs.Rising.{rising-filter}
 use Rattle.re_labels.specs.Lists.{IsBefore, place_of}
@@ -22,6 +22,7 @@ use Rattle.re_labels.specs.Sets.{IsIn, IsWithin}
 use Rattle.re_table.proofs.MaxSets.{allowed_law, max_sets-from, max_sets-row}
 use Rattle.re_table.specs.Constraints.{Has, IsConstraint}
 use Rattle.re_table.specs.GoodRows.{IsAllowed, allowed, is_dominated, max_rows, max_sets}
+use Rattle.re_problem.proofs.StepLaws.{map-map}
 use Rattle.re_problem.specs.Problems.{IsProblem}
 use Rattle.re_problem.specs.Steps.{IsLowerStepBySet, label_at, label_of}
 use Rattle.re_lines.proofs.Below.{Has-below, of_maximal, own_label}
@@ -29,14 +30,6 @@ use Rattle.re_lines.proofs.Entries.{labels_at_by, labels_of_by, placed_in, sets_
 use Rattle.re_lines.proofs.Unders.{IsIn-labels_within, IsIn-labels_within_cases}
 use Rattle.re_lines.specs.Laws.{StepLaw}
 use Rattle.re_lines.specs.Lines.{AreOpposed, Family, IsFamily, below, entries_within, labels_within, problem_of, topmost}
-
-map-each : {X Y : Type 0} (f g : X → Y) (xs : List X) → ((x : X) → Contains xs x → f x ≡ g x) → map f xs ≡ map g xs
-map-each f g [] h = refl
-map-each f g (x ∷ xs) h = (λ i. h x (Contains-here x xs) i ∷ map-each f g xs (λ y k. h y (Contains-later y x xs k)) i)
-
-map-map : {X Y Z : Type 0} (f : Y → Z) (g : X → Y) (xs : List X) → map f (map g xs) ≡ map (λ x. f (g x)) xs
-map-map f g [] = refl
-map-map f g (x ∷ xs) = ap (λ l. f (g x) ∷ l) (map-map f g xs)
 
 -- ---- the lines as configurations
 module _ (family : Family) (is : IsFamily family) where
@@ -145,7 +138,7 @@ module _ (active passive : Family) (a : IsFamily active) (p : IsFamily passive) 
   active_met row held =
       let (line, there, q) = of_maximal passive p row held in
       let to_f : map (label_of (entries_within passive)) row ≡ map f row = labels_of_by f (max_sets (below passive) (length passive.sets)) row (λ set i. max_sets-row (below passive) (length passive.sets) row held set i) in
-      let of_line : map f (map (labels_within S) line) ≡ map (place_of S) line = map-map f (labels_within S) line ∙ map-each (λ s. f (labels_within S s)) (place_of S) line (λ s i. image_is passive p s (p.known line s there i)) in
+      let of_line : map f (map (labels_within S) line) ≡ map (place_of S) line = map-map f (labels_within S) line ∙ map-alike (λ s. f (labels_within S s)) (place_of S) line (λ s i. image_is passive p s (p.known line s there i)) in
       subst (Has (topmost passive)) (sym to_f)
       (Has-topmost passive p line (map f row) there (subst (Rearranged (map f row)) of_line (Rearranged-map f (Rearranged-sym q))))
 

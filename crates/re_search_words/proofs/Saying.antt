@@ -1,16 +1,12 @@
 -- What the words may answer, and the chains of texts.
-use Rattle.std.proofs.Common.{◌≡◌, ℕ, Bool, true, false, List, Option, Some, None, sym, subst, refl, inl, inr}
-use Rattle.std.specs.Prelude.{if◌then◌else◌, ◌⊎◌}
+use Rattle.std.proofs.Common.{◌≡◌, ℕ, true, List, Option, Some, None, sym, subst, refl, inl, inr}
 use Rattle.re_problem.specs.NamedProblems.{unnamed}
-use Rattle.re_problem.specs.ProblemTexts.{lines_of, problem_of}
 use Rattle.re_problem.specs.Zero.{zero_place}
 use Rattle.re_problem.specs.declared.fault.InputFault.{InputFault}
 use Rattle.re_cert.specs.Bounds.{Bound, last_problem}
-use Rattle.re_cert.specs.CertificateTexts.{certificate_of, text_lines}
 use Rattle.re_cert.specs.declared.certificate.Kind.{Kind}
 use Rattle.re_cert.specs.declared.certificate.Kind.TheVariants.{Fixed, Lower, Upper}
-use Rattle.re_chain_parts.specs.Chains.{chain_kind, chain_of}
-use Rattle.re_chain_texts.specs.ChainTexts.{chain_fault, is_certificate_text, problem_chain, text_chain}
+use Rattle.re_chain_texts.specs.ChainTexts.{chain_fault, text_chain}
 use Rattle.re_chain_texts.specs.OverChains.{steps_refusal}
 use Rattle.re_check.specs.declared.verdict.Verdict.{Verdict}
 use Rattle.re_frame.proofs.Said.{check_says, fault_says}
@@ -49,17 +45,3 @@ read_says None word chain outcome may = sound_says (steps_refusal chain) word ch
 pub give_says : (word : SearchWord) (bytes : List ℕ) (outcome : Outcome) → MayGive word bytes outcome → MaySay outcome.status true
 unfolding MayGive
 give_says word bytes outcome may = read_says (chain_fault bytes) word (text_chain bytes) outcome may
-
--- ---- the chain of a text is no fixed point
-kind_open : (kind : Kind) → chain_kind kind ≡ Fixed → ⊥
-kind_open Lower e = cc
-kind_open Upper e = cc
-kind_open Fixed e = cc
-
-if_open : (b : Bool) (x y : Bound) → (x.kind ≡ Fixed → ⊥) → (y.kind ≡ Fixed → ⊥) → (if b then x else y).kind ≡ Fixed → ⊥
-if_open true x y no_x no_y e = no_x e
-if_open false x y no_x no_y e = no_y e
-
-pub text_open : (bytes : List ℕ) → (text_chain bytes).kind ≡ Fixed → ⊥
-text_open bytes e =
-    if_open (is_certificate_text bytes) (chain_of (certificate_of (text_lines bytes))) (problem_chain (problem_of (lines_of bytes))) (kind_open (certificate_of (text_lines bytes)).kind) (kind_open Lower) e

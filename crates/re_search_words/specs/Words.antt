@@ -1,5 +1,5 @@
 -- The words `longest` and `cycle`.
-use Rattle.std.specs.Prelude.{◌≡◌, ◌≤◌, ℕ, nat_le, ◌&&◌, List, [], ◌∷◌, codes, if◌then◌else◌, Option, Some, None}
+use Rattle.std.specs.Prelude.{◌≤◌, ℕ, nat_le, ◌&&◌, List, [], ◌∷◌, codes, if◌then◌else◌, Option, Some, None}
 use Rattle.std.specs.Str.{bytes_eq}
 use Rattle.re_cert.specs.declared.certificate.TheConstants.{MAX_STEPS}
 use Rattle.re_items.specs.Numerals.{number_of}

@@ -3,6 +3,7 @@ use Rattle.std.proofs.Common.{◌≡◌, ℕ, suc, ◌+◌, Some, None, Bool, tr
 use Rattle.std.proofs.lemmas.List.{length-map}
 use Rattle.std.specs.List.{list_all, zip}
 use Rattle.std.specs.Prelude.{◌==◌, if◌then◌else◌, nat_le, nat_lt, slice_index_or}
+use Rattle.re_labels.proofs.Membership.{all-append}
 use Rattle.re_items.specs.Steps.{is_nil}
 use Rattle.re_problem.specs.NamedProblems.{NamedProblem}
 use Rattle.re_problem.specs.ProblemTexts.{last_or}
@@ -52,14 +53,6 @@ all_mapped : {X Y : Type 0} (p : Y → Bool) (f : X → Y) (xs : List X) → lis
 all_mapped p f [] = refl
 all_mapped p f (x ∷ xs) = ap (λ b. p (f x) && b) (all_mapped p f xs)
 
-all_appended : {X : Type 0} (p : X → Bool) (xs ys : List X) → list_all p (xs ++ ys) ≡ (list_all p xs && list_all p ys)
-all_appended p [] ys = refl
-all_appended p (x ∷ xs) ys = go (p x) (all_appended p xs ys)
-  where
-    go : (b : Bool) → list_all p (xs ++ ys) ≡ (list_all p xs && list_all p ys) → (b && list_all p (xs ++ ys)) ≡ ((b && list_all p xs) && list_all p ys)
-    go true e = e
-    go false e = refl
-
 -- the images that have a row, and those behind them
 all_zipped : (p : List ℕ → Bool) (rows : List (List (List ℕ))) (images : List (List ℕ))
     → (list_all (λ (pair : List (List ℕ) × List ℕ). p pair.1) (zip rows images) && list_all p (drop (length rows) images)) ≡ list_all p images
@@ -79,7 +72,7 @@ length_zipped (row ∷ rows) (image ∷ images) = let rest = length_zipped rows 
 
 all_images : (p : List ℕ → Bool) (rows : List (List (List ℕ))) (images : List (List ℕ)) → list_all p (images_in_order rows images) ≡ list_all p images
 all_images p rows images =
-    all_appended p (map (λ (pair : List (List ℕ) × List ℕ). pair.1) (in_order first_row_before (zip rows images))) (drop (length rows) images)
+    all-append p (map (λ (pair : List (List ℕ) × List ℕ). pair.1) (in_order first_row_before (zip rows images))) (drop (length rows) images)
     ∙ ap (λ b. b && list_all p (drop (length rows) images))
     (all_mapped p (λ (pair : List (List ℕ) × List ℕ). pair.1) (in_order first_row_before (zip rows images)) ∙ all_in_order first_row_before (λ (pair : List (List ℕ) × List ℕ). p pair.1) (zip rows images))
     ∙ all_zipped p rows images

@@ -11,10 +11,6 @@ use Rattle.re_labels.proofs.Numbers.{set_of-number}
 use Rattle.re_labels.specs.Sets.{IsLabelSet, IsWithin, number, set_of}
 use Rattle.re_topmost.proofs.Places.{front, placed_first, removed_same}
 
--- sets with one number are the same
-pub same_number : (n : ℕ) (s t : List ℕ) → IsLabelSet n s → IsLabelSet n t → number s ≡ number t → s ≡ t
-same_number n s t h k e = sym (set_of-number n s h).1 ∙ ap (set_of n) e ∙ (set_of-number n t k).1
-
 no_sets : (xs : List (List ℕ)) → length xs ≡ 0 → xs ≡ []
 no_sets [] e = refl
 no_sets (x ∷ xs) e = absurd (omega arith)

@@ -17,6 +17,7 @@ use Rattle.re_table.proofs.Goodness.{Has-has_config, IsAllowed-is_allowed, IsGoo
 use Rattle.re_table.proofs.MaxSets.{max_sets-row}
 use Rattle.re_table.specs.Constraints.{Constraint, Has, IsConstraint, has_config}
 use Rattle.re_table.specs.GoodRows.{IsAllowed, IsGood, allowed, max_rows, max_sets}
+use Rattle.re_problem.proofs.FedLines.{unnot, unnot_true}
 use Rattle.re_problem.specs.NamedProblems.{IsNamedProblem, NamedProblem, unnamed}
 use Rattle.re_problem.specs.Steps.{LowerMap, SetEntry, entry_sets, label_at, label_of, set_for}
 use Rattle.re_problem.specs.Steps.LowerMap.{by_row, by_set}
@@ -32,7 +33,7 @@ use Rattle.re_clauses.specs.declared.clause.Clause.{Clause}
 use Rattle.re_clauses.specs.declared.clause.Clause.TheVariants.{Back, End, L1, L2, L3, L4, L5, U1, U2, U3, U4}
 use Rattle.re_witness.proofs.Found.{found_passes}
 use Rattle.re_witness.proofs.Maps.{map_witness_law}
-use Rattle.re_witness.proofs.Rows.{not-true, row_witness_law}
+use Rattle.re_witness.proofs.Rows.{row_witness_law}
 use Rattle.re_witness.proofs.Uppers.{label_witness_law, upper_witness_law}
 use Rattle.re_witness.specs.Finding.{AreBelow, bad_witness, image_witness, label_witness, lost_witness, row_witness, set_witness, shut_witness, step_witness}
 use Rattle.re_witness.specs.Laws.{Gives, HasSets, HoldsChoices, HoldsRows}
@@ -47,13 +48,9 @@ skip p a c rest e apart = go (p a) refl e
     go true b e = absurd (apart (let same : Some a ≡ Some c = e in cc))
     go false b e = (b, e)
 
-not-false : (b : Bool) → not b ≡ false → b ≡ true
-not-false true e = refl
-not-false false e = absurd (true≢false e)
-
 -- what is found fails its test
 pub fault-fails : (before : NamedProblem) (s : BoundStep) (c : Clause) → step_fault before s ≡ Some c → meets before s c ≡ false
-fault-fails before s c e = not-true (meets before s c) (found_passes (λ clause. not (meets before s clause)) (step_clauses s) c (sym e)).0
+fault-fails before s c e = unnot_true (meets before s c) (found_passes (λ clause. not (meets before s clause)) (step_clauses s) c (sym e)).0
 
 -- and is one of the step's clauses
 pub fault-among : (before : NamedProblem) (s : BoundStep) (c : Clause) → step_fault before s ≡ Some c → Contains (step_clauses s) c
@@ -74,32 +71,32 @@ module _ (before : NamedProblem) (s : BoundStep) where
   before-L3 lower e =
       let one = skip test L1 L3 (L2 ∷ L3 ∷ L4 ∷ L5 ∷ []) (lower-first lower L3 e) (λ same. cc) in
       let two = skip test L2 L3 (L3 ∷ L4 ∷ L5 ∷ []) one.1 (λ same. cc) in
-      not-false (meets before s L2) two.0
+      unnot (meets before s L2) two.0
 
   pub before-L4 : s.lower ≡ true → step_fault before s ≡ Some L4 → (are_maximal before s.rows ≡ true) × (meets before s L3 ≡ true)
   before-L4 lower e =
       let one = skip test L1 L4 (L2 ∷ L3 ∷ L4 ∷ L5 ∷ []) (lower-first lower L4 e) (λ same. cc) in
       let two = skip test L2 L4 (L3 ∷ L4 ∷ L5 ∷ []) one.1 (λ same. cc) in
       let three = skip test L3 L4 (L4 ∷ L5 ∷ []) two.1 (λ same. cc) in
-      (not-false (meets before s L2) two.0, not-false (meets before s L3) three.0)
+      (unnot (meets before s L2) two.0, unnot (meets before s L3) three.0)
 
   pub before-L5 : s.lower ≡ true → step_fault before s ≡ Some L5 → (are_exchanged before s.next ≡ true) × (are_maximal before s.rows ≡ true)
   before-L5 lower e =
       let one = skip test L1 L5 (L2 ∷ L3 ∷ L4 ∷ L5 ∷ []) (lower-first lower L5 e) (λ same. cc) in
       let two = skip test L2 L5 (L3 ∷ L4 ∷ L5 ∷ []) one.1 (λ same. cc) in
-      (not-false (meets before s L1) one.0, not-false (meets before s L2) two.0)
+      (unnot (meets before s L1) one.0, unnot (meets before s L2) two.0)
 
   pub before-U3 : s.lower ≡ false → step_fault before s ≡ Some U3 → (are_exchanged before s.next ≡ true) × (meets before s U2 ≡ true)
   before-U3 upper e =
       let one = skip test U1 U3 (U2 ∷ U3 ∷ U4 ∷ []) (upper-first upper U3 e) (λ same. cc) in
       let two = skip test U2 U3 (U3 ∷ U4 ∷ []) one.1 (λ same. cc) in
-      (not-false (meets before s U1) one.0, not-false (meets before s U2) two.0)
+      (unnot (meets before s U1) one.0, unnot (meets before s U2) two.0)
 
   pub before-U4 : s.lower ≡ false → step_fault before s ≡ Some U4 → (are_exchanged before s.next ≡ true) × (meets before s U2 ≡ true)
   before-U4 upper e =
       let one = skip test U1 U4 (U2 ∷ U3 ∷ U4 ∷ []) (upper-first upper U4 e) (λ same. cc) in
       let two = skip test U2 U4 (U3 ∷ U4 ∷ []) one.1 (λ same. cc) in
-      (not-false (meets before s U1) one.0, not-false (meets before s U2) two.0)
+      (unnot (meets before s U1) one.0, unnot (meets before s U2) two.0)
 
 -- ---- what fits
 pub degrees-are : (before next : NamedProblem) → are_exchanged before next ≡ true → (next.active.degree ≡ before.passive.degree) × (next.passive.degree ≡ before.active.degree)

@@ -3,6 +3,7 @@ use Rattle.std.proofs.Common.{◌≡◌, ℕ, zero, suc, ◌+◌, ◌<◌, ◌�
 use Rattle.std.specs.Prelude.{Contains, IsSome, find, if◌then◌else◌, is_none, is_some, nat_lt, replicate, slice_index_or}
 use Rattle.std.specs.List.{AllByRecursion, AllZip, list_all}
 use Rattle.std.proofs.lemmas.List.Quantifiers.{position-Some}
+use Rattle.re_problem.proofs.FedLines.{unnot_true}
 use Rattle.re_entries.proofs.Telling.{read-held}
 use Rattle.std.specs.Option.{option_map, option_or}
 use Rattle.std.specs.Str.{bytes_eq}
@@ -30,7 +31,7 @@ use Rattle.re_cert.specs.declared.certificate.Kind.{Kind}
 use Rattle.re_check.specs.Verdicts.{ends_well, goes_back, is_yes}
 use Rattle.re_witness.proofs.Found.{found_passes, none_all}
 use Rattle.re_witness.proofs.Giving.{gives-at_last, gives-or, map-none, map-some, unordered-rising, unordered-some}
-use Rattle.re_witness.proofs.Rows.{bad_shown, first_label-none, first_label-some, none_bad, not-true}
+use Rattle.re_witness.proofs.Rows.{bad_shown, first_label-none, first_label-some, none_bad}
 use Rattle.re_witness.proofs.Uppers.{all_labels}
 use Rattle.re_witness.specs.BadChoice.{first_bad}
 use Rattle.re_witness.specs.Finding.{back_witness, end_witness, first_unordered, firsts, fit_at, fit_witness, names_first, no_fit, no_fit_of, no_fit_witness, pairs_ascend, renaming_witness, seconds}
@@ -131,7 +132,7 @@ module _ (last target : NamedProblem) (pairs : List (ℕ × ℕ)) (below : AllBy
   missing_here : (x : ℕ) → first_label (λ x. not (names_first pairs x)) (length last.names) ≡ Some x → ShowsBack last target pairs (MissingPair x)
   missing_here x e =
       let (l, fails) = first_label-some (λ x. not (names_first pairs x)) (length last.names) x e in
-      (l, λ held. true≢false (sym (is-named x held) ∙ not-true (names_first pairs x) fails))
+      (l, λ held. true≢false (sym (is-named x held) ∙ unnot_true (names_first pairs x) fails))
 
   not-false : (b : Bool) → not b ≡ false → b ≡ true
   not-false true e = refl

@@ -5,6 +5,7 @@ use Rattle.std.specs.List.{AllZip, list_all, list_any}
 use Rattle.std.specs.Option.{option_map, option_or}
 use Rattle.std.specs.Ordering.{is_lt, nat_cmp}
 use Rattle.re_labels.proofs.Before.{nat_cmp-greater, nat_cmp-less, nat_cmp-same, same_list-refl, same_list-same}
+use Rattle.re_problem.proofs.FedLines.{unnot_true}
 use Rattle.re_entries.proofs.Telling.{read-held}
 use Rattle.re_labels.proofs.Membership.{Contains-In, In, In-Contains, In-map, In-map_from, all-In, any_found, any_true}
 use Rattle.re_labels.proofs.Rising.{rising-map}
@@ -26,7 +27,7 @@ use Rattle.re_entries.specs.StepClauses.{HasRowSets, KeepsImages, KeepsRows, Occ
 use Rattle.re_witness.proofs.Found.{found_passes, none_all, some_found}
 use Rattle.re_witness.proofs.Giving.{at-held, from-none, from-some, gives-at_last, gives-or, held-at, map-none, map-some, some-none, some-some, unordered-rising, unordered-some}
 use Rattle.re_witness.proofs.Occurring.{has-is, is-has, is-occurs, occurs-is}
-use Rattle.re_witness.proofs.Rows.{bad_shown, none_bad, not-true}
+use Rattle.re_witness.proofs.Rows.{bad_shown, none_bad}
 use Rattle.re_witness.specs.BadChoice.{first_bad}
 use Rattle.re_witness.specs.Finding.{becoming, entry_becomes, first_from, first_some, first_unordered, foreign_set, has_set, image_witness, is_foreign, is_held, lost, lost_choice, lost_witness, map_entries, missing_set, occurs_in, rows_becoming, set_becoming, set_or_none, set_witness, sets_ascend, sets_becoming}
 use Rattle.re_witness.specs.Laws.{Gives, HasSets, HoldsChoices, HoldsRows, MapWitnessLaw}
@@ -67,7 +68,7 @@ module _ (rows : List (List (List ℕ))) (entries : List SetEntry) where
   set_missing set e =
       let (i, row, at, found) = some-some (find (λ set. not (has_set entries set))) rows set e in
       let (fails, inside) = found_passes (λ set. not (has_set entries set)) row set (sym found) in
-      ((row, at-held rows i row at, In-Contains set row inside), λ held. true≢false (sym (is-has entries set held) ∙ not-true (has_set entries set) fails))
+      ((row, at-held rows i row at, In-Contains set row inside), λ held. true≢false (sym (is-has entries set held) ∙ unnot_true (has_set entries set) fails))
 
   none_missing : missing_set rows entries ≡ None → (set : List ℕ) → OccursInRows rows set → Contains (entry_sets entries) set
   none_missing e set occurs =
@@ -79,7 +80,7 @@ module _ (rows : List (List (List ℕ))) (entries : List SetEntry) where
       let (entry, found, same) = map-some (λ (entry : SetEntry). entry.set) (find (is_foreign rows) entries) set e in
       let (fails, inside) = found_passes (is_foreign rows) entries entry (sym found) in
       subst (λ s. ShowsSets rows (by_set entries) (ForeignSet s)) same
-      (In-Contains entry.set (entry_sets entries) (In-map (λ (f : SetEntry). f.set) entry entries inside), λ occurs. true≢false (sym (is-occurs rows entry.set occurs) ∙ not-true (occurs_in rows entry.set) fails))
+      (In-Contains entry.set (entry_sets entries) (In-map (λ (f : SetEntry). f.set) entry entries inside), λ occurs. true≢false (sym (is-occurs rows entry.set occurs) ∙ unnot_true (occurs_in rows entry.set) fails))
 
   none_foreign : foreign_set rows entries ≡ None → (set : List ℕ) → Contains (entry_sets entries) set → OccursInRows rows set
   none_foreign e set held =

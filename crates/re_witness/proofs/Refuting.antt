@@ -37,6 +37,7 @@ use Rattle.re_clauses.proofs.StepMeaning.{all_pass, all_there, lower_clauses}
 use Rattle.re_clauses.specs.Clauses.{are_exchanged, meets, step_clauses, step_fault}
 use Rattle.re_clauses.specs.declared.clause.Clause.{Clause}
 use Rattle.re_clauses.specs.declared.clause.Clause.TheVariants.{Back, End, L1, L2, L3, L4, L5, U1, U2, U3, U4}
+use Rattle.re_check.proofs.Meaning.{neither, unmapped}
 use Rattle.re_check.specs.Verdicts.{bound_fault, end_fault, ends_well, fault_at, fault_or, goes_back, is_yes, meets_back, meets_end, steps_fault}
 use Rattle.re_check.specs.declared.verdict.ClauseFault.{ClauseFault}
 use Rattle.re_maps.specs.Verdicts.{renaming_verdict}
@@ -207,23 +208,15 @@ step-refuted kind before s c w is fits none among h = go s.lower refl (Contains-
         (subst (λ (l : Bool). AllByRecursion (λ clause. meets before s clause ≡ true) (if l then L1 ∷ L2 ∷ L3 ∷ L4 ∷ L5 ∷ [] else U1 ∷ U2 ∷ U3 ∷ U4 ∷ [])) up (all_pass (meets before s) (step_clauses s) none))
         (subst (λ (l : Bool). In c (if l then L1 ∷ L2 ∷ L3 ∷ L4 ∷ L5 ∷ [] else U1 ∷ U2 ∷ U3 ∷ U4 ∷ [])) up i) h
 
-none-here : (a b : Option ClauseFault) → fault_or a b ≡ None → (a ≡ None) × (b ≡ None)
-none-here None b e = (refl, e)
-none-here (Some fault) b e = absurd (cc)
-
-none-mapped : (number : ℕ) (o : Option Clause) → option_map (fault_at number) o ≡ None → o ≡ None
-none-mapped number None e = refl
-none-mapped number (Some c) e = absurd (cc)
-
 steps-refuted : (kind : Kind) (before : NamedProblem) (from : ℕ) (steps : List BoundStep) (n : ℕ) (c : Clause) (w : Witness) → IsNamedProblem before → AllByRecursion IsNamedProblem (next_problems steps) → steps_fit kind before steps ≡ true
     → steps_fault before from steps ≡ None → ShowsInSteps before from steps n c w → ⊥
 steps-refuted kind before from [] n c w named nexts fits none h = absurd h
 steps-refuted kind before from (s ∷ steps) n c w named nexts fits none (inl h) =
-    let here = (none-here (option_map (fault_at from) (step_fault before s)) (steps_fault s.next (suc from) steps) none).0 in
-    step-refuted kind before s c w named.problem.active (and-true (step_fits kind before s) (steps_fit kind s.next steps) fits).0 (none-mapped from (step_fault before s) here) h.1 h.2
+    let here = (neither (option_map (fault_at from) (step_fault before s)) (steps_fault s.next (suc from) steps) none).0 in
+    step-refuted kind before s c w named.problem.active (and-true (step_fits kind before s) (steps_fit kind s.next steps) fits).0 (unmapped from (step_fault before s) here) h.1 h.2
 steps-refuted kind before from (s ∷ steps) n c w named nexts fits none (inr h) =
     steps-refuted kind s.next (suc from) steps n c w nexts.0 nexts.1 (and-true (step_fits kind before s) (steps_fit kind s.next steps) fits).1
-    (none-here (option_map (fault_at from) (step_fault before s)) (steps_fault s.next (suc from) steps) none).1 h
+    (neither (option_map (fault_at from) (step_fault before s)) (steps_fault s.next (suc from) steps) none).1 h
 
 -- ---- the end
 end-refuted : (kind : Kind) (last : NamedProblem) (w : Witness) → ends_well kind last ≡ true → ShowsEnd kind (unnamed last) w → ⊥
@@ -285,7 +278,7 @@ refutes_law bound number clause w is first nexts shown none = by_clause clause s
     n = length bound.steps
 
     parts : (steps_fault bound.first 1 bound.steps ≡ None) × (end_fault bound ≡ None)
-    parts = none-here (steps_fault bound.first 1 bound.steps) (end_fault bound) none
+    parts = neither (steps_fault bound.first 1 bound.steps) (end_fault bound) none
 
     at_steps : ShowsInSteps bound.first 1 bound.steps number clause w → ⊥
     at_steps h = steps-refuted bound.kind bound.first 1 bound.steps number clause w first nexts (fits_steps bound is) parts.0 h

@@ -11,7 +11,7 @@ use Rattle.re_explore.proofs.Said.{joined}
 use Rattle.re_explore.proofs.command.with_help.Goals as goal
 
 pub returns : goal.returns
-unfolding help_text bridge_help chain_help closure_help describe_help why_help
+unfolding help_text bridge_help chain_help closure_help describe_help search_help why_help
 returns c =
     let first = c.in_ok-push_words.ensures ∙ ap (λ t. t ++ codes "help: reads nothing, gives these lines\n") c.in_ok-text.ensures in
     let chains = c.in_ok-push_words-2.ensures ∙ ap (λ t. c.push_words.new.text.items ++ t) c.chain_help.ensures ∙ ap (λ t. t ++ chain_help) first in

@@ -18,5 +18,5 @@ returns-in-Some-Chains-clause-output g c =
 
 pub returns-in-Some-Bridges-clause-output : goal.returns-in-Some-Bridges-clause-output
 returns-in-Some-Bridges-clause-output g c =
-    exactly_expected (map string_bytes c.args.words.now) (g.S.Source.left c.args.source.now) Bridges text_outcome IsSoundText c.answer_input-2.result
-    (ap Some (sym c.in-Some-Bridges.field-0-is) ∙ sym c.in-Some-Bridges.is ∙ c.command_from.ensures.command) refl (λ bytes o h. h) c.answer_input-2.ensures.output c.answer_input-2.ensures.worth
+    exactly_expected (map string_bytes c.args.words.now) (g.S.Source.left c.args.source.now) Bridges text_outcome IsSoundText c.answer_input-in-Some-Bridges.result
+    (ap Some (sym c.in-Some-Bridges.field-0-is) ∙ sym c.in-Some-Bridges.is ∙ c.command_from.ensures.command) refl (λ bytes o h. h) c.answer_input-in-Some-Bridges.ensures.output c.answer_input-in-Some-Bridges.ensures.worth

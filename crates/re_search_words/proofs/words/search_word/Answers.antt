@@ -1,4 +1,4 @@
-use Rattle.std.proofs.Common.{◌≡◌, ◌<◌, ◌≤◌, length, map, string_bytes, sym, subst, arith}
+use Rattle.std.proofs.Common.{◌<◌, ◌≤◌, length, map, string_bytes, sym, arith}
 use Rattle.std.proofs.lemmas.List.{length-map}
 use Rattle.re_search_words.proofs.WordCounts.{few_words, many_words}
 use Rattle.re_search_words.proofs.words.search_word.Goals as goal

@@ -1,5 +1,5 @@
 #!/usr/bin/env bash
-# Refuses memory to the built program, at each of its requests in turn and then from each on: memory.sh PROGRAM FOLDER
+# Refuses memory to the built program, at each of its requests in turn and then from each on: memory.sh PROGRAM FOLDER [explore]
 # For each command it prints how many requests there are, and how many refusals were answered by status 7 with nothing written, by the
 # whole answer, and otherwise. It ends with status 1 where a refusal was answered otherwise, or by the whole answer at more than one
 # request: `main` asks for room for all of its words ahead, and goes on without it.
@@ -7,6 +7,7 @@ set -eu
 
 program=$(realpath "${1:?the built program}")
 folder=$(realpath "${2:?the folder to write into}")
+commands=${3:-re}
 cd "$(dirname "$0")/../examples"
 
 # A library in front of the C library's: it refuses request number FAIL_AT, with FAIL_ON all behind it too, and makes the file
@@ -40,6 +41,7 @@ void *malloc(size_t size) { return refuses() ? 0 : __libc_malloc(size); }
 void *realloc(void *old, size_t size) { return refuses() ? 0 : __libc_realloc(old, size); }
 END
 printf '== from\n[IO]^3\n\nI O\n== to\nA B\n\n[AB]^3\n== map\nA [I]\nB [O]\n' > "$folder/restricted.txt"
+cat problems/maximal-matching-4.txt family/first.txt > "$folder/bridge.txt"
 "${CC:-cc}" -O2 -shared -fPIC -o "$folder/refuse.so" "$folder/refuse.c"
 
 # Runs the words on the input with request number $1 refused; the text goes to the file `found`, the status to `status`.
@@ -79,18 +81,9 @@ try() {
     wrong=$((wrong + other))
 }
 
-printf '%-20s %-52s %8s %8s %8s %8s\n' words input requests 'status 7' whole other
-while read -r name words; do
-    input=$name
-    [ -e "$input" ] || input=$folder/$name
-    sure=0
-    # shellcheck disable=SC2086
-    "$program" $words < "$input" > "$folder/sure" || sure=$?
-    for on in '' on; do
-        try "$on"
-        printf '%-20s %-52s %8s %8s %8s %8s\n' "$words" "$name${on:+, and on}" $((number - 1)) "$none" "$whole" "$other"
-    done
-done <<'END'
+# The commands of each program: an input, of the examples or of the folder, and the words.
+commands_of_re() {
+    cat <<'END'
 orientation-lower.txt check
 sinkless-fixed.txt check
 orientation-upper.txt check
@@ -126,4 +119,36 @@ sinkless.txt fixed 2 0
 /dev/null make 12
 /dev/null step 0
 END
+}
+
+commands_of_explore() {
+    cat <<'END'
+sinkless.txt begin lower
+orientation-lower.txt last
+sinkless.txt step
+gallery/maximal-independent-set-3-lower.txt tidy
+colouring-refused.txt why
+independent.txt longest 2 6
+sinkless.txt cycle 3 0 100
+gallery/two-colouring-3.txt closure
+bridge.txt bridge
+family/itself.txt bridge
+sinkless.txt describe
+gallery/maximal-matching-4-lower.txt describe
+colouring-refused.txt describe
+END
+}
+
+printf '%-20s %-52s %8s %8s %8s %8s\n' words input requests 'status 7' whole other
+while read -r name words; do
+    input=$name
+    [ -e "$input" ] || input=$folder/$name
+    sure=0
+    # shellcheck disable=SC2086
+    "$program" $words < "$input" > "$folder/sure" || sure=$?
+    for on in '' on; do
+        try "$on"
+        printf '%-20s %-52s %8s %8s %8s %8s\n' "$words" "$name${on:+, and on}" $((number - 1)) "$none" "$whole" "$other"
+    done
+done < <("commands_of_$commands")
 [ "$wrong" -eq 0 ]

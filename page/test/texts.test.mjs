@@ -52,7 +52,7 @@ is('a map of lines as written', lines, {active: ['B [BC]^2', 'B^3'], passive: []
 // Certificates: what is read of a chain and written again is the same text.
 for (const name of namesIn('gallery')) {
     const text = example(`gallery/${name}`), bound = certificates.readCertificate(text), side = bound.kind === 'upper' ? 'upper' : 'lower';
-    const path = [{kind: 'first', problem: bound.first, side}, ...bound.steps.map(step => ({kind: 'given', side, ...step, isByRows: false}))];
+    const path = [{kind: 'first', problem: bound.first, side}, ...bound.steps.map(step => ({kind: 'given', side, ...step, isByRows: bound.version === 2}))];
     if (bound.kind === 'fixed') path.at(-1).back = {number: bound.back, pairs: bound.pairs};
     is(`${name} comes back`, chains.certificateOf(path, bound.kind, card => card.problem), text);
 }

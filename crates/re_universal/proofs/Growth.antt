@@ -35,7 +35,7 @@ added_sets n i x r below b h =
     all_set _ r i (with_label (set_at r i) x) h (IsLabelSet-with_label n (set_at r i) x below (all_at _ r i h b).0, IsIn-filled x (with_label (set_at r i) x) (with_label_itself (set_at r i) x))
 
 -- the choices that have the label at the place are choices of the sets with it
-only_choices : (i x : ℕ) (r : List (List ℕ)) (c : List ℕ) → IsChoice c (slice_set r i (x ∷ [])) → IsChoice c (added i x r)
+pub only_choices : (i x : ℕ) (r : List (List ℕ)) (c : List ℕ) → IsChoice c (slice_set r i (x ∷ [])) → IsChoice c (added i x r)
 only_choices i x [] c k = k
 only_choices zero x (s ∷ r) [] k = absurd k
 only_choices (suc i) x (s ∷ r) [] k = absurd k

@@ -4,10 +4,12 @@ ghost use Rattle.re_strength.specs.Held.{ups_in};
 ghost use Rattle.re_strength.specs.Sets.{AreSets};
 ghost use Rattle.re_table.specs.GoodRows.{IsDominated, IsGood, max_rows};
 ghost use Rattle.re_box_search.specs.Growing.{IsLonger};
+ghost use Rattle.re_universal.specs.Completing.{AreRight};
 ghost use Rattle.re_universal.specs.Kept.{IsKept};
 ghost use Rattle.std.specs.Prelude.{◌≡◌, ◌<◌, ◌↔◌, Contains, IfErr, IsTrue, OnOk, length};
 
 use crate::RowsFault;
+use crate::completing::Memo;
 use crate::growing::grown;
 use re_box_search::Keeper;
 use re_config::{MAX_ROWS, Row};
@@ -35,10 +37,12 @@ fn is_listed(rows: &[Row], row: &Row) -> bool
 pub(crate) struct Found {
     pub(crate) rows: Vec<Row>,
     pub(crate) lookup: RowIndex,
+    pub(crate) memo: Memo,
 }
 
 impl Keeper for Found {
     ghost use Rattle.re_config.specs.declared.TheConstants.{MAX_ROWS};
+    ghost use Rattle.re_universal.specs.Completing.{AreRight};
     ghost use Rattle.re_universal.specs.declared.RowsFault.{RowsFault};
 
     type Refusal = RowsFault;
@@ -47,7 +51,7 @@ impl Keeper for Found {
 
     ghost most = { λ found. MAX_ROWS };
 
-    ghost serves = { λ found constraint n. IsKept constraint n MAX_ROWS found.rows.items };
+    ghost serves = { λ found constraint n. IsKept constraint n MAX_ROWS found.rows.items × AreRight constraint n found.memo.slots.items };
 
     ghost tells = { λ found constraint n fault. fault ≡ RowsFault.TooManyRows → MAX_ROWS < length (max_rows constraint n) };
 
@@ -66,7 +70,7 @@ impl Keeper for Found {
         if self.sees_dominated(sets) {
             return Ok(());
         }
-        let row = grown(constraint, strength, sets);
+        let row = grown(constraint, strength, &mut self.memo, sets);
         if is_listed(self.rows.as_slice(), &row) {
             return Ok(());
         }

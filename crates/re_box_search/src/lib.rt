@@ -1,6 +1,7 @@
 //! The search among the boxes of rows for good sets that no kept row dominates.
 #![tactic(auto)]
 
+mod choosing;
 mod keeper;
 mod searching;
 mod walking;

@@ -8,6 +8,7 @@ ghost use Rattle.re_strength.specs.Sets.{AreSets};
 ghost use Rattle.std.specs.Prelude.{◌≡◌, ◌≤◌, ◌<◌, IfErr, OnOk, length, slice_index};
 
 use crate::Keeper;
+use crate::choosing::{bad_with_other, first_place};
 use re_labels::LabelSet;
 use re_strength::{Strength, strong_bad_choice, with_set};
 use re_table::Constraint;
@@ -36,16 +37,48 @@ pub(crate) fn cover<K: Keeper>(
     let _degree = constraint.degree();
     match strong_bad_choice(constraint, strength, must, may) {
         None => keeper.settle(constraint, strength, may),
-        Some(choice) => cover_parts(
-            constraint,
-            strength,
-            keeper,
-            must,
-            may,
-            choice.as_slice(),
-            0,
-        ),
+        Some(choice) => cover_choice(constraint, strength, keeper, must, may, choice.as_slice()),
     }
+}
+
+// The same where the choice is no configuration.
+#[cycle(search)]
+fn cover_choice<K: Keeper>(
+    constraint: &Constraint,
+    strength: &Strength,
+    keeper: &mut K,
+    must: &[LabelSet],
+    may: &[LabelSet],
+    choice: &[u8],
+) -> Result<(), K::Refusal>
+    requires strong { IsStrength constraint.now (ups_in strength.now.ups.items) }
+    requires serves { K.serves keeper.old constraint.now strength.now.labels }
+    requires must { length must.now ≡ constraint.now.degree }
+    requires may { length may.now ≡ constraint.now.degree }
+    requires sets { AreSets strength.now.labels may.now }
+    requires choice { IsChoice choice.now may.now }
+    ensures serves { OnOk result (K.serves keeper.new constraint.now strength.now.labels) }
+    ensures covered { OnOk result (IsPartCovered constraint.now (ups_in strength.now.ups.items) (K.rows keeper.new) must.now may.now choice.now 0) }
+    ensures refused { IfErr result (K.tells keeper.new constraint.now strength.now.labels) }
+    ensures longer { IsLonger (K.rows keeper.old) (K.rows keeper.new) }
+    ensures most { K.most keeper.new ≡ K.most keeper.old }
+{
+    let _degree = constraint.degree();
+    let place = first_place(must, may, choice);
+    if place >= may.len() {
+        return cover_parts(constraint, strength, keeper, must, may, choice, 0);
+    }
+    cover_part(constraint, strength, keeper, must, may, choice, place)?;
+    let more = with_set(must, place, must[place].union(strength.up(choice[place])));
+    cover_parts(
+        constraint,
+        strength,
+        keeper,
+        more.as_slice(),
+        may,
+        choice,
+        0,
+    )
 }
 
 // The same for the rows that lack a label of the choice from this place on.
@@ -124,6 +157,9 @@ fn cover_part<K: Keeper>(
     }
     let smaller = with_set(may, place, set);
     let part = smaller.as_slice();
+    if let Some(other) = bad_with_other(constraint, strength, may, choice, place, set) {
+        return cover_choice(constraint, strength, keeper, must, part, other.as_slice());
+    }
     if keeper.sees_dominated(part) {
         return Ok(());
     }

@@ -14,8 +14,12 @@ use Rattle.re_labels.specs.Sets.{IsIn, IsLabelSet, has, union}
 use Rattle.re_table.proofs.SaidChoices.{weight}
 use Rattle.re_strength.proofs.RowsOfSets.{filled}
 use Rattle.re_box_search.proofs.Growing.{longer_has}
+use Rattle.re_box_search.proofs.OtherChoices.{place_first}
 use Rattle.re_strength.proofs.Parting.{chosen_below, covered_by_parts, empty_part, empty_set, held_part, left_out_lighter, left_out_sets, next_part, no_part}
+use Rattle.re_strength.proofs.RaisedChoices.{bad_is_choice}
 use Rattle.re_strength.proofs.SetsAtPlaces.{length-slice_set}
+use Rattle.re_strength.proofs.UpSets.{label_sets_more}
+use Rattle.re_labels.specs.declared.TheConstants.{MAX_LABELS}
 use Rattle.re_strength.specs.Sets.{AreSets}
 use Rattle.re_strength.specs.Choosing.{IsBadBehind}
 use Rattle.re_strength.specs.Held.{ups_in}
@@ -34,8 +38,8 @@ cover-returns-in-None-clause-covered g t c =
 
 pub cover-returns-in-Some-clause-covered : goal.cover-returns-in-Some-clause-covered
 cover-returns-in-Some-clause-covered g t c =
-    on_ok_weaker c.cover_parts.result (λ covered. covered_by_parts c.args.constraint.now (ups_in c.args.strength.now.ups.items) (g.K.Keeper.rows c.cover_parts.new.keeper) c.args.must.now c.args.may.now c.as_slice.result.now
-    (subst (λ l. IsBadBehind c.args.constraint.now [] c.args.may.now l) (sym c.as_slice.ensures.value) c.in-Some.ensures) covered) c.cover_parts.ensures.covered
+    on_ok_weaker c.cover_choice.result (λ covered. covered_by_parts c.args.constraint.now (ups_in c.args.strength.now.ups.items) (g.K.Keeper.rows c.cover_choice.new.keeper) c.args.must.now c.args.may.now c.as_slice.result.now
+    (subst (λ l. IsBadBehind c.args.constraint.now [] c.args.may.now l) (sym c.as_slice.ensures.value) c.in-Some.ensures) covered) c.cover_choice.ensures.covered
 
 pub cover_part-bounds-choice-place : goal.cover_part-bounds-choice-place
 cover_part-bounds-choice-place g t c = let e = length-AllZip IsIn c.args.choice.now c.args.may.now c.requires.choice in omega (arith, e, c.requires.place)
@@ -125,6 +129,94 @@ cover_part-cover-requires g t c κs within =
         ),
       ),
     )
+
+pub cover_part-bad_with_other-requires-clause-sets : goal.cover_part-bad_with_other-requires-clause-sets
+cover_part-bad_with_other-requires-clause-sets g t c = AllByRecursion-weaker _ (IsLabelSet c.args.strength.now.labels) (λ s a. a.0) c.args.may.now c.requires.sets
+
+pub cover_part-cover_choice-requires : goal.cover_part-cover_choice-requires
+cover_part-cover_choice-requires g t c κs within =
+    let label = get_or c.args.choice.now c.args.place 0 in
+    let ups = ups_in c.args.strength.now.ups.items in
+    let mine : c.index-may-place.result ≡ set_at c.args.may.now c.args.place = c.index-may-place.is ∙ read_within c.args.may.now c.args.place c.index-may-place.result [] c.requires.place in
+    let left : c.without-set.result ≡ filter (λ z. not (has (ups z) label)) (set_at c.args.may.now c.args.place) = c.without-set.ensures ∙ ap (filter (λ z. not (has (ups z) label))) mine in
+    let smaller : c.as_slice-part.result.now ≡ left_out ups label c.args.place c.args.may.now = c.as_slice-part.ensures.value ∙ c.with_set-smaller.ensures ∙ ap (slice_set c.args.may.now c.args.place) left in
+    let b = chosen_below c.args.strength.now.labels c.args.choice.now c.args.may.now c.args.place c.requires.sets c.requires.choice c.requires.place in
+    let less = left_out_lighter ups c.requires.strong.holds label c.args.place c.args.may.now c.requires.place b.0 in
+    let some : 0 < length c.without-set.result = (let n : eqb (length c.without-set.result) 0 ≡ false = sym c.is_empty.ensures ∙ c.if-is_empty.false in grind (arith, nat_tests)) in
+    let bad : IsBadBehind c.args.constraint.now [] c.as_slice-part.result.now c.as_slice.result.now =
+    subst (λ l. IsBadBehind c.args.constraint.now [] c.as_slice-part.result.now l) (sym c.as_slice.ensures.value)
+    (subst (λ b. IsBadBehind c.args.constraint.now [] b c.in-Some.other.items) (sym (c.as_slice-part.ensures.value ∙ c.with_set-smaller.ensures)) c.in-Some.ensures) in
+    let count : length c.as_slice-part.result.now ≡ c.args.constraint.now.degree = ap length smaller ∙ length-slice_set c.args.may.now c.args.place _ ∙ c.requires.may in (
+      omega (arith, c.decreases, less, ap weight smaller, count, c.requires.may, c.degree-degree.ensures.constraint.most),
+      (
+        within.0,
+        (
+          within.1,
+          (
+            c.requires.strong,
+            (
+              c.requires.serves,
+              (
+                c.requires.must,
+                (
+                  count,
+                  (
+                    subst (AreSets c.args.strength.now.labels) (sym smaller) (left_out_sets c.args.strength.now.labels ups label c.args.place c.args.may.now c.without-set.result left some c.requires.place c.requires.sets),
+                    bad_is_choice c.args.constraint.now c.as_slice-part.result.now c.as_slice.result.now bad,
+                  ),
+                ),
+              ),
+            ),
+          ),
+        ),
+      ),
+    )
+
+pub cover_part-returns-in-Some-clause-covered : goal.cover_part-returns-in-Some-clause-covered
+cover_part-returns-in-Some-clause-covered g t c =
+    let label = get_or c.args.choice.now c.args.place 0 in
+    let ups = ups_in c.args.strength.now.ups.items in
+    let mine : c.index-may-place.result ≡ set_at c.args.may.now c.args.place = c.index-may-place.is ∙ read_within c.args.may.now c.args.place c.index-may-place.result [] c.requires.place in
+    let left : c.without-set.result ≡ filter (λ z. not (has (ups z) label)) (set_at c.args.may.now c.args.place) = c.without-set.ensures ∙ ap (filter (λ z. not (has (ups z) label))) mine in
+    let smaller : c.as_slice-part.result.now ≡ left_out ups label c.args.place c.args.may.now = c.as_slice-part.ensures.value ∙ c.with_set-smaller.ensures ∙ ap (slice_set c.args.may.now c.args.place) left in
+    let b = chosen_below c.args.strength.now.labels c.args.choice.now c.args.may.now c.args.place c.requires.sets c.requires.choice c.requires.place in
+    let less = left_out_lighter ups c.requires.strong.holds label c.args.place c.args.may.now c.requires.place b.0 in
+    let some : 0 < length c.without-set.result = (let n : eqb (length c.without-set.result) 0 ≡ false = sym c.is_empty.ensures ∙ c.if-is_empty.false in grind (arith, nat_tests)) in
+    let bad : IsBadBehind c.args.constraint.now [] c.as_slice-part.result.now c.as_slice.result.now =
+    subst (λ l. IsBadBehind c.args.constraint.now [] c.as_slice-part.result.now l) (sym c.as_slice.ensures.value)
+    (subst (λ b. IsBadBehind c.args.constraint.now [] b c.in-Some.other.items) (sym (c.as_slice-part.ensures.value ∙ c.with_set-smaller.ensures)) c.in-Some.ensures) in
+    on_ok_weaker c.cover_choice.result (λ covered. subst (IsCovered c.args.constraint.now ups (g.K.Keeper.rows c.cover_choice.new.keeper) c.args.must.now) smaller
+    (covered_by_parts c.args.constraint.now ups (g.K.Keeper.rows c.cover_choice.new.keeper) c.args.must.now c.as_slice-part.result.now c.as_slice.result.now bad covered)) c.cover_choice.ensures.covered
+
+pub cover_choice-first_place-place-requires-clause-sets : goal.cover_choice-first_place-place-requires-clause-sets
+cover_choice-first_place-place-requires-clause-sets g t c =
+    label_sets_more c.args.strength.now.labels MAX_LABELS c.args.strength.now.few c.args.may.now (AllByRecursion-weaker _ (IsLabelSet c.args.strength.now.labels) (λ s a. a.0) c.args.may.now c.requires.sets)
+
+pub cover_choice-bounds-choice-place : goal.cover_choice-bounds-choice-place
+cover_choice-bounds-choice-place g t c =
+    let inside : c.first_place-place.result < length c.args.may.now = (let h = c.if-place-may.false in omega arith) in
+    let e = length-AllZip IsIn c.args.choice.now c.args.may.now c.requires.choice in
+    omega (arith, e, inside)
+
+pub cover_choice-up-requires : goal.cover_choice-up-requires
+cover_choice-up-requires g t c =
+    let inside : c.first_place-place.result < length c.args.may.now = (let h = c.if-place-may.false in omega arith) in
+    (chosen_below c.args.strength.now.labels c.args.choice.now c.args.may.now c.first_place-place.result c.requires.sets c.requires.choice inside).1
+
+pub cover_choice-returns-clause-covered : goal.cover_choice-returns-clause-covered
+cover_choice-returns-clause-covered g t c =
+    let place = c.first_place-place.result in
+    let label = get_or c.args.choice.now place 0 in
+    let ups = ups_in c.args.strength.now.ups.items in
+    let inside : place < length c.args.may.now = (let h = c.if-place-may.false in omega arith) in
+    let held : c.index-must-place.result ≡ set_at c.args.must.now place =
+    c.index-must-place.is ∙ read_within c.args.must.now place c.index-must-place.result [] (let e = c.requires.must in let f = c.requires.may in omega (arith, e, f, inside)) in
+    let more : c.as_slice.result.now ≡ slice_set c.args.must.now place (union (set_at c.args.must.now place) (ups label)) =
+    c.as_slice.ensures.value ∙ c.with_set-more.ensures ∙ (λ i. slice_set c.args.must.now place (c.union.ensures i)) ∙ (λ i. slice_set c.args.must.now place (union (held i) (c.up.ensures.up i))) in
+    on_ok_weaker c.cover_parts-2.result (λ rest. place_first c.args.constraint.now ups (g.K.Keeper.rows c.cover_parts-2.new.keeper) c.args.must.now c.args.may.now c.as_slice.result.now c.args.choice.now place inside more
+    (covered_more c.args.constraint.now ups (g.K.Keeper.rows c.cover_part.new.keeper) (g.K.Keeper.rows c.cover_parts-2.new.keeper) (longer_has (g.K.Keeper.rows c.cover_part.new.keeper) (g.K.Keeper.rows c.cover_parts-2.new.keeper) c.cover_parts-2.ensures.longer)
+    c.args.must.now (left_out ups label place c.args.may.now) c.in_ok-cover_part.ensures.covered)
+    rest) c.cover_parts-2.ensures.covered
 
 pub cover_parts-returns-then-place-may-clause-covered : goal.cover_parts-returns-then-place-may-clause-covered
 cover_parts-returns-then-place-may-clause-covered g t c =

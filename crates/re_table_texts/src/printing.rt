@@ -14,7 +14,7 @@ use re_algo::Table;
 use re_cert::RowImage;
 use re_cert_lines::push_image;
 use re_labels::{Names, NoMemory, PortLabels};
-use re_problem::{Problem, print_problem};
+use re_problem::{Problem, push_problem};
 use std::alloc::{AllocError, Global};
 
 fn push_all(text: &mut Vec<u8>, more: &str) -> Result<(), NoMemory>
@@ -78,8 +78,7 @@ fn table_bytes(alloc: Global, problem: &Problem, table: &Table) -> Result<Vec<u8
 {
     let mut text = Vec::new(alloc);
     push_all(&mut text, "== problem\n")?;
-    let own = print_problem(alloc, problem)?;
-    text.extend_from_slice(own.as_slice())?;
+    push_problem(&mut text, problem)?;
     push_section(&mut text, table.radius())?;
     push_answers(&mut text, problem.names(), table.answers())?;
     Ok(text)

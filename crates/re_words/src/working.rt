@@ -9,7 +9,7 @@ use re_diagram::{diagram, merge, trim};
 use re_frame::{Answer, Output, done, limit_output};
 use re_labels::{NoMemory, Side};
 use re_printing::{print_diagram, print_meanings, print_rows};
-use re_problem::{Problem, print_problem};
+use re_problem::{Problem, print_problem, push_problem};
 use re_step::{Derived, StepFault, step};
 use re_table::Constraint;
 use re_universal::{RowsFault, maximal_rows};
@@ -90,8 +90,7 @@ fn derived_output(alloc: Global, problem: &Problem, derived: &Derived) -> Result
         derived.sets.as_slice(),
     )?;
     text.push(b'\n')?;
-    let canonical = print_problem(alloc, &derived.problem)?;
-    text.extend_from_slice(canonical.as_slice())?;
+    push_problem(&mut text, &derived.problem)?;
     Ok(done(text))
 }
 

@@ -38,7 +38,7 @@ ladders : (ups : ℕ → List ℕ) (r : List (List ℕ)) → AreUp ups (raised u
 ladders ups [] h = tt
 ladders ups (s ∷ r) h = (ladder_up ups (with_stronger ups s) (rising-with_stronger ups s) h.0, ladders ups r h.1)
 
-same_shape : (q t : List (List ℕ)) → length q ≡ length t → Shape q t
+pub same_shape : (q t : List (List ℕ)) → length q ≡ length t → Shape q t
 same_shape [] [] e = tt
 same_shape [] (w ∷ t) e = absurd (omega arith)
 same_shape (s ∷ q) [] e = absurd (omega arith)

@@ -20,9 +20,10 @@ use Rattle.re_entries.specs.RowEntries.{image_entries, row_entries}
 use Rattle.re_entries.specs.StepClauses.{KeepsAllowedByRow}
 use Rattle.re_clauses.proofs.StepMeaning.{all_there, by_row-tells}
 use Rattle.re_clauses.specs.Clauses.{are_exchanged, keep_allowed_by_row, keep_images, sets_in}
+use Rattle.re_clauses.proofs.StepTests.{occurs-listed}
+use Rattle.re_problem.proofs.Walks.{count_from_split}
 use Rattle.re_bridge.proofs.Beginnings.{choice-front}
 use Rattle.re_bridge.proofs.Meeting.{rows-whole, whole-test}
-use Rattle.re_bridge.proofs.RowTests.{occurs-listed}
 use Rattle.re_bridge.specs.Bridges.{image_of, images_for, is_begun, passes_by_row, rest_of, rows_of}
 use Rattle.re_bridge.specs.Walking.{BeginningsPass}
 
@@ -54,11 +55,6 @@ image-first d k row labels l =
 
 image-length : (d row : ℕ) (labels : List ℕ) → row * d + d ≤ length labels → length (image_of d labels row) ≡ d
 image-length d row labels l = length-take d (drop (row * d) labels) ∙ ap (min d) (length-drop (row * d) labels) ∙ (let z : min d (length labels - row * d) ≡ d = omega (arith, l) in z)
-
-count-parted : (i n m : ℕ) → count_from i (n + m) ≡ count_from i n ++ count_from (i + n) m
-count-parted i zero m = (let z : zero + m ≡ m = omega arith in ap (count_from i) z) ∙ ap (λ k. count_from k m) (let z : i ≡ i + zero = omega arith in z)
-count-parted i (suc n) m =
-    ap (count_from i) (let z : suc n + m ≡ suc (n + m) = omega arith in z) ∙ ap (λ l. i ∷ l) (count-parted (suc i) n m ∙ ap (λ k. count_from (suc i) n ++ count_from k m) (let z : suc i + n ≡ i + suc n = omega arith in z))
 
 -- ---- the images of the first rows
 image_entries-none : (rows : List (List (List ℕ))) → image_entries rows [] ≡ []
@@ -149,7 +145,7 @@ module _ (before next : NamedProblem) (exchanged : are_exchanged before next ≡
     images_are : images_for d labels ≡ images_for d first ++ map (image_of d labels) (count_from q (length (rows_of before) - q))
     images_are =
         ap (λ m. map (image_of d labels) (count_from 0 m)) (rows-whole before next exchanged labels some count ∙ (let z : length (rows_of before) ≡ q + (length (rows_of before) - q) = omega (arith, few) in z))
-        ∙ ap (map (image_of d labels)) (count-parted 0 q (length (rows_of before) - q) ∙ ap (λ i. count_from 0 q ++ count_from i (length (rows_of before) - q)) (let z : 0 + q ≡ q = omega arith in z))
+        ∙ ap (map (image_of d labels)) (count_from_split 0 q (length (rows_of before) - q) ∙ ap (λ i. count_from 0 q ++ count_from i (length (rows_of before) - q)) (let z : 0 + q ≡ q = omega arith in z))
         ∙ map-append (image_of d labels) (count_from 0 q) (count_from q (length (rows_of before) - q))
         ∙ ap (λ l. l ++ map (image_of d labels) (count_from q (length (rows_of before) - q)))
         (map-alike (image_of d labels) (image_of d first) (count_from 0 q) (λ row held. sym (image-first d k row labels (reach row (count_from_range 0 q row held)))))

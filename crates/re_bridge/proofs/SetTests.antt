@@ -1,5 +1,5 @@
 -- The tests of a map by sets.
-use Rattle.std.proofs.Common.{◌≡◌, ℕ, zero, suc, ◌<◌, ◌≤◌, ◌+◌, Bool, true, false, not, List, [], ◌∷◌, ◌++◌, length, map, take, get_or, refl, sym, ap, ◌∙◌, subst, arith}
+use Rattle.std.proofs.Common.{◌≡◌, ℕ, zero, suc, ◌<◌, ◌≤◌, ◌+◌, Bool, true, not, List, [], ◌∷◌, ◌++◌, length, map, take, get_or, refl, sym, ap, ◌∙◌, subst, arith}
 use Rattle.std.specs.Prelude.{◌||◌, ◌↔◌, Contains, IsTrue}
 use Rattle.std.specs.List.{AllByRecursion, list_any}
 use Rattle.re_labels.proofs.Before.{same_list-refl, same_list-same}
@@ -7,17 +7,14 @@ use Rattle.re_labels.proofs.Membership.{Contains-In, In-Contains, any-In, any-In
 use Rattle.re_labels.proofs.Tests.{same_tests}
 use Rattle.re_labels.specs.Lists.{IsRising, same_list}
 use Rattle.re_labels.specs.Sets.{number}
-use Rattle.re_table.proofs.Goodness.{Has-has_config, has_config-Has}
 use Rattle.re_table.proofs.SaidChoices.{found-is}
-use Rattle.re_table.specs.Constraints.{Constraint, Has, has_config}
+use Rattle.re_table.specs.Constraints.{Constraint, has_config}
 use Rattle.re_table.specs.GoodRows.{allowed}
 use Rattle.re_config.specs.Configs.{sorted}
-use Rattle.re_problem.specs.Steps.{SetEntry, entry_sets, label_at, label_of}
+use Rattle.re_problem.specs.Steps.{SetEntry, entry_sets, label_of}
 use Rattle.re_entries.proofs.RowSets.{HasSetsOf}
 use Rattle.re_entries.specs.RowEntries.{row_entries}
-use Rattle.re_entries.specs.StepClauses.{KeepsAllowed}
 use Rattle.re_clauses.proofs.StepMeaning.{all_held, all_there}
-use Rattle.re_clauses.specs.Clauses.{keep_allowed}
 use Rattle.re_bridge.specs.Bridges.{has_entries}
 use Rattle.re_labels.specs.declared.TheConstants.{MAX_LABELS}
 
@@ -39,9 +36,6 @@ pub entries-test : (entries : List SetEntry) (row : List (List ℕ)) (r : Bool) 
 entries-test entries row r tells = same_tests r (has_entries entries row) (λ t. sets-has_entries entries row (tells.0 t)) (λ t. tells.1 (has_entries-sets entries row t))
 
 -- ---- the image of a row
-pub row-skipped : (active : Constraint) (row : List (List ℕ)) (entries : List SetEntry) (r : Bool) → r ≡ has_entries entries row → r ≡ false → true ≡ (not (has_entries entries row) || has_config active (map (label_of entries) row))
-row-skipped active row entries r is fails = let e : false ≡ has_entries entries row = sym fails ∙ is in (λ i. not (e i) || has_config active (map (label_of entries) row))
-
 pub row-tested : (active : Constraint) (row : List (List ℕ)) (entries : List SetEntry) (r : Bool) (config : List ℕ) (b : Bool) → r ≡ has_entries entries row → r ≡ true → IsTrue b ↔ Contains active.configs config
     → config ≡ sorted (map (label_of entries) row) → b ≡ (not (has_entries entries row) || has_config active (map (label_of entries) row))
 row-tested active row entries r config b is passes tells image =
@@ -49,12 +43,6 @@ row-tested active row entries r config b is passes tells image =
     found-is active (map (label_of entries) row) config b tells image ∙ (λ i. not (e i) || has_config active (map (label_of entries) row))
 
 -- ---- the images of the allowed multisets
-pub allowed-test : (before passive : Constraint) (entries : List SetEntry) (r : Bool) → IsTrue r ↔ KeepsAllowed entries before passive → r ≡ keep_allowed before passive entries
-allowed-test before passive entries r tells =
-    same_tests r (keep_allowed before passive entries)
-    (λ t. all_held _ (λ places. Has passive (map (label_at entries) places)) (allowed before (entry_sets entries) before.degree) (λ places. Has-has_config passive (map (label_at entries) places)) (tells.0 t))
-    (λ t. tells.1 (all_there _ (λ places. Has passive (map (label_at entries) places)) (allowed before (entry_sets entries) before.degree) (λ places. has_config-Has passive (map (label_at entries) places)) t))
-
 -- ---- the entries of the first sets
 pub entries-none : (sets : List (List ℕ)) → row_entries sets [] ≡ []
 entries-none [] = refl

@@ -16,7 +16,6 @@ use Rattle.re_chain_steps.proofs.MoreSteps.{all-sets}
 use Rattle.re_chain_steps.proofs.RowForms.{next-same, step-fits, step-form, step-sound}
 use Rattle.re_chain_steps.specs.RowForms.{by_rows, step_by_rows}
 use Rattle.re_clauses.specs.Clauses.{step_fault}
-use Rattle.re_check.specs.Verdicts.{steps_fault}
 use Rattle.re_tree.proofs.Paths.{fits-more, valid-more}
 use Rattle.re_bridge_chain.specs.Bridged.{in_one_form}
 
@@ -40,9 +39,6 @@ one-bound first s fit = few-bound first (s ∷ []) (omega arith) (true-and (step
     form : (b : Bool) → ((b && true) || (not b && true)) ≡ true
     form true = refl
     form false = refl
-
-pub one-sound : (first : NamedProblem) (s : BoundStep) → step_fault first s ≡ None → steps_fault first 1 (s ∷ []) ≡ None
-one-sound first s met = valid-more 1 first [] s refl met
 
 pub more-bound : (bound : Bound) (s : BoundStep) → is_bound bound ≡ true → bound.kind ≡ Lower → length bound.steps < MAX_STEPS → step_fits Lower (last_problem bound) s ≡ true → one_form (bound.steps ++ s ∷ []) ≡ true
     → is_bound (chain_with Lower bound.first (bound.steps ++ s ∷ [])) ≡ true

@@ -8,7 +8,7 @@ use Rattle.re_problem.specs.NamedProblems.{NamedProblem}
 use Rattle.re_problem.specs.ProblemTexts.{bytes_of, end_fault, fault_at, fault_if, first_fault, first_from, lines_of, or_else, problem_of}
 use Rattle.re_problem.specs.TextReading.{FinishGives, Refuses, Stands}
 use Rattle.re_problem.specs.declared.fault.InputFault.{InputFault}
-use Rattle.re_problem.specs.declared.fault.InputFault.TheVariants.{BadSection, MissingBlock}
+use Rattle.re_problem.specs.declared.fault.InputFault.TheVariants.{BadSection}
 use Rattle.re_problem.specs.declared.fault.TextFault.{TextFault}
 use Rattle.re_problem.specs.declared.fault.TextFault.TheVariants.{Bad, NoMemory}
 use Rattle.re_problem.specs.declared.text_reader.TextReader.{TextReader}
@@ -119,11 +119,6 @@ all_read reader byte start text number [] s end result given = go result given
     go (Ok problem) given = let h = given byte start s.before s.stands in (fault_is ∙ h.0, h.1 ∙ ap problem_of (sym front))
     go (Err (Bad fault)) given = fault_is ∙ given byte start s.before s.stands
     go (Err NoMemory) given = absurd given
-
--- nothing stands there
-pub empty_problem : (byte number : ℕ) (text : List ℕ) → length text ≡ 0 → problem_fault byte number (lines_of text) ≡ Some (MissingBlock number)
-empty_problem byte number (b ∷ text) end = absurd (omega arith)
-empty_problem byte number [] end = ap (λ n. Some (MissingBlock n)) (let same : number + 0 ≡ number = omega arith in same)
 
 -- ---- the end at a section line
 pub section_whole : (reader : TextReader) (number : ℕ) (problem : NamedProblem) → FinishGives reader (Ok problem) → SectionRefuses reader number (Bad (BadSection number))

@@ -22,10 +22,11 @@ use Rattle.re_changes.proofs.Counted.{length-map_counted}
 use Rattle.re_cert.specs.Bounds.{BoundStep, is_lower}
 use Rattle.re_cert.specs.declared.certificate.Kind.{Kind}
 use Rattle.re_clauses.proofs.StepMeaning.{lower_clauses}
+use Rattle.re_check.proofs.Meaning.{kind-lower}
 use Rattle.re_chain.proofs.LastSteps.{Keeps}
 use Rattle.re_chain.proofs.NamedProblems.{IsNamed-built, IsNames-kept}
 use Rattle.re_chain.proofs.RelaxedSteps.{relaxed-step}
-use Rattle.re_chain.proofs.StepsAlong.{along-fits, along-form, is-lower}
+use Rattle.re_chain.proofs.StepsAlong.{along-fits, along-form}
 use Rattle.re_chain.specs.Merging.{merge_numbers, merged_label, merged_problem, merged_step, others}
 
 module _ (x y : ℕ) (named : NamedProblem) (m : y < length named.names) (apart : x ≡ y → ⊥) where
@@ -77,7 +78,7 @@ merge-keeps kind x y before s lower m apart is = record {
   fits = λ fits. along-fits kind before s (image_at (merge_numbers x y s.next)) (merged_problem x y s.next)
       (λ label below. let l = number-below x y s.next m apart label below in let c = count-names x s.next in omega arith) fits;
   sound = λ fits none.
-      let low : s.lower ≡ true = is-lower kind before s lower fits in
+      let low : s.lower ≡ true = kind-lower kind before s lower fits in
       (lower_clauses before (merged_step x y s) low).1
       (relaxed-step (unnamed before) (unnamed s.next) (unnamed (merged_problem x y s.next)) s.rows s.map (image_at (merge_numbers x y s.next))
       ((lower_clauses before s low).0 none) (merge-relaxed y x s.next));

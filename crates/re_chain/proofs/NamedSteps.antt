@@ -38,11 +38,12 @@ use Rattle.re_cert.specs.declared.certificate.Kind.{Kind}
 use Rattle.re_clauses.proofs.StepMeaning.{all_pass, lower_clauses, none_fails}
 use Rattle.re_clauses.specs.Clauses.{is_filled, meets, step_clauses, step_fault}
 use Rattle.re_clauses.specs.declared.clause.Clause.TheVariants.{U1, U2, U3, U4}
+use Rattle.re_check.proofs.Meaning.{kind-lower}
 use Rattle.re_chain.proofs.DroppedSteps.{entries-fit}
 use Rattle.re_chain.proofs.LastSteps.{Keeps}
 use Rattle.re_chain.proofs.NamedProblems.{IsNamed-built}
 use Rattle.re_chain.proofs.RelaxedSteps.{relaxed-step}
-use Rattle.re_chain.proofs.StepsAlong.{along-form, is-lower, is-upper, map-fits, parts-fit, step-parts}
+use Rattle.re_chain.proofs.StepsAlong.{along-form, is-upper, map-fits, parts-fit, step-parts}
 use Rattle.re_chain.specs.Chains.{entry_sent, sent_along, step_along}
 use Rattle.re_chain.specs.Naming.{by_label, is_taken, name_numbers, named_problem, named_step, names_with}
 
@@ -439,5 +440,5 @@ module _ (kind : Kind) (x : ℕ) (name : List ℕ) (before : NamedProblem) (s : 
     where
       go : (b l : Bool) → s.lower ≡ b → is_lower kind ≡ l → step_fits kind before s ≡ true → step_fault before s ≡ None → step_fault before (named_step x name s) ≡ None
       go true l e f fits = lower-sound e
-      go false true e f fits = let wrong : false ≡ true = sym e ∙ is-lower kind before s f fits in cc
+      go false true e f fits = let wrong : false ≡ true = sym e ∙ kind-lower kind before s f fits in cc
       go false false e f fits = upper-sound e (is-upper kind before s f fits).1

@@ -31,15 +31,6 @@ parts-fit kind before s parts =
     true-and (kind_fits kind s && leb (length s.rows) MAX_ROWS && list_all (row_fits before) s.rows) (map_fits before s.next s.map)
     (true-and (kind_fits kind s && leb (length s.rows) MAX_ROWS) (list_all (row_fits before) s.rows) (true-and (kind_fits kind s) (leb (length s.rows) MAX_ROWS) parts.kind_is parts.few) parts.rows) parts.map
 
--- the steps of lower bounds are lower, and those of upper ones upper, with maps by sets
-pub is-lower : (kind : Kind) (before : NamedProblem) (s : BoundStep) → is_lower kind ≡ true → step_fits kind before s ≡ true → s.lower ≡ true
-is-lower kind before s lower fits = go s.lower (is_lower kind) lower (step-parts kind before s fits).kind_is
-  where
-    go : (b l : Bool) → l ≡ true → (if b then l else (not l && not (is_by_row s.map))) ≡ true → b ≡ true
-    go true l e h = refl
-    go false true e h = cc
-    go false false e h = cc
-
 pub is-upper : (kind : Kind) (before : NamedProblem) (s : BoundStep) → is_lower kind ≡ false → step_fits kind before s ≡ true → (s.lower ≡ false) × (is_by_row s.map ≡ false)
 is-upper kind before s upper fits = go s.lower (is_lower kind) (is_by_row s.map) upper (step-parts kind before s fits).kind_is
   where

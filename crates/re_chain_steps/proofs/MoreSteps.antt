@@ -7,7 +7,6 @@ use Rattle.std.proofs.lemmas.List.{map-append}
 use Rattle.re_labels.proofs.Membership.{all-In, all-push, any-In_from}
 use Rattle.re_labels.proofs.Tests.{and-true, or-left, or-right, or-true, true-and}
 use Rattle.re_problem.specs.NamedProblems.{IsNamedProblem, NamedProblem, unnamed}
-use Rattle.re_problem.specs.ProblemTexts.{last_or}
 use Rattle.re_problem.specs.Problems.{IsProblem}
 use Rattle.re_step.proofs.StepLemmas.{IsNamedProblem-derived}
 use Rattle.re_step.specs.Derivations.{step_limit}
@@ -21,6 +20,7 @@ use Rattle.re_cert.specs.declared.certificate.Kind.TheVariants.{Fixed, Lower, Up
 use Rattle.re_cert.specs.declared.certificate.TheConstants.{MAX_STEPS}
 use Rattle.re_clauses.specs.Clauses.{step_fault}
 use Rattle.re_tree.proofs.Paths.{fits-more, step-good, valid-more}
+use Rattle.re_check.proofs.Meaning.{named-last}
 use Rattle.re_chain_steps.proofs.OwnEntries.{few-labels}
 use Rattle.re_chain_steps.proofs.RowForms.{step-fits, step-form, step-sound}
 use Rattle.re_chain_steps.specs.Laws.{StepLaw}
@@ -162,11 +162,6 @@ module _ (bound : Bound) (is : is_bound bound ≡ true) (problem : IsProblem (un
   stepped-sound sound = valid-more 1 bound.first bound.steps (next_step bound) sound (formed (has_row_maps bound.steps)).1
 
 -- ---- problems
-last-named : (first : NamedProblem) (problems : List NamedProblem) → IsNamedProblem first → AllByRecursion IsNamedProblem problems → IsNamedProblem (last_or first problems)
-last-named first [] is all = is
-last-named first (next ∷ []) is all = all.0
-last-named first (next ∷ other ∷ problems) is all = last-named first (other ∷ problems) is all.1
-
 next-derived : (b : Bool) (s : BoundStep) → (if b then step_by_rows s else s).next ≡ s.next
 next-derived true s = refl
 next-derived false s = refl
@@ -178,7 +173,7 @@ stepped-problems bound is limit = record {
 }
   where
     last : IsNamedProblem (last_problem bound)
-    last = last-named bound.first (next_problems bound.steps) is.first is.next
+    last = named-last bound.first (next_problems bound.steps) is.first is.next
 
     derived : IsNamedProblem (next_step bound).next
     derived = subst IsNamedProblem (sym (next-derived (has_row_maps bound.steps) (derived_step (is_lower bound.kind) (last_problem bound))))
@@ -187,12 +182,12 @@ stepped-problems bound is limit = record {
 pub bound_holds : (bound : Bound) → is_bound bound ≡ true → IsOverProblems bound → stepping_fault bound ≡ None → is_bound (stepped bound) ≡ true
 bound_holds bound is over none =
     let may = may-step bound none in
-    stepped-bound bound is (last-named bound.first (next_problems bound.steps) over.first over.next).problem may.0 may.1
+    stepped-bound bound is (named-last bound.first (next_problems bound.steps) over.first over.next).problem may.0 may.1
 
 pub step_holds : StepLaw
 step_holds bound is none =
     let may = may-step bound none in
-    let last = last-named bound.first (next_problems bound.steps) is.problems.first is.problems.next in
+    let last = named-last bound.first (next_problems bound.steps) is.problems.first is.problems.next in
     record {
       bound = bound_holds bound is.bound is.problems none;
       problems = stepped-problems bound is.problems may.1;

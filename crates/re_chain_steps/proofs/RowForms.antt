@@ -1,5 +1,5 @@
 -- A lower step by sets is one by rows, with the images of its rows by its entries.
-use Rattle.std.proofs.Common.{◌≡◌, ℕ, zero, suc, ◌<◌, Bool, true, false, not, eqb, leb, List, [], ◌∷◌, length, map, None, Option, Some, refl, sym, ap, ◌∙◌, subst, arith}
+use Rattle.std.proofs.Common.{◌≡◌, ℕ, zero, suc, ◌<◌, Bool, true, false, not, eqb, leb, List, [], ◌∷◌, length, map, None, refl, sym, ap, ◌∙◌, subst, arith}
 use Rattle.std.proofs.lemmas.List.{get_or-map}
 use Rattle.std.specs.Prelude.{Contains, ◌&&◌, if◌then◌else◌, nat_lt, slice_index_or, option_map, ◌==◌}
 use Rattle.std.specs.List.{AllByRecursion, AllZip, list_all}
@@ -27,6 +27,7 @@ use Rattle.re_cert.specs.declared.certificate.TheConstants.{MAX_STEPS}
 use Rattle.re_clauses.proofs.StepMeaning.{lower_clauses}
 use Rattle.re_clauses.specs.Clauses.{step_fault}
 use Rattle.re_check.specs.Verdicts.{fault_at, fault_or, steps_fault}
+use Rattle.re_tree.proofs.Paths.{neither}
 use Rattle.re_chain_steps.specs.Laws.{ByRowsLaw, RowFormLaw}
 use Rattle.re_chain_parts.specs.Chains.{IsSound}
 use Rattle.re_chain_steps.specs.RowForms.{HasSets, HasStepSets, by_rows, map_by_rows, row_form, step_by_rows}
@@ -182,33 +183,23 @@ step-form kind before s fits =
     form-of kind s.rows s.lower s.map (and-true (kind_fits kind s) (leb (length s.rows) MAX_ROWS) few).0
 
 -- ---- all steps
--- the first step and those behind it meet their clauses
-pub neither_fails : (number : ℕ) (before : NamedProblem) (s : BoundStep) (steps : List BoundStep) → steps_fault before number (s ∷ steps) ≡ None → (step_fault before s ≡ None) × (steps_fault s.next (suc number) steps ≡ None)
-neither_fails number before s steps none = go (step_fault before s) refl
-  where
-    go : (o : Option _) → step_fault before s ≡ o → (step_fault before s ≡ None) × (steps_fault s.next (suc number) steps ≡ None)
-    go None e = (e, ap (λ o. fault_or (option_map (fault_at number) o) (steps_fault s.next (suc number) steps)) (sym e) ∙ none)
-    go (Some clause) e =
-        let some : Some (fault_at number clause) ≡ None = ap (λ o. fault_or (option_map (fault_at number) o) (steps_fault s.next (suc number) steps)) (sym e) ∙ none in
-        absurd (cc)
-
 pub steps-fit : (kind : Kind) (number : ℕ) (before : NamedProblem) (steps : List BoundStep) → steps_fit kind before steps ≡ true → steps_fault before number steps ≡ None → steps_fit kind before (map step_by_rows steps) ≡ true
 steps-fit kind number before [] fit none = refl
 steps-fit kind number before (s ∷ steps) fit none =
     let two = and-true (step_fits kind before s) (steps_fit kind s.next steps) fit in
-    let sound = neither_fails number before s steps none in
+    let sound = neither number before s steps none in
     true-and (step_fits kind before (step_by_rows s)) (steps_fit kind s.next (map step_by_rows steps)) (step-fits kind before s two.0 sound.0) (steps-fit kind (suc number) s.next steps two.1 sound.1)
 
 pub steps-sound : (number : ℕ) (before : NamedProblem) (steps : List BoundStep) → steps_fault before number steps ≡ None → steps_fault before number (map step_by_rows steps) ≡ None
 steps-sound number before [] none = refl
 steps-sound number before (s ∷ steps) none =
-    let sound = neither_fails number before s steps none in
+    let sound = neither number before s steps none in
     ap (λ o. fault_or (option_map (fault_at number) o) (steps_fault s.next (suc number) (map step_by_rows steps))) (step-sound before s sound.0) ∙ steps-sound (suc number) s.next steps sound.1
 
 pub steps-sets : (number : ℕ) (before : NamedProblem) (steps : List BoundStep) → steps_fault before number steps ≡ None → AllByRecursion HasStepSets steps
 steps-sets number before [] none = tt
 steps-sets number before (s ∷ steps) none =
-    let sound = neither_fails number before s steps none in
+    let sound = neither number before s steps none in
     (step-sets before s sound.0, steps-sets (suc number) s.next steps sound.1)
 
 pub next-same : (steps : List BoundStep) → next_problems (map step_by_rows steps) ≡ next_problems steps

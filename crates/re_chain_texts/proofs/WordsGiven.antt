@@ -1,5 +1,5 @@
 -- What is read of a text for a word, and what words give.
-use Rattle.std.proofs.Common.{◌≡◌, ℕ, Bool, true, false, List, Option, Some, None, refl, sym, ap, ◌∙◌, subst}
+use Rattle.std.proofs.Common.{◌≡◌, ℕ, Bool, true, false, List, Option, Some, None, refl, sym, ap, ◌∙◌}
 use Rattle.std.specs.Prelude.{option_map}
 use Rattle.re_problem.specs.declared.fault.InputFault.{InputFault}
 use Rattle.re_problem.specs.declared.fault.InputFault.TheVariants as input
@@ -7,7 +7,6 @@ use Rattle.re_cert.specs.Bounds.{Bound}
 use Rattle.re_check.specs.declared.verdict.ClauseFault.{ClauseFault}
 use Rattle.re_check.specs.declared.verdict.Verdict.{Verdict}
 use Rattle.re_frame.proofs.Said.{check_says, fault_says, said}
-use Rattle.re_frame.specs.Check.{verdict_outcome}
 use Rattle.re_frame.specs.Outcomes.{Outcome, outcome_of, status_of}
 use Rattle.re_frame.specs.Runs.{MaySay}
 use Rattle.re_frame.specs.TextFaults.{fault_outcome, fault_status}
@@ -15,9 +14,8 @@ use Rattle.re_frame.specs.declared.output.Output.{Output}
 use Rattle.re_frame.specs.declared.status.Answer.TheVariants as answer
 use Rattle.re_frame.specs.declared.status.Status.{Status}
 use Rattle.re_frame.specs.declared.status.Status.TheVariants as status
-use Rattle.re_chain_parts.specs.Chains.{IsSoundChain}
 use Rattle.re_chain_texts.specs.ChainTexts.{chain_fault, text_chain}
-use Rattle.re_chain_texts.specs.OverChains.{IsAnswered, IsJudged, IsSoundText, ReadsSound, certificate_outcome, or_fault, or_refusal, over_any, over_sound, refusal_of, steps_refusal}
+use Rattle.re_chain_texts.specs.OverChains.{IsAnswered, IsJudged, ReadsSound, or_fault, or_refusal, over_any, over_sound, refusal_of, steps_refusal}
 use Rattle.re_chain_texts.specs.declared.over_chains.ChainRead.{ChainRead}
 use Rattle.re_chain_texts.specs.declared.over_chains.ChainRead.TheVariants.{Answered, Chain}
 
@@ -44,10 +42,6 @@ fault_not_done input.EarlyEnd e = cc
 pub not_done : (output : Output) (outcome : Outcome) → outcome_of output ≡ outcome → (outcome.status ≡ status.Done → ⊥) → output.answer ≡ answer.Done → ⊥
 not_done output outcome is other done = other (sym (ap (λ (o : Outcome). o.status) is) ∙ ap status_of done)
 
-refusal_is_no : (fault : Option ClauseFault) (verdict : Verdict) → option_map refusal_of fault ≡ Some verdict → (verdict_outcome verdict).status ≡ status.No
-refusal_is_no None verdict e = absurd (cc)
-refusal_is_no (Some fault) verdict e = let same : refusal_of fault ≡ verdict = cc in subst (λ v. (verdict_outcome v).status ≡ status.No) same refl
-
 -- ---- the reading of a text
 any_fault : (bytes : List ℕ) (fault : InputFault) → chain_fault bytes ≡ Some fault → (word : Bound → Outcome) → fault_outcome fault ≡ over_any word bytes
 unfolding over_any
@@ -65,15 +59,6 @@ answered_fault bytes fault output is line = record {
 }
 
 -- ---- the judging of a chain
-pub answered_refusal : (given : Bound) (verdict : Verdict) (output : Output) → steps_refusal given ≡ Some verdict → outcome_of output ≡ verdict_outcome verdict
-    → IsAnswered (λ word. or_refusal (steps_refusal given) (word given)) true output
-answered_refusal given verdict output is line =
-    let no = refusal_is_no _ verdict is in record {
-      outcome = λ word. line ∙ ap (λ refusal. or_refusal refusal (word given)) (sym is);
-      not_done = not_done output (verdict_outcome verdict) line (λ done. let wrong : status.No ≡ status.Done = sym no ∙ done in cc);
-      says = said output (verdict_outcome verdict) true line (check_says verdict);
-    }
-
 pub none_fails : (fault : Option ClauseFault) → option_map refusal_of fault ≡ None → fault ≡ None
 none_fails None e = refl
 none_fails (Some fault) e = absurd (cc)
@@ -128,5 +113,3 @@ over_sound_says word bytes says =
     over_any_says (λ chain. or_refusal (steps_refusal chain) (word chain)) bytes true (λ chain. or_refusal_says (steps_refusal chain) (word chain) (says chain))
 
 -- ---- the text of a sound chain
-pub sound_text : (output : Output) (chain : Bound) → outcome_of output ≡ certificate_outcome chain → IsSoundChain chain → IsSoundText output.text.items
-sound_text output chain is sound = (chain, ap (λ (o : Outcome). o.text) is, sound)

@@ -77,7 +77,7 @@ allowed_images-test before passive entries r tells =
     (λ t. tells.1 (all_there _ _ passive.configs (λ config. is_allowed-IsAllowed before (map (set_for entries) config)) t))
 
 -- ---- images by rows
-held_low : (constraint : Constraint) (labels : List ℕ) (x : ℕ) → IsConstraint MAX_LABELS constraint → Has constraint labels → Contains labels x → x < MAX_LABELS
+pub held_low : (constraint : Constraint) (labels : List ℕ) (x : ℕ) → IsConstraint MAX_LABELS constraint → Has constraint labels → Contains labels x → x < MAX_LABELS
 held_low constraint labels x is has at =
     let config : IsConfig constraint.degree MAX_LABELS (sorted labels) = AllByRecursion-contains (IsConfig constraint.degree MAX_LABELS) constraint.configs (sorted labels) is.configs has in
     AllByRecursion-contains (λ y. y < MAX_LABELS) (sorted labels) x config.below (Contains-Rearranged x (Rearranged-sorted labels) at)
@@ -94,7 +94,7 @@ images-below active images r is tells t =
     AllByRecursion-from_contains (λ x. x < MAX_LABELS) image (λ x at. held_low active image x is (tells.0 t image held) at))
 
 -- each set of the maximal rows is among those that occur
-occurs-listed : (before : NamedProblem) (rows : List (List (List ℕ))) → rows ≡ max_rows before.passive (length before.names) → (set : List ℕ) → OccursInRows rows set → Contains (sets_in (length before.names) rows) set
+pub occurs-listed : (before : NamedProblem) (rows : List (List (List ℕ))) → rows ≡ max_rows before.passive (length before.names) → (set : List ℕ) → OccursInRows rows set → Contains (sets_in (length before.names) rows) set
 occurs-listed before rows maximal set (row, held, at) =
     let n = length before.names in
     subst (λ (m : List (List (List ℕ))). Contains (sets_in n m) set) (sym maximal)
@@ -110,11 +110,11 @@ by_row-test before passive given rows images r maximal same tells =
     same_tests r (keep_allowed_by_row n before.active passive rows images) (λ t. law.1 (told.0 t)) (λ t. told.1 (law.0 t))
 
 -- ---- labels of an upper step
-filled_sets : (before : NamedProblem) (entries : List SetEntry) → list_all (λ (entry : SetEntry). is_filled before entry.set) entries ≡ list_all (is_filled before) (entry_sets entries)
+pub filled_sets : (before : NamedProblem) (entries : List SetEntry) → list_all (λ (entry : SetEntry). is_filled before entry.set) entries ≡ list_all (is_filled before) (entry_sets entries)
 filled_sets before [] = refl
 filled_sets before (entry ∷ entries) = ap (λ b. is_filled before entry.set && b) (filled_sets before entries)
 
-filled-nonempty : (before : NamedProblem) (entries : List SetEntry) → list_all (is_filled before) (entry_sets entries) ≡ true → AllByRecursion (λ s. 0 < length s) (entry_sets entries)
+pub filled-nonempty : (before : NamedProblem) (entries : List SetEntry) → list_all (is_filled before) (entry_sets entries) ≡ true → AllByRecursion (λ s. 0 < length s) (entry_sets entries)
 filled-nonempty before [] all = tt
 filled-nonempty before (entry ∷ entries) all =
     let both = and-true (is_filled before entry.set) (list_all (is_filled before) (entry_sets entries)) all in

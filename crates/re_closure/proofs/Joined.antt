@@ -38,7 +38,7 @@ use Rattle.re_cert.specs.declared.certificate.Kind.TheVariants.{Fixed, Lower}
 use Rattle.re_cert.specs.declared.certificate.TheConstants.{MAX_STEPS}
 use Rattle.re_clauses.proofs.StepMeaning.{lower_clauses}
 use Rattle.re_clauses.specs.Clauses.{step_fault}
-use Rattle.re_check.proofs.Meaning.{verdict_means}
+use Rattle.re_check.proofs.Meaning.{verdict_means, named-last}
 use Rattle.re_check.specs.Verdicts.{Means, end_fault, fault_at, fault_or, goes_back, is_yes, meets_back, meets_end, steps_fault, verdict_of, verdict_with}
 use Rattle.re_check.specs.declared.verdict.Verdict.{Verdict}
 use Rattle.re_check.specs.declared.verdict.Verdict.TheVariants.{Accepted}
@@ -179,11 +179,6 @@ all_append : (P : NamedProblem → Type 0) (xs ys : List NamedProblem) → AllBy
 all_append P [] ys h k = k
 all_append P (x ∷ xs) ys h k = (h.0, all_append P xs ys h.1 k)
 
-last_named : (first : NamedProblem) (problems : List NamedProblem) → IsNamedProblem first → AllByRecursion IsNamedProblem problems → IsNamedProblem (last_or first problems)
-last_named first [] is all = is
-last_named first (next ∷ []) is all = all.0
-last_named first (next ∷ other ∷ problems) is all = last_named first (other ∷ problems) is all.1
-
 pairs_fit : (problem : NamedProblem) (n : ℕ) → length problem.names ≡ n → list_all (pair_fits problem problem) (map (λ label. (label, label)) (count_from 0 n)) ≡ true
 pairs_fit problem n count = all-In_from (pair_fits problem problem) (map (λ label. (label, label)) (count_from 0 n)) (λ pair i.
     let (x, held, e) = Contains-map_cases (λ label. (label, label)) (count_from 0 n) pair (In-Contains pair (map (λ label. (label, label)) (count_from 0 n)) i) in
@@ -210,7 +205,7 @@ module _ (chain : Bound) (is : is_bound chain ≡ true) (sound : IsSoundChain ch
   r = has_row_maps chain.steps
 
   problem : IsNamedProblem (last_problem chain)
-  problem = last_named chain.first (next_problems chain.steps) over.first over.next
+  problem = named-last chain.first (next_problems chain.steps) over.first over.next
 
   fam : IsFamily active × IsFamily passive × AreAround (unnamed (last_problem chain)) active passive
   fam = closure_families_law (unnamed P) active passive problem.problem small.closure
@@ -401,7 +396,7 @@ map_sets K n label m is =
     subst (λ rows. HasRowSets rows m.entries.items) (sym is.rows) ((row_sets_law K n m.entries.items).1 (ap entry_sets is.entries ∙ sets_by label (max_sets K n)))
 
 pub last_is : (chain : Bound) → IsOverProblems chain → IsNamedProblem (last_problem chain)
-last_is chain over = last_named chain.first (next_problems chain.steps) over.first over.next
+last_is chain over = named-last chain.first (next_problems chain.steps) over.first over.next
 
 module _ (chain : Bound) (over : IsOverProblems chain) (closure : Closure) (of : IsClosureOf (unnamed (last_problem chain)) closure) where
   -- the last problem has few maximal rows

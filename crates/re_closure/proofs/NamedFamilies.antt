@@ -5,27 +5,28 @@ use Rattle.std.specs.List.{AllByRecursion}
 use Rattle.re_config.proofs.ChoicesOfRows.{IsUnder-refl}
 use Rattle.re_config.proofs.Rearranging.{Contains-Rearranged, Rearranged-refl}
 use Rattle.re_config.proofs.Sorting.{Rearranged-sorted}
-use Rattle.re_config.specs.Configs.{IsConfig, sorted}
+use Rattle.re_config.specs.Configs.{sorted}
 use Rattle.re_config.specs.Rows.{IsUnder, placed, set_at}
-use Rattle.re_labels.proofs.Membership.{AllByRecursion-contains, AllByRecursion-weaker, Contains-here, Contains-later, Contains-map, length-map'}
+use Rattle.re_labels.proofs.Membership.{AllByRecursion-contains, Contains-here, Contains-later, Contains-map, length-map'}
 use Rattle.re_labels.proofs.Places.{get-place_of, map-get-place_of, place_of-below}
 use Rattle.re_labels.specs.Lists.{place_of}
 use Rattle.re_labels.specs.Sets.{IsIn, IsLabelSet, IsWithin}
 use Rattle.re_labels.specs.declared.TheConstants.{MAX_LABELS}
-use Rattle.re_table.specs.Constraints.{Constraint, IsConstraint}
+use Rattle.re_table.specs.Constraints.{Constraint}
 use Rattle.re_table.specs.GoodRows.{IsDominated}
 use Rattle.re_problem.proofs.Building.{build_law}
 use Rattle.re_problem.specs.NamedProblems.{IsNamedProblem, NamedProblem, OccursIn, built, unnamed}
 use Rattle.re_problem.specs.Problems.{IsProblem, Problem}
 use Rattle.re_step.proofs.NameLemmas.{IsNames-label_names, length-label_names}
 use Rattle.re_lines.proofs.Below.{Has-below}
-use Rattle.re_lines.proofs.Entries.{other_default}
+use Rattle.re_labels.proofs.Searching.{same_read}
 use Rattle.re_lines.proofs.FirstSteps.{IsIn-others, IsIn-others_cases, first_step_law, opposite_to, others-more}
 use Rattle.re_lines.proofs.Generated.{IsLabelSet-others, active_first, closure_families_law, fit, same_set}
 use Rattle.re_lines.proofs.Returning.{other_way}
 use Rattle.re_lines.proofs.Steps.{Has-topmost, step_law}
 use Rattle.re_lines.specs.Closures.{AreClosure, down_lines}
 use Rattle.re_lines.specs.Lines.{AreAround, AreOpposed, Family, IsFamily, below, others, problem_of, topmost}
+use Rattle.re_step.proofs.StepLemmas.{wider}
 use Rattle.re_closure.specs.Sides.{named_of}
 
 -- ---- without the names
@@ -88,7 +89,7 @@ module _ (problem : Problem) (active passive : Family) (is : IsProblem problem) 
   InActive x = (line : List (List ℕ)) × Contains active.lines line × Contains line (set_at active.sets x)
 
   either : (x : ℕ) → x < length passive.sets → InPassive x ⊎ InActive x
-  either x low = elim ((closure.sets (set_at passive.sets x)).0 (x, low, other_default passive.sets x (set_at passive.sets x) [] low)) [
+  either x low = elim ((closure.sets (set_at passive.sets x)).0 (x, low, same_read passive.sets x (set_at passive.sets x) [] low)) [
     | inl occurs ↦ inl occurs
     | inr (other, (line, held, there), e) ↦
         let fits = AllByRecursion-contains (IsLabelSet problem.labels) line other (fit problem.labels active.degree (down_lines problem)
@@ -126,18 +127,6 @@ module _ (problem : Problem) (active passive : Family) (is : IsProblem problem) 
   }
 
 -- ---- it is built
-wider : (n : ℕ) (constraint : Constraint) → n ≤ MAX_LABELS → IsConstraint n constraint → IsConstraint MAX_LABELS constraint
-wider n constraint few is = record {
-  least = is.least;
-  most = is.most;
-  configs = AllByRecursion-weaker (IsConfig constraint.degree n) (IsConfig constraint.degree MAX_LABELS) (λ config c. record {
-    count = c.count;
-    below = AllByRecursion-weaker (λ x. x < n) (λ x. x < MAX_LABELS) (λ x l. omega (arith, l, few)) config c.below;
-    ascends = c.ascends;
-  }) constraint.configs is.configs;
-  ascends = is.ascends;
-}
-
 pub surely_built : (names : List (List ℕ)) (active passive : Constraint) → IsNamedProblem (record { names = names; active = active; passive = passive })
     → built names active passive ≡ Some (record { names = names; active = active; passive = passive })
 surely_built names active passive is =

@@ -10,11 +10,11 @@ use Rattle.re_config.proofs.Placing.{Dominates-dominates, Dominates-refl, domina
 use Rattle.re_config.proofs.Sorting.{sorted_again}
 use Rattle.re_config.specs.Configs.{IsConfig, sorted}
 use Rattle.re_config.specs.Rows.{Dominates, IsChoice, dominates, singles}
-use Rattle.re_labels.proofs.Membership.{AllByRecursion-contains, any_found, any_true, Contains-In, Contains-cases, Contains-here, Contains-none, In-Contains, In-append_cases, In-append_left, In-append_right}
+use Rattle.re_labels.proofs.Membership.{AllByRecursion-contains, any_found, any_true, Contains-In, Contains-cases, Contains-here, Contains-none, In-Contains, In-append_left}
 use Rattle.re_table.proofs.ClosureLaw.{closure_law}
 use Rattle.re_table.specs.Constraints.{Constraint, IsConstraint}
 use Rattle.re_table.specs.GoodRows.{IsDominated, IsGood, is_dominated, max_rows}
-use Rattle.re_universal.proofs.Keeping.{up_to}
+use Rattle.re_universal.proofs.Keeping.{up_to, contains_last, contains_either}
 use Rattle.re_describe.specs.Spelling.{Spells, TakesIn}
 
 abbrev Rows : Type 0
@@ -55,25 +55,13 @@ alone_good constraint n config is held = record {
 }
 
 -- ---- one row more
-contains_last : (rows : Rows) (row : List (List ℕ)) → Contains (rows ++ row ∷ []) row
-contains_last rows row = In-Contains row (rows ++ row ∷ []) (In-append_right row rows (row ∷ []) (Contains-In row (row ∷ []) (Contains-here row [])))
-
 contains_before : (rows : Rows) (row z : List (List ℕ)) → Contains rows z → Contains (rows ++ row ∷ []) z
 contains_before rows row z held = In-Contains z (rows ++ row ∷ []) (In-append_left z rows (row ∷ []) (Contains-In z rows held))
-
-contains_either : (rows : Rows) (row z : List (List ℕ)) → Contains (rows ++ row ∷ []) z → Contains rows z ⊎ (z ≡ row)
-contains_either rows row z h = elim (In-append_cases z rows (row ∷ []) (Contains-In z (rows ++ row ∷ []) h)) [
-  | inl i ↦ inl (In-Contains z rows i)
-  | inr j ↦ elim (Contains-cases z row [] (In-Contains z (row ∷ []) j)) [ inl e ↦ inr e | inr k ↦ absurd (Contains-none z k) ]
-]
 
 -- ---- the rows so far: good ones, that have the first configurations
 pub record SpellsFirst (constraint : Constraint) (count : ℕ) (rows : Rows) : Type 0 where
   pub good : (row : List (List ℕ)) → Contains rows row → IsGood constraint row
   pub first : (k : ℕ) → k < count → IsDominated rows (singles (get_or constraint.configs k []))
-
-pub none_first : (constraint : Constraint) (rows : Rows) → rows ≡ [] → SpellsFirst constraint 0 rows
-none_first constraint rows none = record { good = λ row held. absurd (Contains-none row (subst (λ r. Contains r row) none held)); first = λ k low. absurd (omega arith) }
 
 pub one_kept : (constraint : Constraint) (place : ℕ) (rows : Rows) → SpellsFirst constraint place rows → IsDominated rows (singles (get_or constraint.configs place [])) → SpellsFirst constraint (place + 1) rows
 one_kept constraint place rows before here = record {

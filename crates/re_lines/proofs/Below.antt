@@ -10,7 +10,7 @@ use Rattle.re_config.proofs.Rows.{AreSets, as_row}
 use Rattle.re_config.proofs.Sorting.{AllByRecursion-Rearranged, IsConfig-sorted, Rearranged-sorted}
 use Rattle.re_config.specs.Configs.{IsConfig, sorted}
 use Rattle.re_config.specs.Orders.{multisets, placements}
-use Rattle.re_config.specs.Rearranging.{Rearranged, chained, kept, swapped, unmoved}
+use Rattle.re_config.specs.Rearranging.{Rearranged, chained}
 use Rattle.re_config.specs.Rows.{IsChoice, IsUnder, combined, placed, set_at, singles}
 use Rattle.re_labels.proofs.Membership.{Contains-In, Contains-filter, Contains-filter_cases, Contains-here, Contains-later, Contains-none, In-Contains, length-map'}
 use Rattle.re_labels.proofs.Places.{get-place_of, place_of-below}
@@ -22,25 +22,9 @@ use Rattle.re_table.proofs.MaxRows.{max_rows-IsMaximal}
 use Rattle.re_table.specs.Constraints.{Constraint, Has}
 use Rattle.re_table.specs.GoodRows.{IsDominated, IsGood, IsMaximal, is_dominated, max_rows}
 use Rattle.re_boxes.proofs.Spread.{IsIn-filled}
+use Rattle.re_table.proofs.ClosureLaw.{IsFull-sets}
 use Rattle.re_lines.proofs.Unders.{IsIn-labels_within, IsLabelSet-labels_within, choice_under, dominated_moved, map_moved, shape-map, singles_under, under-labels_within, under_combined}
 use Rattle.re_lines.specs.Lines.{Family, IsFamily, below, labels_within}
-
-pub HasLabel-filled : (n : ℕ) (r : List (List ℕ)) → AreSets n r → IsFull r
-HasLabel-filled n [] h = tt
-HasLabel-filled n ([] ∷ r) h = absurd (omega (arith, h.0.1))
-HasLabel-filled n ((x ∷ s) ∷ r) h = ((x, Contains-here x s), HasLabel-filled n r h.1)
-
-pub IsFull-under : (r t : List (List ℕ)) → IsUnder r t → IsFull r → IsFull t
-IsFull-under [] [] h k = k
-IsFull-under [] (w ∷ t) h k = absurd h
-IsFull-under (s ∷ r) [] h k = absurd h
-IsFull-under (s ∷ r) (w ∷ t) h k = ((k.0.0, h.0 _ k.0.1), IsFull-under r t h.1 k.1)
-
-pub IsFull-Rearranged : {r t : List (List ℕ)} → Rearranged r t → IsFull r → IsFull t
-IsFull-Rearranged unmoved h = h
-IsFull-Rearranged (kept p) h = (h.0, IsFull-Rearranged p h.1)
-IsFull-Rearranged swapped h = (h.1.0, (h.0, h.1.1))
-IsFull-Rearranged (chained p q) h = IsFull-Rearranged q (IsFull-Rearranged p h)
 
 pub placed-Rearranged_labels : (sets : List (List ℕ)) {c d : List ℕ} → Rearranged c d → Rearranged (placed sets c) (placed sets d)
 placed-Rearranged_labels sets p = Rearranged-map (set_at sets) p
@@ -140,7 +124,7 @@ module _ (family : Family) (is : IsFamily family) where
   pub of_maximal : (r : List (List ℕ)) → Contains (max_rows (below family) (length family.sets)) r → (line : List (List ℕ)) × Contains family.lines line × Rearranged (map (labels_within family.sets) line) r
   of_maximal r held =
       let m = max_rows-IsMaximal (below family) n r (Contains-In r (max_rows (below family) n) held) in
-      go m (covered r m.good (HasLabel-filled n r m.is_row.sets))
+      go m (covered r m.good (IsFull-sets n r m.is_row.sets))
     where
       go : IsMaximal (below family) n r → IsReached (Has (below family)) IsOfLine r → (line : List (List ℕ)) × Contains family.lines line × Rearranged (map (labels_within family.sets) line) r
       go m (q, (line, there, e), t, p, u) =

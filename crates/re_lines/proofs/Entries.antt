@@ -1,5 +1,5 @@
 -- Entries that give each set its label by a function.
-use Rattle.std.proofs.Common.{◌≡◌, ℕ, zero, suc, ◌<◌, List, [], ◌∷◌, length, map, get_or, refl, sym, ap, ◌∙◌, inl, inr, arith}
+use Rattle.std.proofs.Common.{◌≡◌, ℕ, zero, suc, ◌<◌, List, [], ◌∷◌, length, map, refl, sym, ap, ◌∙◌, inl, inr, arith}
 use Rattle.std.specs.Prelude.{Contains}
 use Rattle.std.specs.List.{AllByRecursion}
 use Rattle.re_config.specs.Rows.{placed, set_at}
@@ -7,6 +7,7 @@ use Rattle.re_labels.proofs.Membership.{Contains-cases, Contains-here, Contains-
 use Rattle.re_labels.proofs.Places.{get-place_of, place_of-below}
 use Rattle.re_labels.specs.Lists.{place_of}
 use Rattle.re_problem.specs.Steps.{SetEntry, entry_sets, label_at, label_of}
+use Rattle.re_labels.proofs.Searching.{same_read}
 
 abbrev pub entries_by : (List ℕ → ℕ) → List (List ℕ) → List SetEntry
 entries_by f sets = map (λ set. record { set = set; label = f set }) sets
@@ -34,15 +35,10 @@ pub labels_at_by : (f : List ℕ → ℕ) (sets : List (List ℕ)) (places : Lis
 labels_at_by f sets [] h = refl
 labels_at_by f sets (k ∷ places) h = (λ i. label_at_by f sets k h.0 i ∷ labels_at_by f sets places h.1 i)
 
-pub other_default : (sets : List (List ℕ)) (k : ℕ) (d e : List ℕ) → k < length sets → get_or sets k d ≡ get_or sets k e
-other_default [] k d e l = absurd (omega arith)
-other_default (s ∷ sets) zero d e l = refl
-other_default (s ∷ sets) (suc k) d e l = other_default sets k d e (omega arith)
-
 -- what stands at places stands in the list
 pub placed_in : (sets : List (List ℕ)) (places : List ℕ) → AllByRecursion (λ k. k < length sets) places → (set : List ℕ) → Contains (placed sets places) set → Contains sets set
 placed_in sets [] h set i = absurd (Contains-none set i)
 placed_in sets (k ∷ places) h set i = elim (Contains-cases set (set_at sets k) (placed sets places) i) [
-  | inl e ↦ (k, h.0, sym (e ∙ other_default sets k [] set h.0))
+  | inl e ↦ (k, h.0, sym (e ∙ same_read sets k [] set h.0))
   | inr j ↦ placed_in sets places h.1 set j
 ]

@@ -17,7 +17,7 @@ use Rattle.re_labels.proofs.Places.{get-place_of, place_of-below}
 use Rattle.re_labels.proofs.Sets.{IsIn-has, has-IsIn}
 use Rattle.re_labels.specs.Lists.{count_from, place_of}
 use Rattle.re_labels.specs.Sets.{IsIn, IsWithin, has}
-use Rattle.re_table.proofs.Closure.{IsFull, IsReached, Shape, closure}
+use Rattle.re_table.proofs.Closure.{IsFull, IsReached, Shape, closure, IsFull-under, IsFull-perm}
 use Rattle.re_table.proofs.MaxRows.{max_rows-IsMaximal}
 use Rattle.re_table.proofs.MaxSets.{allowed_law, max_sets-from, max_sets-row}
 use Rattle.re_table.specs.Constraints.{Constraint, Has}
@@ -25,8 +25,10 @@ use Rattle.re_table.specs.GoodRows.{IsAllowed, IsDominated, IsGood, IsMaximal, a
 use Rattle.re_boxes.proofs.Spread.{IsIn-filled}
 use Rattle.re_problem.specs.Problems.{IsProblem, Problem}
 use Rattle.re_problem.specs.Steps.{IsLowerStepBySet, label_at, label_of}
-use Rattle.re_lines.proofs.Below.{Has-below, HasLabel-filled, IsFull-Rearranged, IsFull-under, maximal_is}
-use Rattle.re_lines.proofs.Entries.{labels_at_by, labels_of_by, other_default, placed_in, sets_by}
+use Rattle.re_table.proofs.ClosureLaw.{IsFull-sets}
+use Rattle.re_labels.proofs.Searching.{same_read}
+use Rattle.re_lines.proofs.Below.{Has-below, maximal_is}
+use Rattle.re_lines.proofs.Entries.{labels_at_by, labels_of_by, placed_in, sets_by}
 use Rattle.re_lines.proofs.Steps.{Has-topmost}
 use Rattle.re_lines.proofs.Unders.{dominated_moved, dominated_under, one_in}
 use Rattle.re_lines.proofs.UpSets.{max_set_up, own_up}
@@ -74,7 +76,7 @@ module _ (problem : Problem) (active passive : Family) (is : IsProblem problem) 
   opposite_at = opposite_to problem.labels active.sets passive.sets around.opposite
 
   labels_low : (k : ℕ) → k < length passive.sets → (x : ℕ) → IsIn x (set_at passive.sets k) → x < problem.labels
-  labels_low k low x i = AllByRecursion-contains (λ x. x < problem.labels) (set_at passive.sets k) x (around.sets (set_at passive.sets k) (k, low, other_default passive.sets k (set_at passive.sets k) [] low)).1 i
+  labels_low k low x i = AllByRecursion-contains (λ x. x < problem.labels) (set_at passive.sets k) x (around.sets (set_at passive.sets k) (k, low, same_read passive.sets k (set_at passive.sets k) [] low)).1 i
 
   pub opposed : AreOpposed active passive
   opposed = record {
@@ -131,12 +133,12 @@ module _ (problem : Problem) (active passive : Family) (is : IsProblem problem) 
   pub of_maximal : (r : List (List ℕ)) → Contains (max_rows problem.passive problem.labels) r → (line : List (List ℕ)) × Contains passive.lines line × Rearranged line r
   of_maximal r held =
       let m = max_rows-IsMaximal problem.passive problem.labels r (Contains-In r (max_rows problem.passive problem.labels) held) in
-      let full = HasLabel-filled problem.labels r m.is_row.sets in
+      let full = IsFull-sets problem.labels r m.is_row.sets in
       go m full (covered r m.good full)
     where
       go : IsMaximal problem.passive problem.labels r → IsFull r → IsReached (Has problem.passive) IsLine r → (line : List (List ℕ)) × Contains passive.lines line × Rearranged line r
       go m full (line, there, t, q, u) =
-          let filled : IsFull line = IsFull-Rearranged (Rearranged-sym q) (IsFull-under r t u full) in
+          let filled : IsFull line = IsFull-perm (Rearranged-sym q) (IsFull-under r t u full) in
           let good : IsGood problem.passive line = record {
             count = p.count line there ∙ around.passive_degree;
             filled = line_filled line filled;

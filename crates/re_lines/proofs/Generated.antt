@@ -22,7 +22,7 @@ use Rattle.re_table.specs.GoodRows.{IsDominated}
 use Rattle.re_table.specs.Strength.{is_at_least_as_strong}
 use Rattle.re_boxes.proofs.Strength.{strength_law}
 use Rattle.re_problem.specs.Problems.{IsProblem, Problem}
-use Rattle.re_lines.proofs.Entries.{other_default}
+use Rattle.re_labels.proofs.Searching.{same_read}
 use Rattle.re_lines.proofs.FirstSteps.{IsIn-others, IsIn-others_cases, opposite_to, others-more}
 use Rattle.re_lines.proofs.UpSets.{exact, to_ups, ups}
 use Rattle.re_lines.specs.Closures.{AreClosure, AreTopmost, IsGenerated, down_lines, up_lines}
@@ -162,7 +162,7 @@ module _ (problem : Problem) (active passive : Family) (is : IsProblem problem) 
   ]
 
   label_set_at : (x : ℕ) → x < length passive.sets → IsLabelSet problem.labels (set_at passive.sets x)
-  label_set_at x low = label_sets (set_at passive.sets x) (x, low, other_default passive.sets x (set_at passive.sets x) [] low)
+  label_set_at x low = label_sets (set_at passive.sets x) (x, low, same_read passive.sets x (set_at passive.sets x) [] low)
 
   -- choices from the up-sets of a configuration
   up_choice : (config c : List ℕ) → AllByRecursion (λ x. x < problem.labels) config → IsChoice c (map (up problem) config) → AllZip (λ x y. IsIn y (ups problem.passive problem.labels is.passive x)) config c

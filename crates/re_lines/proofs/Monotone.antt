@@ -9,8 +9,9 @@ use Rattle.re_config.specs.Rows.{IsUnder, combined, meets, placed}
 use Rattle.re_labels.proofs.Membership.{Contains-In, In-Contains}
 use Rattle.re_labels.proofs.Sets.{IsIn-meet, IsIn-meet_cases, IsIn-union, IsIn-union_cases}
 use Rattle.re_labels.specs.Sets.{IsWithin, meet, union}
-use Rattle.re_table.proofs.Closure.{Shape, combined_along}
+use Rattle.re_table.proofs.Closure.{combined_along}
 use Rattle.re_table.specs.GoodRows.{IsDominated}
+use Rattle.re_boxes.proofs.BoxLaw.{same_shape}
 use Rattle.re_lines.proofs.Unders.{dominated_moved, dominated_under}
 use Rattle.re_lines.specs.Closures.{IsGenerated}
 use Rattle.re_lines.specs.Closures.IsGenerated.{combine, move, start}
@@ -40,12 +41,6 @@ combined_more i (s ∷ r) (w ∷ u) (v ∷ q) [] h k e = absurd k
 combined_more zero (s ∷ r) (w ∷ u) (v ∷ q) (y ∷ t) h k e = (union_more s w v y h.0 k.0, meets_more r u q t h.1 k.1 (omega arith))
 combined_more (suc i) (s ∷ r) (w ∷ u) (v ∷ q) (y ∷ t) h k e = (meet_more s w v y h.0 k.0, combined_more i r u q t h.1 k.1 (omega arith))
 
-shape_of : (r u : List (List ℕ)) → length r ≡ length u → Shape r u
-shape_of [] [] e = tt
-shape_of [] (t ∷ u) e = absurd (omega arith)
-shape_of (s ∷ r) [] e = absurd (omega arith)
-shape_of (s ∷ r) (t ∷ u) e = (tt, shape_of r u (omega arith))
-
 module _ (d : ℕ) (starts lines : List (List (List ℕ))) (count : (line : List (List ℕ)) → Contains lines line → length line ≡ d) (closed : AreClosed d lines)
     (first : (line : List (List ℕ)) → Contains starts line → IsDominated lines line) where
   -- a combination of lines in any orders
@@ -55,7 +50,7 @@ module _ (d : ℕ) (starts lines : List (List (List ℕ))) (count : (line : List
       let eu : length other ≡ length u = length-Rearranged q in
       let el = count line held in
       let eo = count other there in
-      let m = combined_along (Rearranged-sym p) i (omega arith) u (shape_of r u (omega arith)) in
+      let m = combined_along (Rearranged-sym p) i (omega arith) u (same_shape r u (omega arith)) in
       let o = placed-Rearranged other m.0 (chained q m.2) in
       let listed : Contains (placements d) o.0 = subst (λ k. Contains (placements k) o.0) eo (In-Contains o.0 (placements (length other)) o.1) in
       let j_low : m.1 < d = subst (λ k. m.1 < k) el m.5 in

@@ -1,10 +1,5 @@
 -- The steps from a problem to that of two families, from there to that of the two the other way round, and back.
 use Rattle.std.proofs.Common.{◌≡◌, ℕ, ◌<◌, List, [], ◌∷◌, length, map, refl, sym, ap, subst}
-use Rattle.std.specs.Prelude.{Contains}
-use Rattle.re_config.proofs.Sorting.{sorted_again}
-use Rattle.re_config.specs.Configs.{IsConfig}
-use Rattle.re_labels.proofs.Membership.{AllByRecursion-contains}
-use Rattle.re_table.specs.Constraints.{Constraint, Has, IsConstraint}
 use Rattle.re_table.specs.GoodRows.{max_rows}
 use Rattle.re_problem.proofs.StepLaws.{IsMapped-lower, IsRelaxed-itself}
 use Rattle.re_problem.specs.Problems.{IsProblem, Problem}
@@ -29,11 +24,6 @@ other_way family other opposed = record {
 map-same : (xs : List ℕ) → map (λ x. x) xs ≡ xs
 map-same [] = refl
 map-same (x ∷ xs) = ap (λ l. x ∷ l) (map-same xs)
-
-Has-same : (n : ℕ) (K : Constraint) → IsConstraint n K → (config : List ℕ) → Contains K.configs config → Has K (map (λ x. x) config)
-Has-same n K is config held =
-    let c = AllByRecursion-contains (IsConfig K.degree n) K.configs config is.configs held in
-    subst (Has K) (sym (map-same config)) (subst (Contains K.configs) (sym (sorted_again config c.ascends)) held)
 
 pub fixed_law : FixedLaw
 fixed_law problem active passive T is a p around not_zero solvable =

@@ -2,7 +2,7 @@
 use Rattle.std.proofs.Common.{◌≡◌, ℕ, zero, suc, ◌<◌, List, [], ◌∷◌, length, map, refl, sym, ap, subst, inl, inr, arith}
 use Rattle.std.specs.List.{AllByRecursion, AllZip}
 use Rattle.re_config.proofs.ChoicesOfRows.{IsUnder-refl}
-use Rattle.re_config.proofs.Placing.{Dominates-trans}
+use Rattle.re_config.proofs.Placing.{Dominates-trans, beside_map, from_beside}
 use Rattle.re_config.proofs.Rearranging.{along}
 use Rattle.re_config.specs.Rearranging.{Rearranged}
 use Rattle.re_config.specs.Rows.{IsChoice, IsUnder, combined, meets, placed, set_at, singles}
@@ -26,16 +26,6 @@ dominated_under rows r t u (top, held, dom) = (top, held, Dominates-trans top r 
     same = Rattle.re_config.proofs.Rearranging.Rearranged-refl r
 
 -- ---- another order of a mapped list
-beside_map : {X Y : Type 0} (f : X → Y) (xs : List X) → AllZip (λ x y. y ≡ f x) xs (map f xs)
-beside_map f [] = tt
-beside_map f (x ∷ xs) = (refl, beside_map f xs)
-
-from_beside : {X Y : Type 0} (f : X → Y) (xs : List X) (ys : List Y) → AllZip (λ x y. y ≡ f x) xs ys → ys ≡ map f xs
-from_beside f [] [] h = refl
-from_beside f [] (y ∷ ys) h = absurd h
-from_beside f (x ∷ xs) [] h = absurd h
-from_beside f (x ∷ xs) (y ∷ ys) h = (λ i. h.0 i ∷ from_beside f xs ys h.1 i)
-
 pub map_moved : {X Y : Type 0} (f : X → Y) (xs : List X) (ys : List Y) → Rearranged (map f xs) ys → (zs : List X) × Rearranged xs zs × (ys ≡ map f zs)
 map_moved f xs ys p = let u = along (λ x y. y ≡ f x) p xs (beside_map f xs) in (u.0, u.1, from_beside f u.0 ys u.2)
 

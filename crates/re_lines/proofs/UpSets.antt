@@ -14,7 +14,7 @@ use Rattle.re_table.specs.Strength.{up_set}
 use Rattle.re_boxes.proofs.Grown.{grown_is_up, maximal_is_grown}
 use Rattle.re_boxes.proofs.Strength.{strength_law}
 use Rattle.re_boxes.specs.Strength.{HasStronger, IsAbove}
-use Rattle.re_lines.proofs.Entries.{other_default}
+use Rattle.re_labels.proofs.Searching.{same_read}
 
 module _ (K : Constraint) (n : ℕ) (is : IsConstraint n K) where
   -- the labels at least as strong, and of a number that is no label itself alone
@@ -50,7 +50,7 @@ module _ (K : Constraint) (n : ℕ) (is : IsConstraint n K) where
   max_set_up set held x x_low i y j =
       let (row, at, (k, low, e)) = max_sets-from K n set held in
       let m = max_rows-IsMaximal K n row (Contains-In row (max_rows K n) at) in
-      let same : set_at row k ≡ set = other_default row k [] set low ∙ e in
+      let same : set_at row k ≡ set = same_read row k [] set low ∙ e in
       subst (IsIn y) same
       (grown_is_up K ups n row (strength_law K n ups exact) m.good (maximal_is_grown K n row m) k x y low (IsIn-up_set_cases K x y n j).0
       (subst (IsIn x) (sym same) i) (to_ups x y x_low j))

@@ -76,7 +76,7 @@ active_is K n rows sets configs e f c =
     ∙ one_set (list_set there) there (rising-list_set there) (rising-max_configs K n) (In-list_set there) (list_set-In there)
 
 -- ---- it is a problem with names
-wider : (n : ℕ) (constraint : Constraint) → n ≤ MAX_LABELS → IsConstraint n constraint → IsConstraint MAX_LABELS constraint
+pub wider : (n : ℕ) (constraint : Constraint) → n ≤ MAX_LABELS → IsConstraint n constraint → IsConstraint MAX_LABELS constraint
 wider n constraint few is = record {
   least = is.least;
   most = is.most;

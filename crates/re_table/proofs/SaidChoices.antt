@@ -21,7 +21,7 @@ found-is constraint labels config r known e = same_tests r (has_config constrain
     (λ h. known.1 (subst (Contains constraint.configs) (sym e) (has_config-Has constraint labels h)))
 
 -- ---- tests of all elements
-all-map : {X Y : Type 0} (p : Y → Bool) (f : X → Y) (xs : List X) → list_all p (map f xs) ≡ list_all (λ x. p (f x)) xs
+pub all-map : {X Y : Type 0} (p : Y → Bool) (f : X → Y) (xs : List X) → list_all p (map f xs) ≡ list_all (λ x. p (f x)) xs
 all-map p f [] = refl
 all-map p f (x ∷ xs) = ap (λ b. p (f x) && b) (all-map p f xs)
 

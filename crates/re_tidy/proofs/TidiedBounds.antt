@@ -13,6 +13,7 @@ use Rattle.re_cert.specs.Bounds.{Bound, BoundStep, built, entry_fits, image_fits
 use Rattle.re_cert.specs.declared.certificate.Kind.{Kind}
 use Rattle.re_cert.specs.declared.certificate.TheConstants.{MAX_STEPS}
 use Rattle.re_config.specs.declared.TheConstants.{MAX_ROWS}
+use Rattle.re_table.proofs.SaidChoices.{all-map}
 use Rattle.re_tidy.specs.Orders.{in_order, inserted}
 use Rattle.re_tidy.specs.Tidied.{first_row_before, images_in_order, map_in_order, pair_before, row_before, step_in_order, tidied}
 
@@ -49,10 +50,6 @@ module _ {X : Type 0} (before : X → X → Bool) where
   length_in_order (x ∷ xs) = length_inserted x (in_order before xs) ∙ ap suc (length_in_order xs)
 
 -- ---- images with their rows
-all_mapped : {X Y : Type 0} (p : Y → Bool) (f : X → Y) (xs : List X) → list_all p (map f xs) ≡ list_all (λ x. p (f x)) xs
-all_mapped p f [] = refl
-all_mapped p f (x ∷ xs) = ap (λ b. p (f x) && b) (all_mapped p f xs)
-
 -- the images that have a row, and those behind them
 all_zipped : (p : List ℕ → Bool) (rows : List (List (List ℕ))) (images : List (List ℕ))
     → (list_all (λ (pair : List (List ℕ) × List ℕ). p pair.1) (zip rows images) && list_all p (drop (length rows) images)) ≡ list_all p images
@@ -74,7 +71,7 @@ all_images : (p : List ℕ → Bool) (rows : List (List (List ℕ))) (images : L
 all_images p rows images =
     all-append p (map (λ (pair : List (List ℕ) × List ℕ). pair.1) (in_order first_row_before (zip rows images))) (drop (length rows) images)
     ∙ ap (λ b. b && list_all p (drop (length rows) images))
-    (all_mapped p (λ (pair : List (List ℕ) × List ℕ). pair.1) (in_order first_row_before (zip rows images)) ∙ all_in_order first_row_before (λ (pair : List (List ℕ) × List ℕ). p pair.1) (zip rows images))
+    (all-map p (λ (pair : List (List ℕ) × List ℕ). pair.1) (in_order first_row_before (zip rows images)) ∙ all_in_order first_row_before (λ (pair : List (List ℕ) × List ℕ). p pair.1) (zip rows images))
     ∙ all_zipped p rows images
 
 length_images : (rows : List (List (List ℕ))) (images : List (List ℕ)) → length (images_in_order rows images) ≡ length images

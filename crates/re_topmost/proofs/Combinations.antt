@@ -9,7 +9,7 @@ use Rattle.re_config.proofs.Placing.{Dominates-trans}
 use Rattle.re_config.proofs.Rearranging.{Rearranged-refl, Rearranged-sym, length-Rearranged}
 use Rattle.re_config.specs.Rearranging.{Rearranged, chained, kept, swapped}
 use Rattle.re_config.specs.Rows.{IsUnder, combined, meets, set_at}
-use Rattle.re_labels.proofs.Membership.{Contains-cases, Contains-here, Contains-later, Contains-none}
+use Rattle.re_labels.proofs.Membership.{Contains-cases, Contains-here, Contains-later}
 use Rattle.re_labels.proofs.Sets.{IsIn-meet_cases, IsIn-union_cases}
 use Rattle.re_labels.specs.Sets.{IsWithin, meet, union}
 use Rattle.re_table.specs.GoodRows.{IsDominated}
@@ -39,9 +39,6 @@ meetings_none chosen left old new line none is pushed = subst (AreMeetings chose
   ];
   all = λ moved p. (line, has_last old line, subst (λ w. Rearranged (chosen ++ []) w) (append_none chosen ∙ sym is) (Rearranged-refl (chosen ++ [])));
 })
-
-pub meetings_begin : (chosen : List (List ℕ)) (first : List ℕ) (rest left : List (List ℕ)) (old : List (List (List ℕ))) → AreMeetingsBefore chosen first rest left 0 old old
-meetings_begin chosen first rest left old = record { stays = λ line h. h; made = λ line h. inl h; all = λ place low moved p. absurd (omega (arith, low)) }
 
 module _ (chosen : List (List ℕ)) (first : List ℕ) (rest left : List (List ℕ)) (place : ℕ) (old : List (List (List ℕ))) (low : place < length left) where
   pub meetings_again : (new : List (List (List ℕ))) → (0 < place) × (set_at left (place - 1) ≡ set_at left place) → AreMeetingsBefore chosen first rest left place old new
@@ -208,9 +205,6 @@ module _ (sets others : List (List ℕ)) (place against : ℕ) (low : place < le
   }
 
 -- ---- all places of the second line
-pub before_begin : (sets others : List (List ℕ)) (place : ℕ) (old : List (List (List ℕ))) → AreAllBefore sets others place 0 old old
-before_begin sets others place old = record { stays = λ line h. h; made = λ line h. inl h; all = λ against low moved p. absurd (omega (arith, low)) }
-
 module _ (sets others : List (List ℕ)) (place against : ℕ) (old : List (List (List ℕ))) (under : against < length others) where
   pub before_again : (new : List (List (List ℕ))) → (0 < against) × (set_at others (against - 1) ≡ set_at others against) → AreAllBefore sets others place against old new
       → AreAllBefore sets others place (against + 1) old new
@@ -240,17 +234,10 @@ module _ (sets others : List (List ℕ)) (place against : ℕ) (old : List (List
     ];
   }
 
-pub before_all : (sets others : List (List ℕ)) (place against : ℕ) (old new : List (List (List ℕ))) → length others ≤ against → AreAllBefore sets others place against old new
-    → AreAllBefore sets others place (length others) old new
-before_all sets others place against old new past before = record { stays = before.stays; made = before.made; all = λ q low. before.all q (omega (arith, low, past)) }
-
 -- ---- all places of the first line
 pub record AreAllPlaces (sets others : List (List ℕ)) (before : ℕ) (lines : List (List (List ℕ))) : Type 0 where
   pub made : (line : List (List ℕ)) → Contains lines line → IsCombination sets others line
   pub all : (place against : ℕ) → place < before → against < length others → AreDominatedAt sets others place against lines
-
-pub places_begin : (sets others : List (List ℕ)) (lines : List (List (List ℕ))) → lines ≡ [] → AreAllPlaces sets others 0 lines
-places_begin sets others lines e = record { made = λ line h. absurd (Contains-none line (subst (λ l. Contains l line) e h)); all = λ place against low under. absurd (omega (arith, low)) }
 
 module _ (sets others : List (List ℕ)) (place : ℕ) (low : place < length sets) where
   pub places_again : (lines : List (List (List ℕ))) → (0 < place) × (set_at sets (place - 1) ≡ set_at sets place) → AreAllPlaces sets others place lines → AreAllPlaces sets others (place + 1) lines

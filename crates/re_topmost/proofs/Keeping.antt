@@ -14,12 +14,13 @@ use Rattle.re_config.specs.Rows.{Dominates, IsUnder, combined, dominates, meets,
 use Rattle.re_labels.proofs.Membership.{Contains-In, Contains-cases, Contains-here, Contains-later, Contains-none, In-Contains}
 use Rattle.re_labels.proofs.Sets.{IsIn-meet, IsIn-meet_cases, IsIn-union, IsIn-union_cases}
 use Rattle.re_labels.specs.Sets.{IsWithin, meet, union}
-use Rattle.re_table.proofs.Closure.{Shape, combined_along}
+use Rattle.re_table.proofs.Closure.{combined_along}
 use Rattle.re_table.specs.GoodRows.{IsDominated}
 use Rattle.re_lines.proofs.Monotone.{generated_law}
 use Rattle.re_lines.specs.Closures.{AreTopmost, IsGenerated}
 use Rattle.re_lines.specs.Closures.IsGenerated.{combine, move, start}
 use Rattle.re_lines.specs.Lines.{AreClosed}
+use Rattle.re_boxes.proofs.BoxLaw.{same_shape}
 use Rattle.re_topmost.proofs.Places.{has_before, has_either, has_last}
 use Rattle.re_topmost.specs.Combining.{AreAllOf, IsCombination}
 use Rattle.re_topmost.specs.Kept.{AreOfLength, AreOffered, AreSettled, AreSettledBefore, IsCovered, IsKept, IsTaken}
@@ -44,9 +45,6 @@ covered_stays kept old new line stays (inl c) = inl c
 covered_stays kept old new line stays (inr (top, held, dom)) = inr (top, stays top held, dom)
 
 -- ---- lines without those that a line dominates
-pub left_begin : (top : List (List ℕ)) (left : List (List (List ℕ))) → left ≡ [] → (line : List (List ℕ)) → Contains left line ↔ (Contains [] line × (Dominates top line → ⊥))
-left_begin top left e line = ((λ h. absurd (Contains-none line (subst (λ l. Contains l line) e h))), (λ h. absurd (Contains-none line h.0)))
-
 module _ (top : List (List ℕ)) (lines left : List (List (List ℕ))) (i : ℕ) (x : List (List ℕ)) (low : i < length lines) (is : x ≡ get_or lines i x)
     (before : (line : List (List ℕ)) → Contains left line ↔ (Contains (take i lines) line × (Dominates top line → ⊥))) where
   pub left_out : Dominates top x → (line : List (List ℕ)) → Contains left line ↔ (Contains (take (i + 1) lines) line × (Dominates top line → ⊥))
@@ -70,9 +68,6 @@ pub left_all : (top : List (List ℕ)) (lines left : List (List (List ℕ))) (i 
 left_all top lines left i past before line = subst (λ l. Contains left line ↔ (Contains l line × (Dominates top line → ⊥))) (take_all i lines past) (before line)
 
 -- ---- offered lines
-pub offered_begin : (kept old : List (List (List ℕ))) → AreOffered kept [] old old
-offered_begin kept old = record { stays = λ line h. h; made = λ line h. inl h; all = λ line h. absurd (Contains-none line h) }
-
 module _ (kept found old mid : List (List (List ℕ))) (i : ℕ) (x : List (List ℕ)) (low : i < length found) (is : x ≡ get_or found i x) (before : AreOffered kept (take i found) old mid) where
   pub offered_held : IsDominated kept x → AreOffered kept (take (i + 1) found) old mid
   offered_held dom = record {
@@ -94,13 +89,7 @@ module _ (kept found old mid : List (List (List ℕ))) (i : ℕ) (x : List (List
     ];
   })
 
-pub offered_all : (kept found old new : List (List (List ℕ))) (i : ℕ) → length found ≤ i → AreOffered kept (take i found) old new → AreOffered kept found old new
-offered_all kept found old new i past before = subst (λ f. AreOffered kept f old new) (take_all i found past) before
-
 -- ---- the combinations of a line with kept lines
-pub settled_begin : (kept old : List (List (List ℕ))) (line : List (List ℕ)) → AreSettledBefore kept line [] old old
-settled_begin kept old line = record { stays = λ other h. h; made = λ both h. inl h; all = λ other moved i here h. absurd (Contains-none other h) }
-
 module _ (kept old mid : List (List (List ℕ))) (line : List (List ℕ)) (k : ℕ) (x : List (List ℕ)) (low : k < length kept) (is : x ≡ get_or kept k x)
     (before : AreSettledBefore kept line (take k kept) old mid) where
   pub settled_other : (length x ≡ length line → ⊥) → AreSettledBefore kept line (take (k + 1) kept) old mid
@@ -139,9 +128,6 @@ module _ (kept old mid : List (List (List ℕ))) (line : List (List ℕ)) (k : �
           through (inl (t, at, d)) = inl (t, at, Dominates-trans t top both d dom)
           through (inr (t, at, d)) = inr (t, at, Dominates-trans t top both d dom)
 
-pub settled_all : (kept old new : List (List (List ℕ))) (line : List (List ℕ)) (k : ℕ) → length kept ≤ k → AreSettledBefore kept line (take k kept) old new → AreSettled kept line old new
-settled_all kept old new line k past before = subst (λ b. AreSettledBefore kept line b old new) (take_all k kept past) before
-
 -- ---- a combination the other way round
 meet_other : (s t : List ℕ) → IsWithin (meet s t) (meet t s)
 meet_other s t x i = let two = IsIn-meet_cases s t x i in IsIn-meet t s x two.1 two.0
@@ -161,12 +147,6 @@ combined_other i [] (t ∷ u) e = absurd (omega arith)
 combined_other i (s ∷ r) [] e = absurd (omega arith)
 combined_other zero (s ∷ r) (t ∷ u) e = (union_other s t, meets_other r u (omega arith))
 combined_other (suc i) (s ∷ r) (t ∷ u) e = (meet_other s t, combined_other i r u (omega arith))
-
-shape_of : (r u : List (List ℕ)) → length r ≡ length u → Shape r u
-shape_of [] [] e = tt
-shape_of [] (t ∷ u) e = absurd (omega arith)
-shape_of (s ∷ r) [] e = absurd (omega arith)
-shape_of (s ∷ r) (t ∷ u) e = (tt, shape_of r u (omega arith))
 
 -- ---- the kept lines and those that wait
 pub kept_begin : (d : ℕ) (starts kept : List (List (List ℕ))) → kept ≡ [] → AreOfLength d starts → IsKept d starts kept starts
@@ -274,7 +254,7 @@ module _ (d : ℕ) (starts old left new waiting more : List (List (List ℕ))) (
       let one_count : length one ≡ d = before.count one (from_old one held) in
       let e = length-Rearranged p in
       let same_count : length moved ≡ length one = omega (arith, e, one_count, line_count) in
-      let m = combined_along (Rearranged-sym p) i (omega (arith, e, low, line_count)) one (shape_of moved one same_count) in
+      let m = combined_along (Rearranged-sym p) i (omega (arith, e, low, line_count)) one (same_shape moved one same_count) in
       let j_low : m.1 < length line = m.5 in
       covered_under new more (combined m.1 line m.0) (combined i one moved) (combined i moved one) (Rearranged-sym m.3) (combined_other i one moved (sym same_count))
       (settled.all one m.0 m.1 is_new held (one_count ∙ sym line_count) m.2 j_low)

@@ -40,7 +40,7 @@ fits-more kind before (first ∷ steps) s fits one =
     true-and (step_fits kind before first) (steps_fit kind first.next (steps ++ s ∷ [])) two.0
     (fits-more kind first.next steps s two.1 (subst (λ p. step_fits kind p s ≡ true) (last-next before first.next (next_problems steps)) one))
 
-neither : (number : ℕ) (before : NamedProblem) (first : BoundStep) (steps : List BoundStep) → steps_fault before number (first ∷ steps) ≡ None → (step_fault before first ≡ None) × (steps_fault first.next (suc number) steps ≡ None)
+pub neither : (number : ℕ) (before : NamedProblem) (first : BoundStep) (steps : List BoundStep) → steps_fault before number (first ∷ steps) ≡ None → (step_fault before first ≡ None) × (steps_fault first.next (suc number) steps ≡ None)
 neither number before first steps none = go (step_fault before first) refl none
   where
     go : (o : Option _) → step_fault before first ≡ o → fault_or (option_map (fault_at number) (step_fault before first)) (steps_fault first.next (suc number) steps) ≡ None

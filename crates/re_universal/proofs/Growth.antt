@@ -30,7 +30,7 @@ use Rattle.re_labels.specs.declared.TheConstants.{MAX_LABELS}
 added_filled : (i x : ℕ) (r : List (List ℕ)) → AreFilled r → AreFilled (added i x r)
 added_filled i x r h = all_set (λ s. 0 < length s) r i (with_label (set_at r i) x) h (IsIn-filled x (with_label (set_at r i) x) (with_label_itself (set_at r i) x))
 
-added_sets : (n i x : ℕ) (r : List (List ℕ)) → x < n → i < length r → AreSets n r → AreSets n (added i x r)
+pub added_sets : (n i x : ℕ) (r : List (List ℕ)) → x < n → i < length r → AreSets n r → AreSets n (added i x r)
 added_sets n i x r below b h =
     all_set _ r i (with_label (set_at r i) x) h (IsLabelSet-with_label n (set_at r i) x below (all_at _ r i h b).0, IsIn-filled x (with_label (set_at r i) x) (with_label_itself (set_at r i) x))
 

@@ -1,25 +1,14 @@
 -- Labels that complete choices.
-use Rattle.std.proofs.Common.{◌≡◌, ℕ, zero, suc, ◌<◌, true, false, not, eqb, List, [], ◌∷◌, ◌++◌, length, refl, sym, ap, ◌∙◌, subst, ◌⊎◌, inl, inr, arith, append_assoc, append-nil}
+use Rattle.std.proofs.Common.{◌≡◌, ℕ, zero, suc, ◌<◌, not, List, [], ◌∷◌, ◌++◌, length, sym, ap, ◌∙◌, subst, ◌⊎◌, inl, inr, arith, append_assoc, append-nil}
 use Rattle.std.specs.Prelude.{Contains, slice_set, ◌↔◌}
 use Rattle.std.proofs.lemmas.List.Elements.{Contains-append_right}
-use Rattle.re_labels.proofs.Membership.{Contains-cases, Contains-here, Contains-filter, Contains-filter_cases, Contains-none}
+use Rattle.re_labels.proofs.Membership.{Contains-cases, Contains-here, Contains-none}
 use Rattle.re_labels.proofs.Sets.{IsIn-meet, IsIn-meet_cases, has-IsIn}
-use Rattle.re_labels.proofs.Tests.{eqb-true}
 use Rattle.re_labels.specs.Sets.{IsIn, has, meet, with_label, without_label}
 use Rattle.re_rests.proofs.NextLabels.{IsIn-with_cases, IsIn-with_new, IsIn-with_old}
-use Rattle.re_strength.proofs.DrawnChoices.{good_last}
+use Rattle.re_strength.proofs.DrawnChoices.{good_last, label_cases, label_kept}
 use Rattle.re_strength.specs.Choosing.{AreGoodBehind}
 use Rattle.re_table.specs.Constraints.{Constraint, Has}
-
--- a label of the set is this one or stays
-kept_cases : (s : List ℕ) (x z : ℕ) → IsIn z s → (z ≡ x) ⊎ IsIn z (without_label s x)
-kept_cases s x z h = elim (eqb z x) as (λ b. eqb z x ≡ b → (z ≡ x) ⊎ IsIn z (without_label s x)) [
-  | true ↦ λ e. inl (eqb-true z x e)
-  | false ↦ λ e. inr (Contains-filter (λ y. not (eqb y x)) s z h (ap not e))
-] refl
-
-still_in : (s : List ℕ) (x z : ℕ) → IsIn z (without_label s x) → IsIn z s
-still_in s x z h = (Contains-filter_cases (λ y. not (eqb y x)) s z h).0
 
 -- a list with one element set
 pub set_cases : {X : Type 0} (l : List X) (i : ℕ) (v y : X) → Contains (slice_set l i v) y → (y ≡ v) ⊎ Contains l y
@@ -49,9 +38,9 @@ module _ (P : ℕ → Type 0) where
     one_kept out held e p x = (
       (λ h. elim (IsIn-with_cases more label x (subst (IsIn x) e h)) [
         | inl same ↦ (subst (λ y. IsIn y among) same held, subst P same p)
-        | inr i ↦ let t = (told x).0 i in (still_in among label x (subst (IsIn x) is t.0), t.1)
+        | inr i ↦ let t = (told x).0 i in (label_kept among label x (subst (IsIn x) is t.0), t.1)
       ]),
-      (λ h. subst (IsIn x) (sym e) (elim (kept_cases among label x h.0) [
+      (λ h. subst (IsIn x) (sym e) (elim (label_cases among label x h.0) [
         | inl same ↦ IsIn-with_new more label x (sym same)
         | inr i ↦ IsIn-with_old more label x ((told x).1 (subst (IsIn x) (sym is) i, h.1))
       ])),
@@ -59,8 +48,8 @@ module _ (P : ℕ → Type 0) where
 
     pub one_passed : (P label → ⊥) → (x : ℕ) → IsIn x more ↔ (IsIn x among × P x)
     one_passed never x = (
-      (λ h. let t = (told x).0 h in (still_in among label x (subst (IsIn x) is t.0), t.1)),
-      (λ h. elim (kept_cases among label x h.0) [
+      (λ h. let t = (told x).0 h in (label_kept among label x (subst (IsIn x) is t.0), t.1)),
+      (λ h. elim (label_cases among label x h.0) [
         | inl same ↦ absurd (never (subst P same h.1))
         | inr i ↦ (told x).1 (subst (IsIn x) (sym is) i, h.1)
       ]),
@@ -91,7 +80,7 @@ module _ (constraint : Constraint) where
   module _ (drawn next first rest : List ℕ) (others : List (List ℕ)) (label : ℕ) (held : IsIn label first) (pushed : next ≡ drawn ++ label ∷ []) (is : rest ≡ without_label first label) where
     good_whole : (x : ℕ) → AreGoodBehind constraint (x ∷ next) others → AreGoodBehind constraint (x ∷ drawn) (without_label first label ∷ others) → AreGoodBehind constraint (x ∷ drawn) (first ∷ others)
     good_whole x here more [] k = absurd k
-    good_whole x here more (z ∷ c) k = elim (kept_cases first label z k.0) [
+    good_whole x here more (z ∷ c) k = elim (label_cases first label z k.0) [
       | inl e ↦ subst (λ v. Has constraint (x ∷ v)) (ap (λ v. v ++ c) pushed ∙ append_assoc drawn (label ∷ []) c ∙ ap (λ y. drawn ++ y ∷ c) (sym e)) (here c k.1)
       | inr i ↦ more (z ∷ c) (i, k.1)
     ]
@@ -101,7 +90,7 @@ module _ (constraint : Constraint) where
 
     good_more : (x : ℕ) → AreGoodBehind constraint (x ∷ drawn) (first ∷ others) → AreGoodBehind constraint (x ∷ drawn) (without_label first label ∷ others)
     good_more x good [] k = absurd k
-    good_more x good (z ∷ c) k = good (z ∷ c) (still_in first label z k.0, k.1)
+    good_more x good (z ∷ c) k = good (z ∷ c) (label_kept first label z k.0, k.1)
 
     pub both_told : (among left out : List ℕ) → ((x : ℕ) → IsIn x left ↔ (IsIn x among × AreGoodBehind constraint (x ∷ next) others)) → ((x : ℕ) → IsIn x out ↔ (IsIn x left × AreGoodBehind constraint (x ∷ drawn) (rest ∷ others)))
         → (x : ℕ) → IsIn x out ↔ (IsIn x among × AreGoodBehind constraint (x ∷ drawn) (first ∷ others))

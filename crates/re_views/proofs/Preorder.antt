@@ -29,7 +29,7 @@ rising-flat_map {X} {Y} RX RY chain chain' f (x ∷ xs) each low h =
         let (y, held, at) = Contains-flat_map_cases f xs v (In-Contains v (flat_map f xs) j) in
         low x y u v (inl refl) (inr (Contains-In y xs held)) (below xs h y (Contains-In y xs held)) i (Contains-In v (f y) at)
 
-rising-count_from : (i n : ℕ) → IsRising (λ x y. x < y) (count_from i n)
+pub rising-count_from : (i n : ℕ) → IsRising (λ x y. x < y) (count_from i n)
 rising-count_from i zero = tt
 rising-count_from i (suc zero) = tt
 rising-count_from i (suc (suc n)) = (omega arith, rising-count_from (suc i) (suc n))

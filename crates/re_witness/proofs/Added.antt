@@ -1,25 +1,17 @@
 -- A label that is added to a set of a row.
 use Rattle.std.proofs.Common.{◌≡◌, ℕ, zero, suc, ◌<◌, ◌≤◌, Bool, true, false, not, ◌&&◌, List, [], ◌∷◌, length, refl, sym, ap, ◌∙◌, subst, Some, None, Option}
 use Rattle.std.specs.Prelude.{slice_set}
-use Rattle.re_boxes.proofs.Grown.{with_label_itself}
-use Rattle.re_boxes.proofs.Spread.{IsIn-filled}
 use Rattle.re_boxes.specs.Grown.{added}
-use Rattle.re_config.proofs.Rows.{all_at}
 use Rattle.re_config.specs.Rows.{in_order, row_of, set_at}
-use Rattle.re_labels.proofs.Numbers.{IsLabelSet-with_label}
 use Rattle.re_labels.specs.Sets.{has, with_label}
 use Rattle.re_labels.specs.declared.TheConstants.{MAX_LABELS}
 use Rattle.re_strength.proofs.RowsOfSets.{made}
-use Rattle.re_strength.proofs.SetsAtPlaces.{all_set}
 use Rattle.re_strength.specs.Sets.{AreSets}
 use Rattle.re_table.proofs.SetsInOrder.{in_order-good, in_order-length}
 use Rattle.re_table.specs.Constraints.{Constraint}
 use Rattle.re_table.specs.GoodRows.{is_good}
+use Rattle.re_universal.proofs.Growth.{added_sets}
 use Rattle.re_witness.specs.Finding.{can_add}
-
-added_sets : (n i x : ℕ) (r : List (List ℕ)) → x < n → i < length r → AreSets n r → AreSets n (added i x r)
-added_sets n i x r below b h =
-    all_set _ r i (with_label (set_at r i) x) h (IsLabelSet-with_label n (set_at r i) x below (all_at _ r i h b).0, IsIn-filled x (with_label (set_at r i) x) (with_label_itself (set_at r i) x))
 
 length-set : {X : Type 0} (xs : List X) (i : ℕ) (v : X) → length (slice_set xs i v) ≡ length xs
 length-set [] i v = refl

@@ -14,7 +14,6 @@ use Rattle.re_config.specs.Configs.{IsConfig}
 use Rattle.re_config.specs.Rows.{IsRow}
 use Rattle.re_config.specs.declared.TheConstants.{MAX_ROWS}
 use Rattle.re_table.proofs.Goodness.{Has-has_config, IsAllowed-is_allowed, IsGood-is_good}
-use Rattle.re_table.proofs.MaxSets.{max_sets-row}
 use Rattle.re_table.specs.Constraints.{Constraint, Has, IsConstraint, has_config}
 use Rattle.re_table.specs.GoodRows.{IsAllowed, IsGood, allowed, max_rows, max_sets}
 use Rattle.re_problem.proofs.FedLines.{unnot, unnot_true}
@@ -26,11 +25,12 @@ use Rattle.re_cert.specs.declared.certificate.Kind.{Kind}
 use Rattle.re_entries.proofs.AllowedImages.{keeps_allowed_law}
 use Rattle.re_entries.proofs.RowChoices.{keeps_allowed_by_row_law}
 use Rattle.re_entries.proofs.RowSets.{row_sets_law}
-use Rattle.re_entries.specs.StepClauses.{HasNextLabels, HasRowSets, OccursInRows}
+use Rattle.re_entries.specs.StepClauses.{HasNextLabels, HasRowSets}
 use Rattle.re_clauses.proofs.StepMeaning.{all_held, by_row-tells, lists-Decides, rows-Decides}
 use Rattle.re_clauses.specs.Clauses.{are_allowed, are_exchanged, are_good, are_maximal, have_labels, have_row_sets, is_filled, maps_allowed, maps_rows, maps_sets, meets, sets_in, step_clauses, step_fault}
 use Rattle.re_clauses.specs.declared.clause.Clause.{Clause}
 use Rattle.re_clauses.specs.declared.clause.Clause.TheVariants.{Back, End, L1, L2, L3, L4, L5, U1, U2, U3, U4}
+use Rattle.re_clauses.proofs.StepTests.{occurs-listed, filled_sets, filled-nonempty}
 use Rattle.re_witness.proofs.Found.{found_passes}
 use Rattle.re_witness.proofs.Maps.{map_witness_law}
 use Rattle.re_witness.proofs.Rows.{row_witness_law}
@@ -146,22 +146,11 @@ map-below before next (by_row images) few e = go images (and-true (nat_le (lengt
         let inner = and-true (eqb (length image) before.passive.degree) (list_all (is_label next) image) both.0 in
         (labels-below (length next.names) MAX_LABELS image few inner.1, go images both.1)
 
-filled-nonempty : (before : NamedProblem) (entries : List SetEntry) → list_all (is_filled before) (entry_sets entries) ≡ true → AllByRecursion (λ s. 0 < length s) (entry_sets entries)
-filled-nonempty before [] all = tt
-filled-nonempty before (entry ∷ entries) all =
-    let both = and-true (is_filled before entry.set) (list_all (is_filled before) (entry_sets entries)) all in
-    let some : not (eqb (length entry.set) 0) ≡ true = (and-true (not (eqb (length entry.set) 0)) (list_all (is_label before) entry.set) both.0).0 in
-    (let l : 0 < length entry.set = grind (arith, nat_tests) in l, filled-nonempty before entries both.1)
-
 pub next-labels : (before next : NamedProblem) (entries : List SetEntry) → have_labels before next entries ≡ true → HasNextLabels (length next.names) entries
 next-labels before next entries e =
     let labels = map (λ (entry : SetEntry). entry.label) entries in
     let both = and-true (bytes_eq labels (count_from 0 (length next.names))) (list_all (is_filled before) (entry_sets entries)) e in
     record { labels = (bytes_eq-Decides labels (count_from 0 (length next.names))).0 both.0; filled = filled-nonempty before entries both.1 }
-
-filled_sets : (before : NamedProblem) (entries : List SetEntry) → list_all (λ (entry : SetEntry). is_filled before entry.set) entries ≡ list_all (is_filled before) (entry_sets entries)
-filled_sets before [] = refl
-filled_sets before (entry ∷ entries) = ap (λ b. is_filled before entry.set && b) (filled_sets before entries)
 
 fits-filled : (before next : NamedProblem) (entries : List SetEntry) → list_all (entry_fits before next) entries ≡ true → AllByRecursion (λ s. 0 < length s) (entry_sets entries)
     → list_all (λ (entry : SetEntry). is_filled before entry.set) entries ≡ true
@@ -179,13 +168,6 @@ fits-labels before next (entry ∷ entries) e =
     let both = and-true (entry_fits before next entry) (list_all (entry_fits before next) entries) e in
     let passes : nat_lt entry.label (length next.names) ≡ true = (and-true (list_all (is_label before) entry.set) (is_label next entry.label) both.0).1 in
     (let l : entry.label < length next.names = grind (arith, nat_tests) in l, fits-labels before next entries both.1)
-
--- each set of the maximal rows is among those that occur
-occurs-listed : (before : NamedProblem) (rows : List (List (List ℕ))) → rows ≡ max_rows before.passive (length before.names) → (set : List ℕ) → OccursInRows rows set → Contains (sets_in (length before.names) rows) set
-occurs-listed before rows maximal set (row, held, at) =
-    let n = length before.names in
-    subst (λ (m : List (List (List ℕ))). Contains (sets_in n m) set) (sym maximal)
-    (max_sets-row before.passive n row (subst (λ (m : List (List (List ℕ))). Contains m row) maximal held) set at)
 
 -- ---- the rows
 row-is : (before : NamedProblem) (row : List (List ℕ)) → row_fits before row ≡ true → IsRow (length row) MAX_LABELS row → IsRow before.passive.degree (length before.names) row

@@ -29,9 +29,10 @@ use Rattle.re_maps.specs.declared.verdict.MapVerdict.TheVariants as verdict
 use Rattle.re_cert.specs.Bounds.{is_lower}
 use Rattle.re_cert.specs.declared.certificate.Kind.{Kind}
 use Rattle.re_check.specs.Verdicts.{ends_well, goes_back, is_yes}
+use Rattle.re_maps.proofs.VerdictLaws.{label-none}
 use Rattle.re_witness.proofs.Found.{found_passes, none_all}
 use Rattle.re_witness.proofs.Giving.{gives-at_last, gives-or, map-none, map-some, unordered-rising, unordered-some}
-use Rattle.re_witness.proofs.Rows.{bad_shown, first_label-none, first_label-some, none_bad}
+use Rattle.re_witness.proofs.Rows.{bad_shown, first_label-some, none_bad}
 use Rattle.re_witness.proofs.Uppers.{all_labels}
 use Rattle.re_witness.specs.BadChoice.{first_bad}
 use Rattle.re_witness.specs.Finding.{back_witness, end_witness, first_unordered, firsts, fit_at, fit_witness, names_first, no_fit, no_fit_of, no_fit_witness, pairs_ascend, renaming_witness, seconds}
@@ -141,7 +142,7 @@ module _ (last target : NamedProblem) (pairs : List (ℕ × ℕ)) (below : AllBy
   pub in_order : first_unordered pairs_ascend 0 pairs ≡ None → first_label (λ x. not (names_first pairs x)) (length last.names) ≡ None → firsts pairs ≡ count_from 0 (length last.names)
   in_order order whole =
       all_labels (length last.names) (firsts pairs) (rises pairs (unordered-rising pairs_ascend 0 pairs order)) (all_below pairs below)
-      (λ x l. named-is x (not-false (names_first pairs x) (first_label-none (λ x. not (names_first pairs x)) (length last.names) whole x l)))
+      (λ x l. named-is x (not-false (names_first pairs x) (label-none (λ x. not (names_first pairs x)) (length last.names) whole x l)))
 
   renaming_shown : (v : MapVerdict) → renaming_verdict (unnamed last) (unnamed target) (seconds pairs) ≡ v → is_yes v ≡ false → Gives (renaming_witness v) (ShowsBack last target pairs)
   renaming_shown verdict.Yes e fails = absurd (true≢false fails)

@@ -1,21 +1,19 @@
 -- Tests of what a constraint and rows hold.
-use Rattle.std.proofs.Common.{◌≡◌, ℕ, zero, suc, ◌<◌, Bool, true, false, List, [], ◌∷◌, length, get_or, map, refl, sym, ap, ◌∙◌, subst, arith, Some, None, Option}
+use Rattle.std.proofs.Common.{◌≡◌, ℕ, zero, suc, ◌<◌, Bool, true, false, List, [], ◌∷◌, length, get_or, refl, sym, ap, ◌∙◌, subst, arith, Some, None, Option}
 use Rattle.std.specs.Prelude.{Contains, IsTrue, ◌↔◌, find, not}
 use Rattle.std.specs.List.{AllByRecursion, list_all, list_any}
 use Rattle.std.proofs.lemmas.Bool.Decides.{nat_tests}
 use Rattle.re_cert.specs.Bounds.{is_label, pair_fits}
 use Rattle.re_problem.specs.NamedProblems.{NamedProblem}
 use Rattle.re_labels.proofs.Before.{same_list-refl, same_list-same}
-use Rattle.re_labels.proofs.Membership.{AllByRecursion-contains, AllByRecursion-weaker, In-Contains, any_found, any_true, length-map'}
+use Rattle.re_labels.proofs.Membership.{AllByRecursion-contains, In-Contains, any_found, any_true, length-map'}
 use Rattle.re_labels.proofs.Tests.{and-true, same_tests}
 use Rattle.re_labels.specs.Lists.{same_list}
 use Rattle.re_labels.specs.declared.TheConstants.{MAX_LABELS}
 use Rattle.re_entries.proofs.Telling.{read-held}
 use Rattle.re_config.specs.Configs.{IsConfig}
 use Rattle.re_table.specs.Constraints.{Constraint, IsConstraint}
-use Rattle.re_problem.specs.Steps.{SetEntry, entry_sets, set_for}
-use Rattle.re_entries.specs.StepClauses.{HasNextLabels}
-use Rattle.re_entries.proofs.NextLabels.{next-count}
+use Rattle.re_problem.specs.Steps.{entry_sets, set_for}
 use Rattle.re_witness.proofs.Found.{found_passes}
 use Rattle.re_witness.specs.Finding.{is_held}
 
@@ -41,28 +39,12 @@ all-held (row ∷ rows) sets h = (each row (h row (0, omega arith, refl)), all-h
     each [] h = tt
     each (s ∷ row) h = (h s (0, omega arith, refl), each row (λ t held. h t (suc held.0, (let l = held.1 in omega (arith, l)), held.2)))
 
--- the second labels of a renaming are labels of the other problem
-pub second_below : (last target : NamedProblem) (pairs : List (ℕ × ℕ)) → list_all (pair_fits last target) pairs ≡ true → AllByRecursion (λ image. image < length target.names) (map (λ (pair : ℕ × ℕ). pair.1) pairs)
-second_below last target [] fits = tt
-second_below last target (pair ∷ pairs) fits =
-    let both = and-true (pair_fits last target pair) (list_all (pair_fits last target) pairs) fits in
-    let below : is_label target pair.1 ≡ true = (and-true (is_label last pair.0) (is_label target pair.1) both.0).1 in
-    ((let small : pair.1 < length target.names = grind (arith, nat_tests) in small), second_below last target pairs both.1)
-
 pub first_below : (last target : NamedProblem) (pairs : List (ℕ × ℕ)) → list_all (pair_fits last target) pairs ≡ true → AllByRecursion (λ (pair : ℕ × ℕ). pair.0 < length last.names) pairs
 first_below last target [] fits = tt
 first_below last target (pair ∷ pairs) fits =
     let both = and-true (pair_fits last target pair) (list_all (pair_fits last target) pairs) fits in
     let below : is_label last pair.0 ≡ true = (and-true (is_label last pair.0) (is_label target pair.1) both.0).0 in
     ((let small : pair.0 < length last.names = grind (arith, nat_tests) in small), first_below last target pairs both.1)
-
--- the labels of the configurations are places of entries
-pub known : (n : ℕ) (constraint given : Constraint) (entries : List SetEntry) → IsConstraint n constraint → given ≡ constraint → HasNextLabels n entries → AllByRecursion (AllByRecursion (λ label. label < length entries)) given.configs
-known n constraint given entries is same has = subst (λ (k : Constraint). AllByRecursion (AllByRecursion (λ label. label < length entries)) k.configs) (sym same) (go constraint.configs is.configs)
-  where
-    go : (configs : List (List ℕ)) → AllByRecursion (IsConfig constraint.degree n) configs → AllByRecursion (AllByRecursion (λ label. label < length entries)) configs
-    go [] h = tt
-    go (config ∷ configs) h = (AllByRecursion-weaker (λ x. x < n) (λ x. x < length entries) (λ x l. let count = next-count entries n has in omega (arith, l, count)) config h.0.below, go configs h.1)
 
 pub config-count : (constraint : Constraint) (place : ℕ) (config : List ℕ) → IsConstraint MAX_LABELS constraint → place < length constraint.configs → config ≡ get_or constraint.configs place [] → length config ≡ constraint.degree
 config-count constraint place config is l e =

@@ -43,6 +43,7 @@ use Rattle.re_check.specs.declared.verdict.ClauseFault.{ClauseFault}
 use Rattle.re_maps.specs.Verdicts.{renaming_verdict}
 use Rattle.re_maps.specs.declared.verdict.MapVerdict.{MapVerdict}
 use Rattle.re_maps.specs.declared.verdict.MapVerdict.TheVariants.{Yes}
+use Rattle.re_views.proofs.Preorder.{rising-count_from}
 use Rattle.re_witness.proofs.Bounds.{fits_steps}
 use Rattle.re_witness.proofs.Dispatch.{degrees-are, next-labels, rows-few}
 use Rattle.re_witness.proofs.Giving.{at-held}
@@ -161,14 +162,9 @@ lower-refuted before s c w is few step (inr (inr (inr (inr (inl e))))) h = choic
 lower-refuted before s c w is few step (inr (inr (inr (inr (inr i))))) h = absurd i
 
 -- ---- an upper step
-labels-rise : (lo n : ℕ) → IsRising (λ x y. x < y) (count_from lo n)
-labels-rise lo zero = tt
-labels-rise lo (suc zero) = tt
-labels-rise lo (suc (suc n)) = (omega arith, labels-rise (suc lo) (suc n))
-
 labels-refuted : (n : ℕ) (entries : List SetEntry) (w : Witness) → HasNextLabels n entries → ShowsLabels n entries w → ⊥
 labels-refuted n entries (LabelOrder k) has h =
-    h.4 (rising-at (λ x y. x < y) (labels_of entries) k h.0.label h.1.label (subst (IsRising (λ x y. x < y)) (sym has.labels) (labels-rise 0 n)) (map-at (λ (e : SetEntry). e.label) entries k h.0 h.2) (map-at (λ (e : SetEntry). e.label) entries (k + 1) h.1 h.3))
+    h.4 (rising-at (λ x y. x < y) (labels_of entries) k h.0.label h.1.label (subst (IsRising (λ x y. x < y)) (sym has.labels) (rising-count_from 0 n)) (map-at (λ (e : SetEntry). e.label) entries k h.0 h.2) (map-at (λ (e : SetEntry). e.label) entries (k + 1) h.1 h.3))
 labels-refuted n entries (MissingLabel label) has h = h.1 (subst (λ (xs : List ℕ). Contains xs label) (sym has.labels) (Contains-count_from 0 n label (omega arith) (let l = h.0 in omega (arith, l))))
 labels-refuted n entries (EmptySet label) has h =
     let l = AllByRecursion-contains (λ s. 0 < length s) (entry_sets entries) [] has.filled (In-Contains [] (entry_sets entries) (In-map (λ (e : SetEntry). e.set) (record { set = []; label = label }) entries (Contains-In (record { set = []; label = label }) entries h))) in
@@ -261,7 +257,7 @@ back-refuted last target pairs w goes h = go w h
     yes v e = absurd (true≢false (sym e))
 
     go : (w : Witness) → ShowsBack last target pairs w → ⊥
-    go (PairOrder k) h = h.4 (rising-at (λ x y. x < y) (firsts pairs) k h.0.0 h.1.0 (subst (IsRising (λ x y. x < y)) (sym are) (labels-rise 0 n)) (map-at (λ (pair : ℕ × ℕ). pair.0) pairs k h.0 h.2) (map-at (λ (pair : ℕ × ℕ). pair.0) pairs (k + 1) h.1 h.3))
+    go (PairOrder k) h = h.4 (rising-at (λ x y. x < y) (firsts pairs) k h.0.0 h.1.0 (subst (IsRising (λ x y. x < y)) (sym are) (rising-count_from 0 n)) (map-at (λ (pair : ℕ × ℕ). pair.0) pairs k h.0 h.2) (map-at (λ (pair : ℕ × ℕ). pair.0) pairs (k + 1) h.1 h.3))
     go (MissingPair label) h = h.1 (subst (λ (xs : List ℕ). Contains xs label) (sym are) (Contains-count_from 0 n label (omega arith) (let l = h.0 in omega (arith, l))))
     go (Renaming v) h = h.1 (sym h.0 ∙ yes verdict both.1)
     go w h = absurd h

@@ -1,5 +1,5 @@
 -- Rows that aren't the maximal rows: something shows it.
-use Rattle.std.proofs.Common.{◌≡◌, ℕ, zero, suc, ◌+◌, ◌<◌, ◌≤◌, Bool, true, false, not, ◌&&◌, List, [], ◌∷◌, length, map, refl, sym, ap, ◌∙◌, subst, ◌⊎◌, inl, inr, arith, Some, None, Option, true≢false}
+use Rattle.std.proofs.Common.{◌≡◌, ℕ, zero, suc, ◌+◌, ◌<◌, ◌≤◌, Bool, true, false, not, ◌&&◌, List, [], ◌∷◌, length, map, refl, sym, ap, ◌∙◌, subst, ◌⊎◌, arith, Some, None, Option, true≢false}
 use Rattle.std.specs.Prelude.{Contains, find, if◌then◌else◌, nat_lt, slice_index_or}
 use Rattle.std.specs.List.{AllByRecursion, list_all, list_any}
 use Rattle.std.specs.Option.{option_map, option_or}
@@ -28,6 +28,7 @@ use Rattle.re_table.specs.GoodRows.{IsGood, IsMaximal, is_good, max_rows}
 use Rattle.re_problem.proofs.FedLines.{unnot_true}
 use Rattle.re_maps.specs.Verdicts.{first_label}
 use Rattle.re_labels.specs.Lists.{count_from}
+use Rattle.re_maps.proofs.VerdictLaws.{label-none}
 use Rattle.re_witness.proofs.Found.{found_passes, none_all}
 use Rattle.re_witness.proofs.Giving.{from-none, from-some, gives-at_last, gives-or, held-at, map-none, map-some, unordered-rising, unordered-some}
 use Rattle.re_witness.specs.BadChoice.{first_bad, is_bad}
@@ -53,20 +54,6 @@ none_bad constraint sets e labels chosen =
     has_config-Has constraint labels (all-In (has_config constraint) (choices sets) (none_all (has_config constraint) (choices sets) e) labels (In-choices labels sets chosen))
 
 -- ---- labels below a number
-label-none : (test : ℕ → Bool) (lo n : ℕ) → find test (count_from lo n) ≡ None → (x : ℕ) → lo ≤ x → x < lo + n → test x ≡ false
-label-none test lo zero e x low l = absurd (omega (arith, low, l))
-label-none test lo (suc n) e x low l = go (test lo) refl (label-none test (suc lo) n) e
-  where
-    at_or_past : (a b : ℕ) → a ≤ b → (a ≡ b) ⊎ (suc a ≤ b)
-    at_or_past a b h = grind arith
-
-    go : (b : Bool) → test lo ≡ b → (find test (count_from (suc lo) n) ≡ None → (y : ℕ) → suc lo ≤ y → y < suc lo + n → test y ≡ false) → (if b then Some lo else find test (count_from (suc lo) n)) ≡ None → test x ≡ false
-    go true t later e = absurd (cc)
-    go false t later e = elim (at_or_past lo x low) [
-      | inl same ↦ subst (λ y. test y ≡ false) same t
-      | inr past ↦ later e x past (omega (arith, l))
-    ]
-
 label-some : (test : ℕ → Bool) (lo n x : ℕ) → find test (count_from lo n) ≡ Some x → (x < lo + n) × (test x ≡ true)
 label-some test lo zero x e = absurd (cc)
 label-some test lo (suc n) x e = go (test lo) refl (label-some test (suc lo) n x) e
@@ -74,9 +61,6 @@ label-some test lo (suc n) x e = go (test lo) refl (label-some test (suc lo) n x
     go : (b : Bool) → test lo ≡ b → (find test (count_from (suc lo) n) ≡ Some x → (x < suc lo + n) × (test x ≡ true)) → (if b then Some lo else find test (count_from (suc lo) n)) ≡ Some x → (x < lo + suc n) × (test x ≡ true)
     go true t later e = let same : lo ≡ x = cc in (omega (arith, same), subst (λ y. test y ≡ true) same t)
     go false t later e = let (l, passes) = later e in (omega (arith, l), passes)
-
-pub first_label-none : (test : ℕ → Bool) (n : ℕ) → first_label test n ≡ None → (x : ℕ) → x < n → test x ≡ false
-first_label-none test n e x l = label-none test 0 n e x (omega arith) (omega (arith, l))
 
 pub first_label-some : (test : ℕ → Bool) (n x : ℕ) → first_label test n ≡ Some x → (x < n) × (test x ≡ true)
 first_label-some test n x e = let (l, passes) = label-some test 0 n x e in (omega (arith, l), passes)
@@ -119,7 +103,7 @@ module _ (passive : Constraint) (n : ℕ) (rows : List (List (List ℕ)))
       let all : first_from (extended_at passive n (0 + k) row) 0 row ≡ None = from-none (extended passive n) 0 rows none k row at in
       let zero_more : 0 + i ≡ i = omega arith in
       let fails : first_label (can_add passive row (0 + i)) n ≡ None = map-none (Extends (0 + k) (0 + i)) (first_label (can_add passive row (0 + i)) n) (from-none (extended_at passive n (0 + k) row) 0 row all i (set_at row i) (b, held_there row i b)) in
-      let can : can_add passive row i x ≡ false = subst (λ m. can_add passive row m x ≡ false) zero_more (first_label-none (can_add passive row (0 + i)) n fails x below) in
+      let can : can_add passive row i x ≡ false = subst (λ m. can_add passive row m x ≡ false) zero_more (label-none (can_add passive row (0 + i)) n fails x below) in
       has-IsIn (set_at row i) x (there (has (set_at row i) x) (is_good passive (added i x row)) refl can (IsGood-is_good passive (added i x row) is))
     where
       held_there : (row : List (List ℕ)) (i : ℕ) → i < length row → slice_index_or row i (set_at row i) ≡ set_at row i

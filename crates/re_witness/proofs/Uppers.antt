@@ -18,9 +18,11 @@ use Rattle.re_problem.specs.Steps.{SetEntry, entry_sets, set_for}
 use Rattle.re_entries.proofs.AllowedImages.{set_at-entry}
 use Rattle.re_entries.specs.StepClauses.{HasAllowedImages, HasGoodImages, HasNextLabels}
 use Rattle.re_maps.specs.Verdicts.{first_label, first_not_allowed, first_not_good}
+use Rattle.re_views.proofs.Preorder.{rising-count_from}
+use Rattle.re_maps.proofs.VerdictLaws.{label-none}
 use Rattle.re_witness.proofs.Found.{found_passes, none_all}
 use Rattle.re_witness.proofs.Giving.{gives-at_last, gives-or, map-none, map-some, unordered-rising, unordered-some}
-use Rattle.re_witness.proofs.Rows.{bad_shown, first_label-none, first_label-some, none_bad}
+use Rattle.re_witness.proofs.Rows.{bad_shown, first_label-some, none_bad}
 use Rattle.re_witness.specs.BadChoice.{first_bad}
 use Rattle.re_witness.specs.Finding.{bad_sets, bad_witness, empty_set, first_unordered, is_empty, label_witness, labels_ascend, labels_of, names_label, shut_witness}
 use Rattle.re_witness.specs.Laws.{Gives, LabelWitnessLaw, UpperWitnessLaw}
@@ -30,11 +32,6 @@ use Rattle.re_witness.specs.declared.witness.Witness.TheVariants.{BadSets, Empty
 
 -- ---- U2: the labels
 -- the numbers below n are those of a list that rises, is below n and has each of them
-rising-count : (lo n : ℕ) → IsRising (λ x y. x < y) (count_from lo n)
-rising-count lo zero = tt
-rising-count lo (suc zero) = tt
-rising-count lo (suc (suc n)) = (omega arith, rising-count (suc lo) (suc n))
-
 count-below : (lo n x : ℕ) → In x (count_from lo n) → x < lo + n
 count-below lo zero x i = absurd i
 count-below lo (suc n) x (inl e) = omega (arith, e)
@@ -49,7 +46,7 @@ below-count lo (suc n) x low l = elim (at_or_past lo x low) [ inl e ↦ inl (sym
 
 pub all_labels : (n : ℕ) (xs : List ℕ) → IsRising (λ x y. x < y) xs → AllByRecursion (λ x. x < n) xs → ((x : ℕ) → x < n → Contains xs x) → xs ≡ count_from 0 n
 all_labels n xs rises below each =
-    same_members (λ x y. x < y) (λ x y z h k. omega (arith, h, k)) (λ x h. omega (arith, h)) xs (count_from 0 n) rises (rising-count 0 n)
+    same_members (λ x y. x < y) (λ x y z h k. omega (arith, h, k)) (λ x h. omega (arith, h)) xs (count_from 0 n) rises (rising-count_from 0 n)
     (λ x i. below-count 0 n x (omega arith) (let l = AllByRecursion-contains (λ x. x < n) xs x below (In-Contains x xs i) in omega (arith, l)))
     (λ x i. let l = count-below 0 n x i in Contains-In x xs (each x (omega (arith, l))))
 
@@ -119,7 +116,7 @@ module _ (n : ℕ) (entries : List SetEntry) (below : AllByRecursion (λ (entry 
       gives-at_last (option_map EmptySet (empty_set entries)) P (λ w e. let (x, found, same) = map-some EmptySet (empty_set entries) w e in subst P same (empty_here x found)) (λ none.
       isnt (record {
         labels = all_labels n (labels_of entries) (rises entries (unordered-rising labels_ascend 0 entries (map-none LabelOrder (first_unordered labels_ascend 0 entries) order))) (all_below entries below)
-            (λ x l. named-is x (not-false (names_label entries x) (first_label-none (λ x. not (names_label entries x)) n (map-none MissingLabel missing whole) x l)));
+            (λ x l. named-is x (not-false (names_label entries x) (label-none (λ x. not (names_label entries x)) n (map-none MissingLabel missing whole) x l)));
         filled = filled entries (map-none (λ (entry : SetEntry). entry.label) (find is_empty entries) (map-none EmptySet (empty_set entries) none));
       }))))
 

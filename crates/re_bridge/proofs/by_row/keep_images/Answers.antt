@@ -1,4 +1,4 @@
-use Rattle.re_bridge.proofs.RowTests.{images-below, images-test}
+use Rattle.re_clauses.proofs.StepTests.{images-test, images-below}
 use Rattle.re_bridge.proofs.by_row.keep_images.Goals as goal
 
 pub returns-clause-test : goal.returns-clause-test

@@ -1,6 +1,6 @@
 use Rattle.std.proofs.Common.{◌≡◌, ◌∙◌, ◌<◌, length, map, subst, sym, ℕ}
 use Rattle.std.specs.List.{AllByRecursion}
-use Rattle.re_witness.proofs.Holding.{second_below}
+use Rattle.re_check.proofs.PairLists.{second_below}
 use Rattle.re_witness.proofs.end_witness.renaming_witness.Goals as goal
 
 pub renames-requires-clause-labels : goal.renames-requires-clause-labels

@@ -1,6 +1,6 @@
 use Rattle.std.proofs.Common.{◌≡◌, arith, length}
 use Rattle.re_entries.proofs.NextLabels.{next-count}
-use Rattle.re_witness.proofs.Holding.{known}
+use Rattle.re_clauses.proofs.StepTests.{known}
 use Rattle.re_witness.proofs.finding.shut_images.Goals as goal
 
 pub shut_witness-requires-clause-few : goal.shut_witness-requires-clause-few

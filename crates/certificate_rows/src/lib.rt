@@ -6,8 +6,6 @@ mod certificate_texts;
 #[cfg(test)]
 mod certificates;
 #[cfg(test)]
-mod entries;
-#[cfg(test)]
 mod lines;
 #[cfg(test)]
 mod searches;

@@ -18,7 +18,7 @@ colouring() {
     }'
 }
 
-for n in 4 5 6 7 8 11 12; do
+for n in 3 4 5 6 7 8 11 12; do
     colouring "$n" 3 2 > "$folder/colours-$n-edges.txt"
 done
 for n in 4 5 6 7 8; do

@@ -1,6 +1,7 @@
 #!/usr/bin/env bash
-# Prints the processor seconds (user) that each built program takes for each input: times.sh FOLDER PROGRAM..
-# The first program makes the certificates. A program that doesn't know a word or refuses an input answers at once.
+# Prints the processor seconds (user and system) that each built program takes for each input: times.sh FOLDER PROGRAM..
+# The first program makes the certificates. A program that doesn't know a word or refuses an input answers at once. RUNS says how many
+# runs the best is taken of, nine if it isn't set.
 set -eu
 
 folder=${1:?the folder to write into}
@@ -12,13 +13,13 @@ here=$(cd "$(dirname "$0")" && pwd)
 "$here/certificates.sh" "$1" "$folder"
 "$here/runs.sh" "$folder"
 
-# The best of three runs with this input.
+# The best of the runs with this input.
 seconds() {
     from=$1
     shift
-    for _ in 1 2 3; do
-        { TIMEFORMAT=%U; time "$@" < "$from" > "$folder/answer" 2>&1 || true; } 2>&1
-    done | sort -n | head -n 1
+    for _ in $(seq "${RUNS:-9}"); do
+        { TIMEFORMAT='%U %S'; time "$@" < "$from" > "$folder/answer" 2>&1 || true; } 2>&1
+    done | awk '{ printf "%.3f\n", $1 + $2 }' | sort -n | head -n 1
 }
 
 while read -r words; do
@@ -62,9 +63,12 @@ read 27-labels-descending.txt
 read 27-labels-scattered.txt
 diagram passive six-of-27.txt
 step 1 colours-7-edges.txt
+step 1 colours-7-triples.txt
 check colours-7-lower.txt
 upper 64 1 sinkless.txt
 lower 3 2 independent.txt
+fixed 3 2 independent.txt
+fixed 3 2 colours-3-edges.txt
 make 6 -
 make 7 -
 run run-4096.txt

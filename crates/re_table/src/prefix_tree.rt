@@ -192,18 +192,6 @@ pub fn gap_of(
     None
 }
 
-// One more node, for which there is room.
-fn push_node(nodes: &mut Vec<Node>, node: Node)
-    requires { vec_len nodes.old < vec_capacity nodes.old }
-    ensures items { nodes.new.items ≡ nodes.old.items ++ node ∷ [] }
-    ensures capacity { vec_capacity nodes.old ≤ vec_capacity nodes.new }
-{
-    match nodes.push(node) {
-        Ok(()) => {}
-        Err(_) => unreachable!(),
-    }
-}
-
 /// The new nodes on the way from a gap to a leaf with the configuration; the topmost is a sibling before `after`.
 fn add_way(nodes: &mut Vec<Node>, config: Config, depth: usize, parent: usize, after: usize)
     requires inside { depth < length config }
@@ -219,28 +207,22 @@ fn add_way(nodes: &mut Vec<Node>, config: Config, depth: usize, parent: usize, a
     for level in depth..last {
         let label = config.labels()[level];
         let first = nodes.len() as u32 + 1;
-        push_node(
-            nodes,
-            Node {
-                label,
-                next,
-                parent: above,
-                kind: Kind::Inner { first, leaves: 1 },
-            },
-        );
+        nodes.push_reserved(Node {
+            label,
+            next,
+            parent: above,
+            kind: Kind::Inner { first, leaves: 1 },
+        });
         above = first - 1;
         next = 0;
     }
     let label = config.labels()[last];
-    push_node(
-        nodes,
-        Node {
-            label,
-            next,
-            parent: above,
-            kind: Kind::Leaf(config),
-        },
-    );
+    nodes.push_reserved(Node {
+        label,
+        next,
+        parent: above,
+        kind: Kind::Leaf(config),
+    });
 }
 
 fn set_first(kind: &mut Kind, other: u32)
@@ -380,18 +362,15 @@ pub fn make_root(nodes: &mut Vec<Node>, degree: u8) -> Result<(), NoMemory>
 {
     if nodes.is_empty() {
         nodes.reserve(degree as usize + 1)?;
-        push_node(
-            nodes,
-            Node {
-                label: 0,
-                next: 0,
-                parent: 0,
-                kind: Kind::Inner {
-                    first: 0,
-                    leaves: 0,
-                },
+        nodes.push_reserved(Node {
+            label: 0,
+            next: 0,
+            parent: 0,
+            kind: Kind::Inner {
+                first: 0,
+                leaves: 0,
             },
-        );
+        });
     }
     Ok(())
 }

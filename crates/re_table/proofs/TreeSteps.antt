@@ -14,12 +14,13 @@ use Rattle.re_labels.proofs.Tests.{eqb-apart, eqb-same, eqb-true}
 use Rattle.re_labels.specs.ListSets.{list_set, with_list}
 use Rattle.re_table.proofs.TreeChanges.{length-new_inners, with_leaves-none}
 use Rattle.re_table.proofs.TreeGrowth.{IsTree-grown, begins-own, grown_key, none_counted, off_way, prefix_apart}
+use Rattle.re_table.proofs.PlacesUp.{length-places_up, up_same, up_way}
 use Rattle.re_table.proofs.TreeLeaves.{gap-new, reached}
 use Rattle.re_table.specs.declared.prefix_tree.Kind.{Kind}
 use Rattle.re_table.specs.declared.prefix_tree.Kind.TheVariants.{Inner, Leaf}
 use Rattle.re_table.specs.declared.prefix_tree.Node.{Node}
 use Rattle.re_table.specs.PrefixTrees.{IsBelow, IsPrefixTree, IsTable, IsTree, bare_root, begins, configs_of, held_configs, leaf_configs, leaves_of, node_at, prefix}
-use Rattle.re_table.specs.TreeGrowth.{IsFound, IsGrown, IsNewNode, linked, new_inner, new_inners, new_leaf, way_nodes, with_first, with_leaves}
+use Rattle.re_table.specs.TreeGrowth.{IsFound, IsGrown, IsNewNode, linked, new_inner, new_inners, new_leaf, places_up, way_nodes, with_first, with_leaves}
 use Rattle.re_labels.specs.declared.TheConstants.{MAX_LABELS}
 
 -- ---- the new nodes in their order
@@ -168,11 +169,14 @@ once_counted p (x ∷ xs) (suc j) l e one = sum_by-cons (λ x. cond (p x) 1 0) x
     by_test true h rest = absurd (let same : 0 ≡ suc j = one 0 (omega arith) h in omega arith)
     by_test false h rest = let number : Bool → ℕ = λ b. cond b 1 0 in ap (λ n. n + count_by p xs) (ap number h) ∙ zero-add (count_by p xs) ∙ rest
 
-module _ (nodes : List Node) (config way : List ℕ) (depth parent before after : ℕ) (found : IsFound nodes config way depth parent before after)
+module _ (nodes : List Node) (config : List ℕ) (depth parent before after : ℕ) (found : IsFound nodes config depth parent before after)
     (key : ℕ → List ℕ) (tree : IsTree (length config) nodes (held_configs nodes) key)
     (no_old : (j q : ℕ) → depth < j → q < length nodes → key q ≡ prefix config j → ⊥) where
-  on_way : (j : ℕ) → j < length way → (get_or way j 0 < length nodes) × (key (get_or way j 0) ≡ prefix config j)
-  on_way j l = ((found.above j l).0, (found.above j l).1 key tree)
+  abbrev pub way : List ℕ
+  way = places_up nodes parent (suc depth)
+
+  on_way : (j : ℕ) → j < length way → (get_or way j 0 < length nodes) × (key (get_or way j 0) ≡ prefix config (depth - j))
+  on_way j l = up_way (length config) nodes (held_configs nodes) key tree config parent depth found.parent_within (found.gap key tree).on_way j (subst (λ n. j < n) (length-places_up nodes parent (suc depth)) l)
 
   -- a place is on the way exactly where the configuration begins with its labels
   counted_old : (q : ℕ) → q < length nodes → count_by (λ p. p == q) way ≡ cond (begins (key q) config) 1 0
@@ -182,24 +186,28 @@ module _ (nodes : List Node) (config way : List ℕ) (depth parent before after 
       by_test true e =
           let number : Bool → ℕ = λ b. cond b 1 0 in
           let is : key q ≡ prefix config (length (key q)) = same_list-same (key q) (prefix config (length (key q))) e in
-          let count = found.count in
-          let short : length (key q) < length way = elim (three_ways depth (length (key q))) [
+          let count : length way ≡ suc depth = length-places_up nodes parent (suc depth) in
+          let low : length (key q) < suc depth = elim (three_ways depth (length (key q))) [
             | inl less ↦ absurd (no_old (length (key q)) q less l is)
             | inr (inl same) ↦ omega arith
             | inr (inr more) ↦ omega arith
           ] in
-          let there = on_way (length (key q)) short in
-          let at : get_or way (length (key q)) 0 ≡ q = tree.apart (get_or way (length (key q)) 0) q there.0 l (there.1 ∙ sym is) in
-          once_counted (λ p. p == q) way (length (key q)) short (ap (λ p. eqb p q) at ∙ eqb-same q)
-          (λ i low test. prefix_apart config i (length (key q)) (sym (on_way i low).1 ∙ ap key (eqb-true (get_or way i 0) q test) ∙ is))
+          let short : depth - length (key q) < length way = omega arith in
+          let back : depth - (depth - length (key q)) ≡ length (key q) = omega arith in
+          let there = on_way (depth - length (key q)) short in
+          let at : get_or way (depth - length (key q)) 0 ≡ q = tree.apart (get_or way (depth - length (key q)) 0) q there.0 l (there.1 ∙ ap (prefix config) back ∙ sym is) in
+          once_counted (λ p. p == q) way (depth - length (key q)) short (ap (λ p. eqb p q) at ∙ eqb-same q)
+          (λ i small test.
+          let equal : depth - i ≡ length (key q) = prefix_apart config (depth - i) (length (key q)) (sym (on_way i small).1 ∙ ap key (eqb-true (get_or way i 0) q test) ∙ is) in
+          omega (arith, equal, small, count))
           ∙ sym (ap number e)
       by_test false e =
           let number : Bool → ℕ = λ b. cond b 1 0 in
           none_counted (λ p. p == q) way (λ p held test.
           let i = held.0 in
           let place : get_or way i 0 ≡ q = get_or_default way i 0 p held.1 ∙ held.2 ∙ eqb-true p q test in
-          let is : key q ≡ prefix config i = ap key (sym place) ∙ (on_way i held.1).1 in
-          let begun : begins (key q) config ≡ true = ap (λ k. begins k config) is ∙ begins-own config i in
+          let is : key q ≡ prefix config (depth - i) = ap key (sym place) ∙ (on_way i held.1).1 in
+          let begun : begins (key q) config ≡ true = ap (λ k. begins k config) is ∙ begins-own config (depth - i) in
           cc) ∙ sym (ap number e)
 
   counted_new : (q : ℕ) → length nodes ≤ q → count_by (λ p. p == q) way ≡ 0
@@ -380,12 +388,12 @@ count-with_list p (k ∷ ks) c new =
     ]
 
 -- ---- the whole step
-module _ (nodes : List Node) (config way : List ℕ) (depth parent before after : ℕ) (filled : 0 < length nodes) (held_tree : IsPrefixTree (length config) nodes) (found : IsFound nodes config way depth parent before after) (low_labels : (j : ℕ) → j < length config → get_or config j 0 < MAX_LABELS)
+module _ (nodes : List Node) (config : List ℕ) (depth parent before after : ℕ) (filled : 0 < length nodes) (held_tree : IsPrefixTree (length config) nodes) (found : IsFound nodes config depth parent before after) (low_labels : (j : ℕ) → j < length config → get_or config j 0 < MAX_LABELS)
     (longer new : List Node) (is_longer : longer ≡ nodes ++ way_nodes config depth parent after (length nodes)) (same_length : length new ≡ length longer)
     (label : (q : ℕ) → (node_at new q).label ≡ (node_at (linked longer parent before (length nodes)) q).label)
     (next : (q : ℕ) → (node_at new q).next ≡ (node_at (linked longer parent before (length nodes)) q).next)
     (up : (q : ℕ) → (node_at new q).parent ≡ (node_at (linked longer parent before (length nodes)) q).parent)
-    (kind : (q : ℕ) → (node_at new q).kind ≡ with_leaves (node_at (linked longer parent before (length nodes)) q).kind (count_by (λ p. p == q) way)) where
+    (kind : (q : ℕ) → (node_at new q).kind ≡ with_leaves (node_at (linked longer parent before (length nodes)) q).kind (count_by (λ p. p == q) (places_up nodes parent (suc depth)))) where
   is_new : Contains (held_configs nodes) config → ⊥
   is_new = gap-new (length config) nodes held_tree.0 held_tree.1 config depth parent before after found.inside (found.gap held_tree.0 held_tree.1)
 
@@ -394,7 +402,7 @@ module _ (nodes : List Node) (config way : List ℕ) (depth parent before after 
       let e = ap length is_longer ∙ length-append nodes (way_nodes config depth parent after (length nodes)) in
       let p = found.parent_within in
       let b = found.before_within in
-      leaf_configs-written longer new way parent before (length nodes) (omega arith) (omega arith) same_length kind ∙ ap leaf_configs is_longer
+      leaf_configs-written longer new (places_up nodes parent (suc depth)) parent before (length nodes) (omega arith) (omega arith) same_length kind ∙ ap leaf_configs is_longer
       ∙ leaf_configs-append nodes (way_nodes config depth parent after (length nodes)) ∙ ap (λ l. leaf_configs nodes ++ l) (leaf_configs-way config depth parent after (length nodes))
 
   pub held-written : held_configs new ≡ with_list (held_configs nodes) config
@@ -405,7 +413,7 @@ module _ (nodes : List Node) (config way : List ℕ) (depth parent before after 
       let key = held_tree.0 in
       let tree = held_tree.1 in
       let gap = found.gap key tree in
-      let grown = IsGrown-written nodes config way depth parent before after found key tree
+      let grown = IsGrown-written nodes config depth parent before after found key tree
       (off_way (length config) nodes (held_configs nodes) key config depth parent before after tree gap) longer new is_longer same_length label next up kind in (
         grown_key key (length nodes) config depth,
         IsTree-grown (length config) nodes new (held_configs nodes) (held_configs new) key config depth parent before after filled tree gap grown found.inside refl low_labels
@@ -465,6 +473,24 @@ module _ (degree : ℕ) (nodes : List Node) (configs : List (List ℕ)) (key : �
               there =
                   let place : q ≡ length nodes + (q - length nodes) = omega arith in
                   (λ i. node_at (is i) (place i)) ∙ get_or-append-add nodes (way_nodes config depth parent after (length nodes)) (q - length nodes) bare_root
+
+-- the places above the gap are the same with the new nodes and the link
+pub up-linked : (nodes longer : List Node) (config : List ℕ) (depth parent before after : ℕ) → IsPrefixTree (length config) nodes → IsFound nodes config depth parent before after
+    → longer ≡ nodes ++ way_nodes config depth parent after (length nodes) → places_up (linked longer parent before (length nodes)) parent (suc depth) ≡ places_up nodes parent (suc depth)
+up-linked nodes longer config depth parent before after tree found is =
+    up_same (length config) nodes (held_configs nodes) tree.0 tree.1 config (linked longer parent before (length nodes))
+    (λ q l. linked-parent longer parent before (length nodes) (let p = found.parent_within in omega (arith, whole)) (let b = found.before_within in omega (arith, whole)) q
+    ∙ ap (λ (n : Node). n.parent) (ap (λ n. node_at n q) is ∙ get_or_append_left nodes (way_nodes config depth parent after (length nodes)) bare_root q l))
+    parent depth found.parent_within (found.gap tree.0 tree.1).on_way
+  where
+    whole : length longer ≡ length nodes + length (way_nodes config depth parent after (length nodes))
+    whole = ap length is ∙ length-append nodes (way_nodes config depth parent after (length nodes))
+
+-- each of them is there
+pub up-within : (nodes : List Node) (config : List ℕ) (depth parent before after : ℕ) → IsPrefixTree (length config) nodes → IsFound nodes config depth parent before after
+    → (j : ℕ) → j < suc depth → get_or (places_up nodes parent (suc depth)) j 0 < length nodes
+up-within nodes config depth parent before after tree found j l =
+    (up_way (length config) nodes (held_configs nodes) tree.0 tree.1 config parent depth found.parent_within (found.gap tree.0 tree.1).on_way j l).0
 
 -- what a slice of the whole vector wrote is the vector
 pub written_back : (n : ℕ) (new old : List Node) → n ≡ length new → take n (new ++ drop (length new) old) ≡ new

@@ -1,6 +1,6 @@
 //! The nodes of a prefix tree of configurations, in one vector.
 ghost use Rattle.re_table.specs.PrefixTrees.{IsInnerPlace, IsLink, IsPrefixTree, IsTable, IsTree, configs_of, first_of, held_configs, leaf_configs, leaves_of, node_at};
-ghost use Rattle.re_table.specs.TreeGrowth.{IsFound, linked, way_nodes, with_first, with_leaves};
+ghost use Rattle.re_table.specs.TreeGrowth.{IsFound, linked, places_up, way_nodes, with_first, with_leaves};
 ghost use Rattle.re_config.specs.Configs.{image_at, image_of};
 ghost use Rattle.re_labels.specs.ListSets.{with_list};
 ghost use Rattle.re_labels.specs.Sets.{IsLabelSet, has};
@@ -156,25 +156,18 @@ pub struct Gap {
     between: Between,
 }
 
-/// Goes down the way of the configuration and notes the inner places on it. None where it leads to a leaf. The trail says where
-/// to look first, and is the way then, as far as it went.
-pub fn gap_of(
-    nodes: &[Node],
-    config: &Config,
-    trail: &mut Trail,
-    way: &mut ArrayVec<usize, 6>,
-) -> Option<Gap>
+/// Goes down the way of the configuration. None where it leads to a leaf. The trail says where to look first, and is the way then,
+/// as far as it went.
+pub fn gap_of(nodes: &[Node], config: &Config, trail: &mut Trail) -> Option<Gap>
     requires tree { IsPrefixTree (length config.now) nodes.now }
     requires filled { 0 < length nodes.now }
-    requires empty { way.old.items ≡ [] }
     ensures { MatchOption result
         (Contains (held_configs nodes.now) config.now)
-        (λ gap. IsFound nodes.now config.now way.new.items gap.depth gap.parent gap.between.before gap.between.after) }
+        (λ gap. IsFound nodes.now config.now gap.depth gap.parent gap.between.before gap.between.after) }
 {
     let labels = config.labels();
     let mut place = 0;
     for depth in 0..labels.len() {
-        way.push(place);
         match child_of(nodes, place, labels[depth], trail.at(depth)) {
             Ok(child) => {
                 trail.note(depth, child);
@@ -256,24 +249,27 @@ fn link(nodes: &mut [Node], parent: usize, before: usize, start: u32)
     }
 }
 
-/// Counts one leaf more at each of the places.
-fn count_way(nodes: &mut [Node], way: &[usize])
-    requires within { (j : ℕ) → j < length way.now → slice_index_or way.now j 0 < length nodes.old }
-    requires fits { (q : ℕ) → leaves_of (node_at nodes.old q).kind + length way.now < 2 ^ 32 }
+/// Counts one leaf more at each of so many places, from this one up to parents.
+fn count_up(nodes: &mut [Node], start: usize, count: usize)
+    requires within { (j : ℕ) → j < count → slice_index_or (places_up nodes.old start count) j 0 < length nodes.old }
+    requires fits { (q : ℕ) → leaves_of (node_at nodes.old q).kind + count < 2 ^ 32 }
     ensures label { (q : ℕ) → (node_at nodes.new q).label ≡ (node_at nodes.old q).label }
     ensures next { (q : ℕ) → (node_at nodes.new q).next ≡ (node_at nodes.old q).next }
     ensures parent { (q : ℕ) → (node_at nodes.new q).parent ≡ (node_at nodes.old q).parent }
-    ensures kind { (q : ℕ) → (node_at nodes.new q).kind ≡ with_leaves (node_at nodes.old q).kind (count_by (λ p. p == q) way.now) }
+    ensures kind { (q : ℕ) → (node_at nodes.new q).kind ≡ with_leaves (node_at nodes.old q).kind (count_by (λ p. p == q) (places_up nodes.old start count)) }
 {
-    for place in way {
-        count_leaf(&mut nodes[*place].kind);
+    let mut at = start;
+    for _level in 0..count {
+        let up = nodes[at].parent as usize;
+        count_leaf(&mut nodes[at].kind);
+        at = up;
     }
 }
 
 /// Puts the configuration in at its gap, counted at the places above it.
-fn grow(nodes: &mut Vec<Node>, config: Config, gap: Gap, way: &[usize])
+fn grow(nodes: &mut Vec<Node>, config: Config, gap: Gap)
     requires tree { IsPrefixTree (length config) nodes.old.items }
-    requires found { IsFound nodes.old.items config way.now gap.depth gap.parent gap.between.before gap.between.after }
+    requires found { IsFound nodes.old.items config gap.depth gap.parent gap.between.before gap.between.after }
     requires room { vec_len nodes.old + length config ≤ vec_capacity nodes.old }
     requires few { vec_len nodes.old + length config < 2 ^ 32 }
     requires counted { length (held_configs nodes.old.items) + 7 < 2 ^ 32 }
@@ -286,7 +282,7 @@ fn grow(nodes: &mut Vec<Node>, config: Config, gap: Gap, way: &[usize])
     let start = nodes.len() as u32;
     add_way(nodes, config, gap.depth, gap.parent, gap.between.after);
     link(nodes.as_mut_slice(), gap.parent, gap.between.before, start);
-    count_way(nodes.as_mut_slice(), way);
+    count_up(nodes.as_mut_slice(), gap.parent, gap.depth + 1);
 }
 
 /// The child below which the leaf with this number lies, where leaves are counted below the parent, and its number there.
@@ -398,8 +394,7 @@ pub fn put(nodes: &mut Vec<Node>, config: Config, trail: &mut Trail) -> Result<b
     ensures err { OnErr result (held_configs nodes.new.items ≡ held_configs nodes.old.items) }
 {
     let labels = config.labels().len();
-    let mut way = ArrayVec::new();
-    let gap = match gap_of(nodes.as_slice(), &config, trail, &mut way) {
+    let gap = match gap_of(nodes.as_slice(), &config, trail) {
         None => return Ok(false),
         Some(gap) => gap,
     };
@@ -410,7 +405,7 @@ pub fn put(nodes: &mut Vec<Node>, config: Config, trail: &mut Trail) -> Result<b
         return Err(InsertFault::NoMemory);
     }
     note_new(trail, gap.depth, labels, nodes.len());
-    grow(nodes, config, gap, way.as_slice());
+    grow(nodes, config, gap);
     Ok(true)
 }
 
@@ -441,8 +436,7 @@ pub fn is_held(nodes: &[Node], config: &Config, trail: &mut Trail) -> bool
     if nodes.is_empty() {
         return false;
     }
-    let mut way = ArrayVec::new();
-    match gap_of(nodes, config, trail, &mut way) {
+    match gap_of(nodes, config, trail) {
         None => true,
         Some(_) => false,
     }

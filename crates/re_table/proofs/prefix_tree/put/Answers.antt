@@ -11,9 +11,9 @@ use Rattle.re_table.specs.declared.prefix_tree.Node.{Node}
 use Rattle.re_table.proofs.prefix_tree.put.Goals as goal
 use Rattle.re_table.specs.declared.constraint_table.TheConstants.{MAX_CONFIGURATIONS}
 
-absent : (nodes read : List Node) (config way : List ℕ) (depth parent before after : ℕ) → read ≡ nodes → IsPrefixTree (length config) nodes → IsFound read config way depth parent before after → Contains (held_configs nodes) config → ⊥
-absent nodes read config way depth parent before after same tree found =
-    let is : IsFound nodes config way depth parent before after = subst (λ l. IsFound l config way depth parent before after) same found in
+absent : (nodes read : List Node) (config : List ℕ) (depth parent before after : ℕ) → read ≡ nodes → IsPrefixTree (length config) nodes → IsFound read config depth parent before after → Contains (held_configs nodes) config → ⊥
+absent nodes read config depth parent before after same tree found =
+    let is : IsFound nodes config depth parent before after = subst (λ l. IsFound l config depth parent before after) same found in
     gap-new (length config) nodes tree.0 tree.1 config depth parent before after is.inside (is.gap tree.0 tree.1)
 
 pub returns-in-None-clause-held : goal.returns-in-None-clause-held
@@ -27,7 +27,7 @@ returns-then-leaf_count-eq-MAX_CONFIGURATIONS-clause-full c =
     let nodes = c.args.nodes.now.items in (
       λ _. (
         ap (λ l. length (held_configs l)) (sym c.as_slice-2.ensures.value) ∙ sym c.leaf_count.ensures ∙ c.if-leaf_count-eq-MAX_CONFIGURATIONS.true,
-        absent nodes c.as_slice.result.now c.args.config c.gap_of.new.way.items c.in-Some.gap.depth c.in-Some.gap.parent c.in-Some.gap.between.before c.in-Some.gap.between.after
+        absent nodes c.as_slice.result.now c.args.config c.in-Some.gap.depth c.in-Some.gap.parent c.in-Some.gap.between.before c.in-Some.gap.between.after
             c.as_slice.ensures.value c.requires.table.tree c.in-Some.ensures,
       ),
       λ _. refl,
@@ -39,7 +39,7 @@ returns-clause-table c =
     let count = ap (λ l. length (held_configs l)) c.as_slice-2.ensures.value in
     IsTable-more (length c.args.config) MAX_CONFIGURATIONS nodes c.grow.new.nodes.items c.args.config c.requires.table c.labels-labels.ensures.six
     (omega (arith, count, c.leaf_count.ensures, c.if-leaf_count-eq-MAX_CONFIGURATIONS.false, c.requires.table.few))
-    (absent nodes c.as_slice.result.now c.args.config c.gap_of.new.way.items c.in-Some.gap.depth c.in-Some.gap.parent c.in-Some.gap.between.before c.in-Some.gap.between.after
+    (absent nodes c.as_slice.result.now c.args.config c.in-Some.gap.depth c.in-Some.gap.parent c.in-Some.gap.between.before c.in-Some.gap.between.after
     c.as_slice.ensures.value c.requires.table.tree c.in-Some.ensures)
     c.grow.ensures.tree (c.grow.ensures.leaves ∙ ap (λ l. leaf_configs l ++ c.args.config ∷ []) c.in_default.ensures.items)
     (c.grow.ensures.held ∙ ap (λ l. with_list (held_configs l) c.args.config) c.in_default.ensures.items)
@@ -48,7 +48,7 @@ returns-clause-table c =
 pub returns-clause-is_new : goal.returns-clause-is_new
 returns-clause-is_new c =
     let nodes = c.args.nodes.now.items in (
-      λ _. absent nodes c.as_slice.result.now c.args.config c.gap_of.new.way.items c.in-Some.gap.depth c.in-Some.gap.parent c.in-Some.gap.between.before c.in-Some.gap.between.after
+      λ _. absent nodes c.as_slice.result.now c.args.config c.in-Some.gap.depth c.in-Some.gap.parent c.in-Some.gap.between.before c.in-Some.gap.between.after
           c.as_slice.ensures.value c.requires.table.tree c.in-Some.ensures,
       λ _. refl,
     )

@@ -176,7 +176,8 @@ module _ (nodes : List Node) (config : List ℕ) (depth parent before after : �
   way = places_up nodes parent (suc depth)
 
   on_way : (j : ℕ) → j < length way → (get_or way j 0 < length nodes) × (key (get_or way j 0) ≡ prefix config (depth - j))
-  on_way j l = up_way (length config) nodes (held_configs nodes) key tree config parent depth found.parent_within (found.gap key tree).on_way j (subst (λ n. j < n) (length-places_up nodes parent (suc depth)) l)
+  on_way j l = up_way (length config) nodes (held_configs nodes) key tree config parent depth (suc depth) found.parent_within (found.gap key tree).on_way j
+      (subst (λ n. j < n) (length-places_up nodes parent (suc depth)) l) (let e = length-places_up nodes parent (suc depth) in omega (arith, l, e))
 
   -- a place is on the way exactly where the configuration begins with its labels
   counted_old : (q : ℕ) → q < length nodes → count_by (λ p. p == q) way ≡ cond (begins (key q) config) 1 0
@@ -490,7 +491,7 @@ up-linked nodes longer config depth parent before after tree found is =
 pub up-within : (nodes : List Node) (config : List ℕ) (depth parent before after : ℕ) → IsPrefixTree (length config) nodes → IsFound nodes config depth parent before after
     → (j : ℕ) → j < suc depth → get_or (places_up nodes parent (suc depth)) j 0 < length nodes
 up-within nodes config depth parent before after tree found j l =
-    (up_way (length config) nodes (held_configs nodes) tree.0 tree.1 config parent depth found.parent_within (found.gap tree.0 tree.1).on_way j l).0
+    (up_way (length config) nodes (held_configs nodes) tree.0 tree.1 config parent depth (suc depth) found.parent_within (found.gap tree.0 tree.1).on_way j l (omega arith)).0
 
 -- what a slice of the whole vector wrote is the vector
 pub written_back : (n : ℕ) (new old : List Node) → n ≡ length new → take n (new ++ drop (length new) old) ≡ new

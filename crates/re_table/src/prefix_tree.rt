@@ -1,5 +1,5 @@
 //! The nodes of a prefix tree of configurations, in one vector.
-ghost use Rattle.re_table.specs.PrefixTrees.{IsInnerPlace, IsLink, IsPrefixTree, IsTable, IsTree, configs_of, first_of, held_configs, leaf_configs, leaves_of, node_at};
+ghost use Rattle.re_table.specs.PrefixTrees.{IsInnerPlace, IsLink, IsPrefixTree, IsTable, IsTree, configs_of, first_of, held_configs, leaf_configs, leaves_of, node_at, prefix};
 ghost use Rattle.re_table.specs.TreeGrowth.{IsFound, linked, places_up, way_nodes, with_first, with_leaves};
 ghost use Rattle.re_config.specs.Configs.{image_at, image_of};
 ghost use Rattle.re_labels.specs.ListSets.{with_list};
@@ -156,18 +156,76 @@ pub struct Gap {
     between: Between,
 }
 
-/// Goes down the way of the configuration. None where it leads to a leaf. The trail says where to look first, and is the way then,
-/// as far as it went.
-pub fn gap_of(nodes: &[Node], config: &Config, trail: &mut Trail) -> Option<Gap>
+/// A place on the way of a configuration, behind so many of its labels.
+#[derive(Clone, Copy)]
+pub struct Spot {
+    depth: usize,
+    place: usize,
+}
+
+// How many labels in front are the same.
+fn shared(labels: &[u8], others: &[u8]) -> usize
+    requires { length others.now ≡ length labels.now }
+    ensures most { result ≤ length labels.now }
+    ensures same { prefix labels.now result ≡ prefix others.now result }
+{
+    for place in 0..labels.len() {
+        if labels[place] != others[place] {
+            return place;
+        }
+    }
+    labels.len()
+}
+
+// The place so many steps up from this one.
+fn up_from(nodes: &[Node], start: usize, count: usize) -> usize
+    requires { (j : ℕ) → j < count + 1 → slice_index_or (places_up nodes.now start (count + 1)) j 0 < length nodes.now }
+    ensures { result ≡ slice_index_or (places_up nodes.now start (count + 1)) count 0 }
+{
+    let mut at = start;
+    for _level in 0..count {
+        at = nodes[at].parent as usize;
+    }
+    at
+}
+
+// Where the way of the configuration leaves that of the leaf nearby: the root, where there is no leaf nearby.
+fn meeting_of(nodes: &[Node], config: &Config, near: usize) -> Spot
     requires tree { IsPrefixTree (length config.now) nodes.now }
     requires filled { 0 < length nodes.now }
+    ensures within { result.place < length nodes.now }
+    ensures depth { result.depth ≤ length config.now }
+    ensures on_way { (key : ℕ → List ℕ) → IsTree (length config.now) nodes.now (held_configs nodes.now) key → key result.place ≡ prefix config.now result.depth }
+{
+    let root = Spot { depth: 0, place: 0 };
+    if near >= nodes.len() {
+        return root;
+    }
+    let Kind::Leaf(last) = &nodes[near].kind else {
+        return root;
+    };
+    let labels = config.labels();
+    let depth = shared(labels, last.labels());
+    Spot {
+        depth,
+        place: up_from(nodes, near, labels.len() - depth),
+    }
+}
+
+/// Goes down the way of the configuration from a place on it. None where it leads to a leaf. The trail says where to look first,
+/// and is the way then, as far as it went.
+pub fn gap_of(nodes: &[Node], config: &Config, from: Spot, trail: &mut Trail) -> Option<Gap>
+    requires tree { IsPrefixTree (length config.now) nodes.now }
+    requires within { from.place < length nodes.now }
+    requires depth { from.depth ≤ length config.now }
+    requires on_way { (key : ℕ → List ℕ) → IsTree (length config.now) nodes.now (held_configs nodes.now) key → key from.place ≡ prefix config.now from.depth }
     ensures { MatchOption result
         (Contains (held_configs nodes.now) config.now)
         (λ gap. IsFound nodes.now config.now gap.depth gap.parent gap.between.before gap.between.after) }
 {
     let labels = config.labels();
-    let mut place = 0;
-    for depth in 0..labels.len() {
+    let mut place = from.place;
+    for depth in from.depth..labels.len() {
         match child_of(nodes, place, labels[depth], trail.at(depth)) {
             Ok(child) => {
                 trail.note(depth, child);
@@ -394,7 +452,8 @@ pub fn put(nodes: &mut Vec<Node>, config: Config, trail: &mut Trail) -> Result<b
     ensures err { OnErr result (held_configs nodes.new.items ≡ held_configs nodes.old.items) }
 {
     let labels = config.labels().len();
-    let gap = match gap_of(nodes.as_slice(), &config, trail) {
+    let from = meeting_of(nodes.as_slice(), &config, trail.at(labels - 1));
+    let gap = match gap_of(nodes.as_slice(), &config, from, trail) {
         None => return Ok(false),
         Some(gap) => gap,
     };
@@ -436,7 +495,8 @@ pub fn is_held(nodes: &[Node], config: &Config, trail: &mut Trail) -> bool
     if nodes.is_empty() {
         return false;
     }
-    match gap_of(nodes, config, trail) {
+    let root = Spot { depth: 0, place: 0 };
+    match gap_of(nodes, config, root, trail) {
         None => true,
         Some(_) => false,
     }

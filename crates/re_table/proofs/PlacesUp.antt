@@ -22,17 +22,17 @@ places_up-next nodes at (suc (suc count)) zero l = refl
 places_up-next nodes at (suc (suc count)) (suc k) l = places_up-next nodes (node_at nodes at).parent (suc count) k (omega arith)
 
 module _ (degree : ℕ) (nodes : List Node) (configs : List (List ℕ)) (key : ℕ → List ℕ) (tree : IsTree degree nodes configs key) (config : List ℕ) where
+  pub below_root : (at d : ℕ) → key at ≡ prefix config (suc d) → 0 < at
+  below_root zero d on = absurd (let empty = tree.root in cc)
+  below_root (suc at) d on = omega arith
+
   -- the parent of a place on the way of a configuration
   pub parent_on_way : (at d : ℕ) → at < length nodes → key at ≡ prefix config (suc d) → ((node_at nodes at).parent < length nodes) × (key (node_at nodes at).parent ≡ prefix config d)
   parent_on_way at d l on =
-      let up = tree.parent at (some at on) l in
+      let up = tree.parent at (below_root at d on) l in
       let above : key up.0 ≡ prefix config d = tails (sym up.2 ∙ on) in
       (subst (λ p. p < length nodes) (sym up.3) up.1, ap key up.3 ∙ above)
     where
-      some : (at : ℕ) → key at ≡ prefix config (suc d) → 0 < at
-      some zero on = absurd (let empty = tree.root in cc)
-      some (suc at) on = omega arith
-
       tails : {x y : ℕ} {xs ys : List ℕ} → x ∷ xs ≡ y ∷ ys → xs ≡ ys
       tails e = cc
 

@@ -178,7 +178,7 @@ impl Constraint {
         if let Err(_) = make_root(&mut self.nodes, self.degree) {
             return Err(InsertFault::NoMemory);
         }
-        put(&mut self.nodes, config, &mut self.trail)
+        put(&mut self.nodes, &config, &mut self.trail)
     }
 
     /// The same constraint in memory of its own.

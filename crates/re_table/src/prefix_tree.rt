@@ -10,7 +10,7 @@ ghost use Rattle.std.specs.List.Sorted.{IsPermutation};
 ghost use Rattle.std.specs.Vec.{vec_capacity, vec_len};
 ghost use Rattle.re_table.specs.Renumbered.{node_image};
 ghost use Rattle.re_table.specs.TreeWalks.{IsMissing, IsWalked, precedes};
-ghost use Rattle.std.specs.Prelude.{◌≡◌, ◌<◌, ◌≤◌, ◌+◌, ◌^◌, ◌==◌, ◌∷◌, ◌++◌, [], ℕ, Contains, List, IfOk, IsTrue, MatchOption, MatchResult, OnErr, OnOk, ◌↔◌, true, count_by, map, length, slice_index_or};
+ghost use Rattle.std.specs.Prelude.{◌≡◌, ◌<◌, ◌≤◌, ◌+◌, ◌^◌, ◌==◌, ◌∷◌, ◌++◌, [], ℕ, Contains, List, IfOk, IfSome, IsTrue, MatchOption, MatchResult, OnErr, OnOk, ◌↔◌, true, count_by, map, length, slice_index_or};
 
 use crate::{InsertFault, MAX_CONFIGURATIONS};
 use arrayvec::ArrayVec;
@@ -244,13 +244,13 @@ pub fn gap_of(nodes: &[Node], config: &Config, from: Spot, trail: &mut Trail) ->
 }
 
 /// The new nodes on the way from a gap to a leaf with the configuration; the topmost is a sibling before `after`.
-fn add_way(nodes: &mut Vec<Node>, config: Config, depth: usize, parent: usize, after: usize)
-    requires inside { depth < length config }
-    requires room { vec_len nodes.old + length config ≤ vec_capacity nodes.old }
-    requires few { vec_len nodes.old + length config < 2 ^ 32 }
+fn add_way(nodes: &mut Vec<Node>, config: &Config, depth: usize, parent: usize, after: usize)
+    requires inside { depth < length config.now }
+    requires room { vec_len nodes.old + length config.now ≤ vec_capacity nodes.old }
+    requires few { vec_len nodes.old + length config.now < 2 ^ 32 }
     requires parent { parent < vec_len nodes.old }
     requires after { after < vec_len nodes.old }
-    ensures { nodes.new.items ≡ nodes.old.items ++ way_nodes config depth parent after (length nodes.old.items) }
+    ensures { nodes.new.items ≡ nodes.old.items ++ way_nodes config.now depth parent after (length nodes.old.items) }
 {
     let last = config.labels().len() - 1;
     let mut next = after as u32;
@@ -272,7 +272,7 @@ fn add_way(nodes: &mut Vec<Node>, config: Config, depth: usize, parent: usize, a
         label,
         next,
         parent: above,
-        kind: Kind::Leaf(config),
+        kind: Kind::Leaf(config.copy()),
     });
 }
 
@@ -325,16 +325,16 @@ fn count_up(nodes: &mut [Node], start: usize, count: usize)
 }
 
 /// Puts the configuration in at its gap, counted at the places above it.
-fn grow(nodes: &mut Vec<Node>, config: Config, gap: Gap)
-    requires tree { IsPrefixTree (length config) nodes.old.items }
-    requires found { IsFound nodes.old.items config gap.depth gap.parent gap.between.before gap.between.after }
-    requires room { vec_len nodes.old + length config ≤ vec_capacity nodes.old }
-    requires few { vec_len nodes.old + length config < 2 ^ 32 }
+fn grow(nodes: &mut Vec<Node>, config: &Config, gap: Gap)
+    requires tree { IsPrefixTree (length config.now) nodes.old.items }
+    requires found { IsFound nodes.old.items config.now gap.depth gap.parent gap.between.before gap.between.after }
+    requires room { vec_len nodes.old + length config.now ≤ vec_capacity nodes.old }
+    requires few { vec_len nodes.old + length config.now < 2 ^ 32 }
     requires counted { length (held_configs nodes.old.items) + 7 < 2 ^ 32 }
-    ensures tree { IsPrefixTree (length config) nodes.new.items }
-    ensures leaves { leaf_configs nodes.new.items ≡ leaf_configs nodes.old.items ++ config ∷ [] }
-    ensures held { held_configs nodes.new.items ≡ with_list (held_configs nodes.old.items) config }
-    ensures len { vec_len nodes.new ≤ vec_len nodes.old + length config }
+    ensures tree { IsPrefixTree (length config.now) nodes.new.items }
+    ensures leaves { leaf_configs nodes.new.items ≡ leaf_configs nodes.old.items ++ config.now ∷ [] }
+    ensures held { held_configs nodes.new.items ≡ with_list (held_configs nodes.old.items) config.now }
+    ensures len { vec_len nodes.new ≤ vec_len nodes.old + length config.now }
 {
     let _labels = config.labels();
     let start = nodes.len() as u32;
@@ -431,29 +431,75 @@ pub fn make_root(nodes: &mut Vec<Node>, degree: u8) -> Result<(), NoMemory>
 
 // The trail of a way that goes on with new nodes, which lie from this place on.
 fn note_new(trail: &mut Trail, depth: usize, labels: usize, start: usize)
-    requires { labels ≤ 6 }
+    requires some { 0 < labels }
+    requires most { labels ≤ 6 }
 {
     let mut place = start;
-    for level in depth..labels {
+    for level in depth..labels - 1 {
         trail.note(level, place);
         place = place.wrapping_add(1);
     }
+    trail.note(labels - 1, place);
+}
+
+// The gap behind the leaf nearby, where the configuration differs from it in the last label alone, which is higher, and there is
+// no sibling behind it. Where configurations come in ascending order, that is what most of them find.
+fn gap_behind(nodes: &[Node], config: &Config, near: usize) -> Option<Gap>
+    requires { IsPrefixTree (length config.now) nodes.now }
+    ensures { IfSome result (λ gap. IsFound nodes.now config.now gap.depth gap.parent gap.between.before gap.between.after) }
+{
+    if near >= nodes.len() {
+        return None;
+    }
+    let node = &nodes[near];
+    let Kind::Leaf(other) = &node.kind else {
+        return None;
+    };
+    let labels = config.labels();
+    let last = labels.len() - 1;
+    if node.next != 0 || node.label >= labels[last] || shared(labels, other.labels()) != last {
+        return None;
+    }
+    Some(Gap {
+        depth: last,
+        parent: node.parent as usize,
+        between: Between {
+            before: near,
+            after: 0,
+        },
+    })
+}
+
+// The gap of the configuration, or None where it is held. The trail, which begins as the way of a leaf nearby, is its own way then, as
+// far as it went down.
+fn gap_near(nodes: &[Node], config: &Config, trail: &mut Trail) -> Option<Gap>
+    requires tree { IsPrefixTree (length config.now) nodes.now }
+    requires filled { 0 < length nodes.now }
+    ensures { MatchOption result
+        (Contains (held_configs nodes.now) config.now)
+        (λ gap. IsFound nodes.now config.now gap.depth gap.parent gap.between.before gap.between.after) }
+{
+    let near = trail.at(config.labels().len() - 1);
+    if let Some(gap) = gap_behind(nodes, config, near) {
+        return Some(gap);
+    }
+    let from = meeting_of(nodes, config, near);
+    gap_of(nodes, config, from, trail)
 }
 
 /// Puts the configuration in. It makes room for the whole way first, so that want of memory changes nothing. The trail is its way
 /// then.
-pub fn put(nodes: &mut Vec<Node>, config: Config, trail: &mut Trail) -> Result<bool, InsertFault>
-    requires table { IsTable (length config) MAX_CONFIGURATIONS nodes.old.items }
+pub fn put(nodes: &mut Vec<Node>, config: &Config, trail: &mut Trail) -> Result<bool, InsertFault>
+    requires table { IsTable (length config.now) MAX_CONFIGURATIONS nodes.old.items }
     requires filled { 0 < length nodes.old.items }
-    ensures table { IsTable (length config) MAX_CONFIGURATIONS nodes.new.items }
-    ensures held { OnOk result (held_configs nodes.new.items ≡ with_list (held_configs nodes.old.items) config) }
-    ensures is_new { IfOk result (λ is_new. IsTrue is_new ↔ (Contains (held_configs nodes.old.items) config → ⊥)) }
-    ensures full { (result ≡ Err InsertFault.TooManyConfigurations) ↔ ((length (held_configs nodes.old.items) ≡ MAX_CONFIGURATIONS) × (Contains (held_configs nodes.old.items) config → ⊥)) }
+    ensures table { IsTable (length config.now) MAX_CONFIGURATIONS nodes.new.items }
+    ensures held { OnOk result (held_configs nodes.new.items ≡ with_list (held_configs nodes.old.items) config.now) }
+    ensures is_new { IfOk result (λ is_new. IsTrue is_new ↔ (Contains (held_configs nodes.old.items) config.now → ⊥)) }
+    ensures full { (result ≡ Err InsertFault.TooManyConfigurations) ↔ ((length (held_configs nodes.old.items) ≡ MAX_CONFIGURATIONS) × (Contains (held_configs nodes.old.items) config.now → ⊥)) }
     ensures err { OnErr result (held_configs nodes.new.items ≡ held_configs nodes.old.items) }
 {
     let labels = config.labels().len();
-    let from = meeting_of(nodes.as_slice(), &config, trail.at(labels - 1));
-    let gap = match gap_of(nodes.as_slice(), &config, from, trail) {
+    let gap = match gap_near(nodes.as_slice(), config, trail) {
         None => return Ok(false),
         Some(gap) => gap,
     };

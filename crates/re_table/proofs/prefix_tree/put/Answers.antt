@@ -5,7 +5,7 @@ use Rattle.re_labels.specs.ListSets.{with_list}
 use Rattle.re_labels.proofs.Searching.{with_list-held}
 use Rattle.re_table.proofs.TreeLeaves.{gap-new}
 use Rattle.re_table.proofs.TreeSteps.{IsTable-more}
-use Rattle.re_table.specs.PrefixTrees.{IsPrefixTree, IsTree, held_configs, leaf_configs}
+use Rattle.re_table.specs.PrefixTrees.{IsPrefixTree, held_configs, leaf_configs}
 use Rattle.re_table.specs.TreeGrowth.{IsFound}
 use Rattle.re_table.specs.declared.prefix_tree.Node.{Node}
 use Rattle.re_table.proofs.prefix_tree.put.Goals as goal
@@ -16,23 +16,19 @@ absent nodes read config depth parent before after same tree found =
     let is : IsFound nodes config depth parent before after = subst (λ l. IsFound l config depth parent before after) same found in
     gap-new (length config) nodes tree.0 tree.1 config depth parent before after is.inside (is.gap tree.0 tree.1)
 
-pub gap_of-requires-clause-on_way : goal.gap_of-requires-clause-on_way
-gap_of-requires-clause-on_way c key tree =
-    c.meeting_of-from.ensures.on_way key (subst (λ l. IsTree (length c.args.config) l (held_configs l) key) (c.as_slice-2.ensures.value ∙ sym c.as_slice.ensures.value) tree)
-
 pub returns-in-None-clause-held : goal.returns-in-None-clause-held
 returns-in-None-clause-held c =
     let nodes = c.args.nodes.now.items in
-    sym (with_list-held (held_configs nodes) c.args.config (rising-list_set (leaf_configs nodes)) (subst (λ l. Contains (held_configs l) c.args.config) c.as_slice-2.ensures.value c.in-None.ensures))
+    sym (with_list-held (held_configs nodes) c.args.config.now (rising-list_set (leaf_configs nodes)) (subst (λ l. Contains (held_configs l) c.args.config.now) c.as_slice.ensures.value c.in-None.ensures))
 
 pub returns-then-leaf_count-eq-MAX_CONFIGURATIONS-clause-full :
     goal.returns-then-leaf_count-eq-MAX_CONFIGURATIONS-clause-full
 returns-then-leaf_count-eq-MAX_CONFIGURATIONS-clause-full c =
     let nodes = c.args.nodes.now.items in (
       λ _. (
-        ap (λ l. length (held_configs l)) (sym c.as_slice-3.ensures.value) ∙ sym c.leaf_count.ensures ∙ c.if-leaf_count-eq-MAX_CONFIGURATIONS.true,
-        absent nodes c.as_slice-2.result.now c.args.config c.in-Some.gap.depth c.in-Some.gap.parent c.in-Some.gap.between.before c.in-Some.gap.between.after
-            c.as_slice-2.ensures.value c.requires.table.tree c.in-Some.ensures,
+        ap (λ l. length (held_configs l)) (sym c.as_slice-2.ensures.value) ∙ sym c.leaf_count.ensures ∙ c.if-leaf_count-eq-MAX_CONFIGURATIONS.true,
+        absent nodes c.as_slice.result.now c.args.config.now c.in-Some.gap.depth c.in-Some.gap.parent c.in-Some.gap.between.before c.in-Some.gap.between.after
+            c.as_slice.ensures.value c.requires.table.tree c.in-Some.ensures,
       ),
       λ _. refl,
     )
@@ -40,19 +36,19 @@ returns-then-leaf_count-eq-MAX_CONFIGURATIONS-clause-full c =
 pub returns-clause-table : goal.returns-clause-table
 returns-clause-table c =
     let nodes = c.args.nodes.now.items in
-    let count = ap (λ l. length (held_configs l)) c.as_slice-3.ensures.value in
-    IsTable-more (length c.args.config) MAX_CONFIGURATIONS nodes c.grow.new.nodes.items c.args.config c.requires.table c.labels-labels.ensures.six
+    let count = ap (λ l. length (held_configs l)) c.as_slice-2.ensures.value in
+    IsTable-more (length c.args.config.now) MAX_CONFIGURATIONS nodes c.grow.new.nodes.items c.args.config.now c.requires.table c.labels-labels.ensures.six
     (omega (arith, count, c.leaf_count.ensures, c.if-leaf_count-eq-MAX_CONFIGURATIONS.false, c.requires.table.few))
-    (absent nodes c.as_slice-2.result.now c.args.config c.in-Some.gap.depth c.in-Some.gap.parent c.in-Some.gap.between.before c.in-Some.gap.between.after
-    c.as_slice-2.ensures.value c.requires.table.tree c.in-Some.ensures)
-    c.grow.ensures.tree (c.grow.ensures.leaves ∙ ap (λ l. leaf_configs l ++ c.args.config ∷ []) c.in_default.ensures.items)
-    (c.grow.ensures.held ∙ ap (λ l. with_list (held_configs l) c.args.config) c.in_default.ensures.items)
+    (absent nodes c.as_slice.result.now c.args.config.now c.in-Some.gap.depth c.in-Some.gap.parent c.in-Some.gap.between.before c.in-Some.gap.between.after
+    c.as_slice.ensures.value c.requires.table.tree c.in-Some.ensures)
+    c.grow.ensures.tree (c.grow.ensures.leaves ∙ ap (λ l. leaf_configs l ++ c.args.config.now ∷ []) c.in_default.ensures.items)
+    (c.grow.ensures.held ∙ ap (λ l. with_list (held_configs l) c.args.config.now) c.in_default.ensures.items)
     (omega (arith, c.grow.ensures.len, c.in_default.ensures.len, c.grow.new.nodes.ok.0, c.args.nodes.now.ok.0))
 
 pub returns-clause-is_new : goal.returns-clause-is_new
 returns-clause-is_new c =
     let nodes = c.args.nodes.now.items in (
-      λ _. absent nodes c.as_slice-2.result.now c.args.config c.in-Some.gap.depth c.in-Some.gap.parent c.in-Some.gap.between.before c.in-Some.gap.between.after
-          c.as_slice-2.ensures.value c.requires.table.tree c.in-Some.ensures,
+      λ _. absent nodes c.as_slice.result.now c.args.config.now c.in-Some.gap.depth c.in-Some.gap.parent c.in-Some.gap.between.before c.in-Some.gap.between.after
+          c.as_slice.ensures.value c.requires.table.tree c.in-Some.ensures,
       λ _. refl,
     )

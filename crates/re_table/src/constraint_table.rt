@@ -197,8 +197,8 @@ impl Constraint {
     }
 
     /// The constraint with the images of the configurations, each once, where `images` has the images of
-    /// all labels in order. The images are sorted first, so that n of them cost about n log n, and go in
-    /// in ascending order.
+    /// all labels in order. They go in in the order of the leaves, or the other way round where that falls,
+    /// so that most come right behind the one before where the images of the labels rise or fall.
     pub fn image(&self, images: &[u8]) -> Result<Constraint, NoMemory>
         requires known { AllByRecursion (AllByRecursion (λ label. label < length images.now)) self.now.configs }
         requires below { AllByRecursion (λ image. image < MAX_LABELS) images.now }

@@ -581,16 +581,16 @@ pub fn renumber_nodes(nodes: &mut [Node], images: &[u8])
     }
 }
 
-// Whether the last one comes after the first one.
-fn is_rising(all: &[Config]) -> bool {
+// Whether the last one comes before the first one.
+fn is_falling(all: &[Config]) -> bool {
     match all {
-        [first, .., last] => first < last,
+        [first, .., last] => last < first,
         _ => false,
     }
 }
 
-/// The images of the configurations in the order of their leaves, turned where that rises: so most come before those in front of
-/// them, and stand in the first place of their siblings when they are put into a tree one after another.
+/// The images of the configurations in the order of their leaves, turned where that falls: so most come after those in front of
+/// them, which a tree takes soonest when they are put into it one after another.
 pub fn leaf_images(alloc: Global, nodes: &[Node], images: &[u8]) -> Result<Vec<Config>, NoMemory>
     requires known { AllByRecursion (AllByRecursion (λ label. label < length images.now)) (leaf_configs nodes.now) }
     requires below { AllByRecursion (λ image. image < MAX_LABELS) images.now }
@@ -602,7 +602,7 @@ pub fn leaf_images(alloc: Global, nodes: &[Node], images: &[u8]) -> Result<Vec<C
             all.push(config.image(images))?;
         }
     }
-    if is_rising(all.as_slice()) {
+    if is_falling(all.as_slice()) {
         all.as_mut_slice().reverse();
     }
     Ok(all)

@@ -7,10 +7,10 @@ use Rattle.std.proofs.Common.{rules, ◌++◌, ◌∷◌, ◌<◌, [], ◌∙◌
 
 pub insert-requires : goal.insert-requires
 insert-requires c =
-    ap length c.with_last.ensures ∙ length-sorted (c.args.first.now ++ c.args.last ∷ []) ∙ longer_by_one c.args.first.now (c.args.first.now ++ c.args.last ∷ []) c.args.last refl ∙ c.requires.fit
+    ap length c.multiset.ensures ∙ length-sorted (c.args.first.now ++ c.args.last ∷ []) ∙ longer_by_one c.args.first.now (c.args.first.now ++ c.args.last ∷ []) c.args.last refl ∙ c.requires.fit
 
 pub returns-in-Err-TooManyConfigurations-clause-many :
     goal.returns-in-Err-TooManyConfigurations-clause-many
 returns-in-Err-TooManyConfigurations-clause-many c = λ _.
     let full = c.in-Err-TooManyConfigurations.ensures.full.0 (search rules) in
-    subst (λ config. MAX_CONFIGURATIONS < length (with_list c.args.found.now.configs config)) c.with_last.ensures (one_too_many MAX_CONFIGURATIONS c.args.found.now.configs c.with_last.result full.0 full.1)
+    subst (λ config. MAX_CONFIGURATIONS < length (with_list c.args.found.now.configs config)) c.multiset.ensures (one_too_many MAX_CONFIGURATIONS c.args.found.now.configs c.multiset.result full.0 full.1)

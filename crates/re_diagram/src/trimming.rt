@@ -8,7 +8,7 @@ ghost use Rattle.std.specs.Prelude.{◌≡◌, ◌≤◌, ◌<◌, ◌↔◌, �
 
 use crate::merging::cover_sets;
 use arrayvec::ArrayVec;
-use re_changes::{constraint_without, number_among, renumbered};
+use re_changes::{number_among, renumbered_without};
 use re_labels::{MAX_LABELS, NoMemory};
 use re_problem::Problem;
 use std::alloc::Global;
@@ -59,18 +59,9 @@ fn without(alloc: Global, problem: &Problem, label: u8) -> Result<Problem, NoMem
     ensures { IfOk result (λ rest. rest ≡ named_without label problem.now) }
 {
     let labels = problem.names().len() as u8;
-    let active = constraint_without(alloc, problem.active(), label)?;
-    let passive = constraint_without(alloc, problem.passive(), label)?;
     let stay = all_but(label, labels);
     let images = numbers_among(stay.as_slice(), labels);
-    renumbered(
-        alloc,
-        problem.names(),
-        &active,
-        &passive,
-        stay.as_slice(),
-        images.as_slice(),
-    )
+    renumbered_without(alloc, problem, label, stay.as_slice(), images.as_slice())
 }
 
 // The problem after so many steps, each of which leaves out the least covered label, as long as there is one.

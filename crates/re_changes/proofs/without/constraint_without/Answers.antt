@@ -1,5 +1,4 @@
-use Rattle.std.proofs.Common.{◌≡◌, ◌<◌, ◌+◌, [], Err, ap, arith, length, sym, ◌∙◌}
-use Rattle.re_config.proofs.Replacing.{has-support_of}
+use Rattle.std.proofs.Common.{◌≡◌, ◌+◌, [], Err, ap, arith, length, sym, ◌∙◌}
 use Rattle.re_labels.specs.ListSets.{with_list}
 use Rattle.re_labels.specs.Sets.{has}
 use Rattle.re_table.proofs.Insertions.{length-with_list_most}
@@ -22,14 +21,14 @@ loop-config-preserved-in-Ok c =
     let so_far = c.loop-config.invariant.1 in
     let config = c.in-Some.config.now in
     let step = walked-more c.args.constraint.now.configs place [] config c.next.new.self (sym so_far.left ∙ c.in-Some.ensures.steps) in
-    let at : has config c.args.label ≡ c.has.result =
-    sym (has-support_of config c.args.label) ∙ ap (λ s. has s c.args.label) (sym c.support.ensures) ∙ sym c.has.ensures in (
+    let at : has config c.args.label ≡ c.contains.result =
+    ap (λ labels. has labels c.args.label) (sym c.labels.ensures.labels) ∙ sym c.contains.ensures.value in (
       place + 1,
       record {
         left = step.2;
         degree = c.insert.ensures.degree ∙ so_far.degree;
         configs = c.in-Ok.ensures.configs ∙ ap (with_list c.loop-config.rest.configs) c.copy.ensures
-            ∙ without-step c.args.label c.args.constraint.now.configs c.loop-config.rest.configs place config step.0 step.1 (at ∙ c.if-not-has.true) so_far.configs;
+            ∙ without-step c.args.label c.args.constraint.now.configs c.loop-config.rest.configs place config step.0 step.1 (at ∙ c.if-not-contains.true) so_far.configs;
         few = omega (arith, ap length c.in-Ok.ensures.configs, length-with_list_most c.loop-config.rest.configs c.copy.result, so_far.few);
       },
     )
@@ -40,13 +39,13 @@ loop-config-preserved c =
     let so_far = c.loop-config.invariant.1 in
     let config = c.in-Some.config.now in
     let step = walked-more c.args.constraint.now.configs place [] config c.next.new.self (sym so_far.left ∙ c.in-Some.ensures.steps) in
-    let at : has config c.args.label ≡ c.has.result =
-    sym (has-support_of config c.args.label) ∙ ap (λ s. has s c.args.label) (sym c.support.ensures) ∙ sym c.has.ensures in (
+    let at : has config c.args.label ≡ c.contains.result =
+    ap (λ labels. has labels c.args.label) (sym c.labels.ensures.labels) ∙ sym c.contains.ensures.value in (
       place + 1,
       record {
         left = step.2;
         degree = so_far.degree;
-        configs = without-passed c.args.label c.args.constraint.now.configs c.loop-config.rest.configs place config step.0 step.1 (at ∙ c.if-not-has.false) so_far.configs;
+        configs = without-passed c.args.label c.args.constraint.now.configs c.loop-config.rest.configs place config step.0 step.1 (at ∙ c.if-not-contains.false) so_far.configs;
         few = omega (arith, so_far.few);
       },
     )

@@ -110,14 +110,18 @@ fn without(alloc: Global, problem: &Problem, label: u8) -> Result<Problem, NoMem
 
 // The problem after so many steps, each of which leaves out the least covered label, as long as there is one.
 fn trimmed(alloc: Global, problem: &Problem, steps: usize) -> Result<Problem, NoMemory>
+    requires { length problem.now.names ≤ steps }
     ensures { IfOk result (λ rest. rest ≡ trimmed steps problem.now) }
 {
-    let mut rest = problem.copy()?;
     let mut known = Known {
         covers: ArrayVec::new(),
         passed: 0,
     };
-    for _done in 0..steps {
+    let Some(first) = next_covered(problem, &mut known) else {
+        return problem.copy();
+    };
+    let mut rest = without(alloc, problem, first)?;
+    for _done in 1..steps {
         let Some(label) = next_covered(&rest, &mut known) else {
             return Ok(rest);
         };

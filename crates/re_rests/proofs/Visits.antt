@@ -2,7 +2,6 @@
 use Rattle.std.proofs.Common.{◌≡◌, ◌∷◌, ◌++◌, ◌∙◌, ◌+◌, ℕ, suc, ◌<◌, ◌≤◌, max, List, [], length, get_or, refl, sym, ap, subst, arith, inl, inr, ◌⊎◌, append_assoc, length-append, map, take, drop}
 use Rattle.std.specs.Prelude.{Contains, ◌↔◌}
 use Rattle.std.specs.List.{AllByRecursion}
-use Rattle.std.proofs.lemmas.Bool.Decides.{leb_tells}
 use Rattle.std.proofs.lemmas.List.{get_or_past}
 use Rattle.std.specs.List.{refill}
 use Rattle.re_config.proofs.Rearranging.{Rearranged-refl, Rearranged-sym}
@@ -537,7 +536,7 @@ narrowed-up_sets constraint is n old new few e len sets narrowed = same_lists ne
         one_set = same_labels (get_or new k []) (up_set (constraint_of constraint) k n) new_set.0 up_set_set.0 (IsWithin-Sub (get_or new k []) (up_set (constraint_of constraint) k n) to) (IsWithin-Sub (up_set (constraint_of constraint) k n) (get_or new k []) from)
 
 -- what is written back, where the number stays
-pub refilled : (old new : List (List ℕ)) → length new ≡ length old → refill (length old) old new ≡ new
+pub refilled : {X : Type 0} (old new : List X) → length new ≡ length old → refill (length old) old new ≡ new
 refilled old new e = ap (λ n. take n (new ++ drop (length new) old)) (sym e) ∙ take_front new (drop (length new) old)
 
 -- where no set has another label than its own, no rest narrows them

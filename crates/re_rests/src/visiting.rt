@@ -72,29 +72,27 @@ fn is_next(constraint: &Constraint, nodes: &[Node], depth: usize, span: Branches
     }
 }
 
-// The candidates with this label next, and what is behind it; and all candidates with what comes after it.
+// The candidates with this label next, and what is behind it. All candidates keep what comes after it.
 fn part(
     constraint: &Constraint,
     nodes: &[Node],
     depth: usize,
-    candidates: &[Candidate],
+    candidates: &mut [Candidate],
     label: u8,
     below: &mut ArrayVec<Candidate, 128>,
-    after: &mut ArrayVec<Candidate, 128>,
 )
     requires depth { depth < constraint.now.degree }
-    requires candidates { AreSpans (tree_of constraint.now nodes.now) depth candidates.now }
-    requires few { length candidates.now ≤ MAX_LABELS }
-    requires least { (x other : ℕ) (ending : List ℕ) → Fits (tree_of constraint.now nodes.now) depth candidates.now x (other ∷ ending) → label ≤ other }
+    requires candidates { AreSpans (tree_of constraint.now nodes.now) depth candidates.old }
+    requires few { length candidates.old ≤ MAX_LABELS }
+    requires least { (x other : ℕ) (ending : List ℕ) → Fits (tree_of constraint.now nodes.now) depth candidates.old x (other ∷ ending) → label ≤ other }
     requires below { below.old.items ≡ [] }
-    requires after { after.old.items ≡ [] }
-    ensures few_below { length below.new.items ≤ length candidates.now }
-    ensures few_after { length after.new.items ≤ length candidates.now }
+    ensures few_below { length below.new.items ≤ length candidates.old }
+    ensures few_after { length candidates.new ≤ length candidates.old }
     ensures spans_below { AreSpans (tree_of constraint.now nodes.now) (depth + 1) below.new.items }
     ensures filled_below { AreFilled (tree_of constraint.now nodes.now) (depth + 1) below.new.items }
-    ensures spans_after { AreSpans (tree_of constraint.now nodes.now) depth after.new.items }
-    ensures below { (x : ℕ) (ending : List ℕ) → Fits (tree_of constraint.now nodes.now) (depth + 1) below.new.items x ending ↔ Fits (tree_of constraint.now nodes.now) depth candidates.now x (label ∷ ending) }
-    ensures after { (x other : ℕ) (ending : List ℕ) → Fits (tree_of constraint.now nodes.now) depth after.new.items x (other ∷ ending) ↔ ((label < other) × Fits (tree_of constraint.now nodes.now) depth candidates.now x (other ∷ ending)) }
+    ensures spans_after { AreSpans (tree_of constraint.now nodes.now) depth candidates.new }
+    ensures below { (x : ℕ) (ending : List ℕ) → Fits (tree_of constraint.now nodes.now) (depth + 1) below.new.items x ending ↔ Fits (tree_of constraint.now nodes.now) depth candidates.old x (label ∷ ending) }
+    ensures after { (x other : ℕ) (ending : List ℕ) → Fits (tree_of constraint.now nodes.now) depth candidates.new x (other ∷ ending) ↔ ((label < other) × Fits (tree_of constraint.now nodes.now) depth candidates.old x (other ∷ ending)) }
 {
     for place in 0..candidates.len() {
         let candidate = candidates[place];
@@ -104,12 +102,10 @@ fn part(
                 label: candidate.label,
                 span: parts.below,
             });
-            after.push(Candidate {
+            candidates[place] = Candidate {
                 label: candidate.label,
                 span: parts.after,
-            });
-        } else {
-            after.push(candidate);
+            };
         }
     }
 }
@@ -285,6 +281,7 @@ fn visit(
         return;
     }
     let mut waiting = copied(candidates);
+    let mut below: ArrayVec<Candidate, 128> = ArrayVec::new();
     let mut rest = main;
     let mut least = 0;
     while least < MAX_LABELS {
@@ -301,16 +298,14 @@ fn visit(
             label,
             &mut waiting,
         );
-        let mut below: ArrayVec<Candidate, 128> = ArrayVec::new();
-        let mut after: ArrayVec<Candidate, 128> = ArrayVec::new();
+        below.clear();
         part(
             constraint,
             nodes,
             depth + 1,
-            waiting.as_slice(),
+            waiting.as_mut_slice(),
             label,
             &mut below,
-            &mut after,
         );
         beginning.push(label);
         visit(
@@ -323,7 +318,6 @@ fn visit(
             ups,
         );
         beginning.pop();
-        waiting = after;
         rest = parts.after;
         least = label + 1;
     }

@@ -1,7 +1,7 @@
 use Rattle.std.proofs.Common.{◌≡◌, ◌∙◌, ◌++◌, ◌∷◌, ◌<◌, ◌≤◌, ◌+◌, [], ℕ, List, length, length-append, arith, ap, subst, sym, refl}
 use Rattle.std.specs.Prelude.{Contains, ◌↔◌}
 use Rattle.re_table.proofs.SaidChoices.{popped-is}
-use Rattle.re_rests.proofs.Visits.{IsOpenedAt, IsPartedAt, narrowed-all, narrowed-rest, narrowed-start, next-goes, nothing-more, rest-below, round-narrowed, round-visit, round-waiting, waiting-start, narrowed-alone}
+use Rattle.re_rests.proofs.Visits.{IsOpenedAt, IsPartedAt, narrowed-all, narrowed-rest, narrowed-start, next-goes, refilled, nothing-more, rest-below, round-narrowed, round-visit, round-waiting, waiting-start, narrowed-alone}
 use Rattle.re_rests.specs.Rests.{Completes}
 use Rattle.re_rests.specs.Spans.{tree_of, AreSpans, Fits, IsEnding, IsNarrowed, IsNext, IsVisit, IsWaiting}
 use Rattle.re_rests.proofs.visiting.+visit.Goals as goal
@@ -70,8 +70,8 @@ part-requires-clause-candidates t c =
       spans = c.open-parts.ensures.spans;
       is_opened = c.open-parts.ensures.opened;
     }) in
-    subst (λ d. AreSpans (tree_of c.args.constraint.now c.args.nodes.now) (d + 1) c.as_slice-in-loop-least-3.result.now) (sym c.len-depth.ensures.value)
-    (subst (AreSpans (tree_of c.args.constraint.now c.args.nodes.now) (length c.args.beginning.now.items + 1)) (sym c.as_slice-in-loop-least-3.ensures.value) opened.spans)
+    subst (λ d. AreSpans (tree_of c.args.constraint.now c.args.nodes.now) (d + 1) c.as_mut_slice.result.now) (sym c.len-depth.ensures.value)
+    (subst (AreSpans (tree_of c.args.constraint.now c.args.nodes.now) (length c.args.beginning.now.items + 1)) (sym c.as_mut_slice.ensures.value) opened.spans)
 
 pub part-requires-clause-least : goal.part-requires-clause-least
 part-requires-clause-least t c = λ x other ending f.
@@ -91,7 +91,7 @@ part-requires-clause-least t c = λ x other ending f.
     }) in
     ((opened.is_opened x other ending).0
     (subst (λ d. Fits (tree_of c.args.constraint.now c.args.nodes.now) (d + 1) c.open-parts.new.waiting.items x (other ∷ ending)) c.len-depth.ensures.value
-    (subst (λ l. Fits (tree_of c.args.constraint.now c.args.nodes.now) (c.len-depth.result + 1) l x (other ∷ ending)) c.as_slice-in-loop-least-3.ensures.value f))).0
+    (subst (λ l. Fits (tree_of c.args.constraint.now c.args.nodes.now) (c.len-depth.result + 1) l x (other ∷ ending)) c.as_mut_slice.ensures.value f))).0
 
 pub visit-requires : goal.visit-requires
 visit-requires t c =
@@ -109,9 +109,9 @@ visit-requires t c =
       spans = c.open-parts.ensures.spans;
       is_opened = c.open-parts.ensures.opened;
     }) in
-    let parted : IsPartedAt (tree_of c.args.constraint.now c.args.nodes.now) (length c.args.beginning.now.items + 1) c.in-Some.label c.open-parts.new.waiting.items c.part.new.below.items c.part.new.after.items =
-    subst (λ d. IsPartedAt (tree_of c.args.constraint.now c.args.nodes.now) (d + 1) c.in-Some.label c.open-parts.new.waiting.items c.part.new.below.items c.part.new.after.items) c.len-depth.ensures.value
-    (subst (λ l. IsPartedAt (tree_of c.args.constraint.now c.args.nodes.now) (c.len-depth.result + 1) c.in-Some.label l c.part.new.below.items c.part.new.after.items) c.as_slice-in-loop-least-3.ensures.value (record {
+    let parted : IsPartedAt (tree_of c.args.constraint.now c.args.nodes.now) (length c.args.beginning.now.items + 1) c.in-Some.label c.open-parts.new.waiting.items c.part.new.below.items c.part.new.candidates =
+    subst (λ d. IsPartedAt (tree_of c.args.constraint.now c.args.nodes.now) (d + 1) c.in-Some.label c.open-parts.new.waiting.items c.part.new.below.items c.part.new.candidates) c.len-depth.ensures.value
+    (subst (λ l. IsPartedAt (tree_of c.args.constraint.now c.args.nodes.now) (c.len-depth.result + 1) c.in-Some.label l c.part.new.below.items c.part.new.candidates) c.as_mut_slice.ensures.value (record {
       few_below = c.part.ensures.few_below;
       few_after = c.part.ensures.few_after;
       spans_below = c.part.ensures.spans_below;
@@ -130,9 +130,9 @@ visit-requires t c =
       (
         omega (arith, count, deep),
         (
-          subst (λ b. IsVisit (tree_of c.args.constraint.now c.args.nodes.now) b (c.in-Some.label + 1) c.open-parts.result.below c.as_slice-in-loop-least-4.result.now) (sym longer)
-              (subst (IsVisit (tree_of c.args.constraint.now c.args.nodes.now) (c.args.beginning.now.items ++ c.in-Some.label ∷ []) (c.in-Some.label + 1) c.open-parts.result.below) (sym c.as_slice-in-loop-least-4.ensures.value)
-              (round-visit (tree_of c.args.constraint.now c.args.nodes.now) c.degree.ensures.constraint c.args.beginning.now.items c.args.bound c.requires.visit.bounded c.loop-least.least c.loop-least.rest c.loop-least.waiting.items c.loop-least.invariant.waiting c.in-Some.label next c.open-parts.result.below c.open-parts.result.after c.open-parts.new.waiting.items c.part.new.below.items c.part.new.after.items opened parted)),
+          subst (λ b. IsVisit (tree_of c.args.constraint.now c.args.nodes.now) b (c.in-Some.label + 1) c.open-parts.result.below c.as_slice-in-loop-least-3.result.now) (sym longer)
+              (subst (IsVisit (tree_of c.args.constraint.now c.args.nodes.now) (c.args.beginning.now.items ++ c.in-Some.label ∷ []) (c.in-Some.label + 1) c.open-parts.result.below) (sym c.as_slice-in-loop-least-3.ensures.value)
+              (round-visit (tree_of c.args.constraint.now c.args.nodes.now) c.degree.ensures.constraint c.args.beginning.now.items c.args.bound c.requires.visit.bounded c.loop-least.least c.loop-least.rest c.loop-least.waiting.items c.loop-least.invariant.waiting c.in-Some.label next c.open-parts.result.below c.open-parts.result.after c.open-parts.new.waiting.items c.part.new.below.items c.part.new.candidates opened parted)),
           (omega (arith, low), few),
         ),
       ),
@@ -175,9 +175,9 @@ loop-least-preserved t c =
       spans = c.open-parts.ensures.spans;
       is_opened = c.open-parts.ensures.opened;
     }) in
-    let parted : IsPartedAt (tree_of c.args.constraint.now c.args.nodes.now) (length c.args.beginning.now.items + 1) c.in-Some.label c.open-parts.new.waiting.items c.part.new.below.items c.part.new.after.items =
-    subst (λ d. IsPartedAt (tree_of c.args.constraint.now c.args.nodes.now) (d + 1) c.in-Some.label c.open-parts.new.waiting.items c.part.new.below.items c.part.new.after.items) c.len-depth.ensures.value
-    (subst (λ l. IsPartedAt (tree_of c.args.constraint.now c.args.nodes.now) (c.len-depth.result + 1) c.in-Some.label l c.part.new.below.items c.part.new.after.items) c.as_slice-in-loop-least-3.ensures.value (record {
+    let parted : IsPartedAt (tree_of c.args.constraint.now c.args.nodes.now) (length c.args.beginning.now.items + 1) c.in-Some.label c.open-parts.new.waiting.items c.part.new.below.items c.part.new.candidates =
+    subst (λ d. IsPartedAt (tree_of c.args.constraint.now c.args.nodes.now) (d + 1) c.in-Some.label c.open-parts.new.waiting.items c.part.new.below.items c.part.new.candidates) c.len-depth.ensures.value
+    (subst (λ l. IsPartedAt (tree_of c.args.constraint.now c.args.nodes.now) (c.len-depth.result + 1) c.in-Some.label l c.part.new.below.items c.part.new.candidates) c.as_mut_slice.ensures.value (record {
       few_below = c.part.ensures.few_below;
       few_after = c.part.ensures.few_after;
       spans_below = c.part.ensures.spans_below;
@@ -191,9 +191,10 @@ loop-least-preserved t c =
     record {
       same = popped-is c.args.beginning.now.items c.visit.new.beginning.items c.pop.new.self.items c.in-Some.label (c.visit.ensures.beginning ∙ longer) c.pop.ensures.rest;
       low = omega (arith, few);
-      waiting = round-waiting (tree_of c.args.constraint.now c.args.nodes.now) c.degree.ensures.constraint c.args.beginning.now.items c.args.bound c.requires.visit.bounded c.loop-least.least c.loop-least.rest c.loop-least.waiting.items c.loop-least.invariant.waiting c.in-Some.label next c.open-parts.result.below c.open-parts.result.after c.open-parts.new.waiting.items c.part.new.below.items c.part.new.after.items opened parted;
+      waiting = subst (IsWaiting (tree_of c.args.constraint.now c.args.nodes.now) c.args.beginning.now.items c.args.bound (c.in-Some.label + 1) c.open-parts.result.after) (sym (refilled c.open-parts.new.waiting.items c.part.new.candidates (c.part.auto.candidates ∙ ap length c.as_mut_slice.ensures.value)))
+          (round-waiting (tree_of c.args.constraint.now c.args.nodes.now) c.degree.ensures.constraint c.args.beginning.now.items c.args.bound c.requires.visit.bounded c.loop-least.least c.loop-least.rest c.loop-least.waiting.items c.loop-least.invariant.waiting c.in-Some.label next c.open-parts.result.below c.open-parts.result.after c.open-parts.new.waiting.items c.part.new.below.items c.part.new.candidates opened parted);
       sets = λ n each a. c.visit.ensures.sets n (c.loop-least.invariant.sets n each) a;
-      narrowed = round-narrowed (tree_of c.args.constraint.now c.args.nodes.now) c.degree.ensures.constraint c.args.beginning.now.items c.args.bound c.requires.visit.bounded c.loop-least.least c.loop-least.rest c.loop-least.waiting.items c.loop-least.invariant.waiting c.in-Some.label next c.open-parts.result.below c.open-parts.result.after c.open-parts.new.waiting.items c.part.new.below.items c.part.new.after.items opened parted c.args.ups.now c.loop-least.ups c.visit.new.ups c.loop-least.invariant.narrowed (let l = c.loop-least.auto.ups in l)
+      narrowed = round-narrowed (tree_of c.args.constraint.now c.args.nodes.now) c.degree.ensures.constraint c.args.beginning.now.items c.args.bound c.requires.visit.bounded c.loop-least.least c.loop-least.rest c.loop-least.waiting.items c.loop-least.invariant.waiting c.in-Some.label next c.open-parts.result.below c.open-parts.result.after c.open-parts.new.waiting.items c.part.new.below.items c.part.new.candidates opened parted c.args.ups.now c.loop-least.ups c.visit.new.ups c.loop-least.invariant.narrowed (let l = c.loop-least.auto.ups in l)
           (subst (λ b. IsNarrowed c.args.constraint.now b c.loop-least.ups c.visit.new.ups) longer c.visit.ensures.narrowed);
     }
 

@@ -1,15 +1,16 @@
-//! Choices of one label of each set of a box: with another label at a place, and the place at which to part the box first.
+//! Choices of one label of each set of a box: the place at which to part the box first, and whether a good row lacks a label of one.
+ghost use Rattle.re_box_search.specs.Held.{AreHeldBeside};
 ghost use Rattle.re_config.specs.Rows.{IsChoice};
 ghost use Rattle.re_labels.specs.Sets.{IsIn, IsLabelSet};
-ghost use Rattle.re_strength.specs.Choosing.{IsBadBehind};
+ghost use Rattle.re_strength.specs.Parts.{IsPartCovered};
+ghost use Rattle.re_table.specs.Constraints.{Has};
 ghost use Rattle.std.specs.List.{AllByRecursion};
-ghost use Rattle.std.specs.Prelude.{◌≡◌, ◌≤◌, ◌<◌, [], IfSome, length, slice_set, if◌then◌else◌};
+ghost use Rattle.std.specs.Prelude.{◌≡◌, ◌≤◌, ◌<◌, [], ℕ, List, IfSome, MatchOption, length, slice_set, true, if◌then◌else◌};
 
 use arrayvec::ArrayVec;
 use re_config::Config;
 use re_labels::{LabelSet, MAX_LABELS};
-use re_strength::Strength;
-use re_table::Constraint;
+use re_table::{Constraint, Trail};
 
 // The labels of all the sets.
 fn all_labels(sets: &[LabelSet]) -> LabelSet {
@@ -37,23 +38,6 @@ pub(crate) fn first_place(must: &[LabelSet], may: &[LabelSet], choice: &[u8]) ->
     may.len()
 }
 
-// A label that the first label of the set goes up to within it, a strong one.
-fn strong_label(strength: &Strength, set: LabelSet) -> u8 {
-    let Some(mut label) = set.first() else {
-        return 0;
-    };
-    for _step in 0..8 {
-        if label >= strength.labels {
-            return label;
-        }
-        match set.meet(strength.up(label)).remove(label).first() {
-            None => return label,
-            Some(stronger) => label = stronger,
-        }
-    }
-    label
-}
-
 // The one label or the other.
 fn either(first: bool, label: u8, other: u8) -> u8
     ensures { result ≡ (if first then label else other) }
@@ -73,32 +57,78 @@ fn with_label(labels: &[u8], place: usize, label: u8) -> ArrayVec<u8, 6>
     done
 }
 
-/// The choice with another label at the place, a strong one of this set, where that is no configuration. It looks up one
-/// configuration, so that another label of the set may make none where it answers None.
-pub(crate) fn bad_with_other(
+// The least label of the set, if it has any.
+fn least_of(set: LabelSet) -> Option<u8>
+    ensures { MatchOption result (set ≡ []) (λ label. IsIn label set × (label < MAX_LABELS)) }
+{
+    let _number = set.number();
+    set.first()
+}
+
+// The only place where a row may lack the label of the choice, or how many places there are where a row has them all. None where it may
+// lack more than one.
+fn only_place(must: &[LabelSet], choice: &[u8]) -> Option<usize>
+    requires even { length must.now ≡ length choice.now }
+    requires below { AllByRecursion (λ label. label < MAX_LABELS) choice.now }
+    ensures { IfSome result (λ place. AreHeldBeside place choice.now must.now) }
+{
+    let mut only = must.len();
+    for place in 0..must.len() {
+        if !must[place].has(choice[place]) {
+            if only < must.len() {
+                return None;
+            }
+            only = place;
+        }
+    }
+    Some(only)
+}
+
+// Whether the choice is no configuration with any of these labels at the place.
+fn are_all_bad(
     constraint: &Constraint,
-    strength: &Strength,
-    sets: &[LabelSet],
+    trail: &mut Trail,
     choice: &[u8],
     place: usize,
-    set: LabelSet,
-) -> Option<ArrayVec<u8, 6>>
-    requires two { 2 ≤ length sets.now }
-    requires six { length sets.now ≤ 6 }
-    requires sets { AllByRecursion (IsLabelSet strength.now.labels) sets.now }
-    requires choice { IsChoice choice.now sets.now }
-    ensures { IfSome result (λ other. IsBadBehind constraint.now [] (slice_set sets.now place set) other.items) }
+    labels: LabelSet,
+) -> bool
+    requires two { 2 ≤ length choice.now }
+    requires six { length choice.now ≤ 6 }
+    requires below { AllByRecursion (λ label. label < MAX_LABELS) choice.now }
+    ensures { result ≡ true → (label : ℕ) → IsIn label labels → Has constraint.now (slice_set choice.now place label) → ⊥ }
 {
-    let label = strong_label(strength, set);
-    if label >= strength.labels {
-        return None;
-    }
-    if !set.has(label) {
-        return None;
-    }
+    let Some(label) = least_of(labels) else {
+        return true;
+    };
     let other = with_label(choice, place, label);
-    if constraint.contains(&Config::from_labels(other.as_slice())) {
-        return None;
+    if constraint.contains_near(&Config::from_labels(other.as_slice()), trail) {
+        return false;
     }
-    Some(other)
+    are_all_bad(constraint, trail, choice, place, labels.remove(label))
+}
+
+/// Whether no good row of the box lacks a label of the choice: one that has to have all but one of them would make, with any label at
+/// the place of that one, no configuration. It looks up one configuration for each of these labels until it finds one.
+pub(crate) fn none_lacks(
+    constraint: &Constraint,
+    must: &[LabelSet],
+    may: &[LabelSet],
+    choice: &[u8],
+) -> bool
+    requires two { 2 ≤ length may.now }
+    requires six { length may.now ≤ 6 }
+    requires must { length must.now ≡ length may.now }
+    requires count { length may.now ≡ constraint.now.degree }
+    requires sets { AllByRecursion (IsLabelSet MAX_LABELS) may.now }
+    requires choice { IsChoice choice.now may.now }
+    ensures { result ≡ true → (ups : ℕ → List ℕ) (rows : List (List (List ℕ))) → IsPartCovered constraint.now ups rows must.now may.now choice.now 0 }
+{
+    let _degree = constraint.degree();
+    let Some(place) = only_place(must, choice) else {
+        return false;
+    };
+    if place >= may.len() {
+        return true;
+    }
+    are_all_bad(constraint, &mut Trail::default(), choice, place, may[place])
 }

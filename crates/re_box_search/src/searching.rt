@@ -8,7 +8,7 @@ ghost use Rattle.re_strength.specs.Sets.{AreSets};
 ghost use Rattle.std.specs.Prelude.{◌≡◌, ◌≤◌, ◌<◌, IfErr, OnOk, length, slice_index};
 
 use crate::Keeper;
-use crate::choosing::{bad_with_other, first_place};
+use crate::choosing::{first_place, none_lacks};
 use re_labels::LabelSet;
 use re_strength::{Strength, strong_bad_choice, with_set};
 use re_table::Constraint;
@@ -70,15 +70,11 @@ fn cover_choice<K: Keeper>(
     }
     cover_part(constraint, strength, keeper, must, may, choice, place)?;
     let more = with_set(must, place, must[place].union(strength.up(choice[place])));
-    cover_parts(
-        constraint,
-        strength,
-        keeper,
-        more.as_slice(),
-        may,
-        choice,
-        0,
-    )
+    let held = more.as_slice();
+    if none_lacks(constraint, held, may, choice) {
+        return Ok(());
+    }
+    cover_parts(constraint, strength, keeper, held, may, choice, 0)
 }
 
 // The same for the rows that lack a label of the choice from this place on.
@@ -108,6 +104,9 @@ fn cover_parts<K: Keeper>(
     let _degree = constraint.degree();
     if place == may.len() {
         return Ok(());
+    }
+    if must[place].has(choice[place]) {
+        return cover_parts(constraint, strength, keeper, must, may, choice, place + 1);
     }
     cover_part(constraint, strength, keeper, must, may, choice, place)?;
     let more = with_set(must, place, must[place].union(strength.up(choice[place])));
@@ -157,9 +156,6 @@ fn cover_part<K: Keeper>(
     }
     let smaller = with_set(may, place, set);
     let part = smaller.as_slice();
-    if let Some(other) = bad_with_other(constraint, strength, may, choice, place, set) {
-        return cover_choice(constraint, strength, keeper, must, part, other.as_slice());
-    }
     if keeper.sees_dominated(part) {
         return Ok(());
     }

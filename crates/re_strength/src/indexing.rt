@@ -4,7 +4,7 @@ ghost use Rattle.re_table.specs.GoodRows.{IsDominated};
 ghost use Rattle.std.specs.Prelude.{◌≡◌, ◌≤◌, ◌<◌, ◌+◌, ◌↔◌, ℕ, List, Contains, IsTrue, length, true};
 
 use crate::choosing::least_of;
-use crate::holding::{has_top, large_first, row_holds};
+use crate::holding::{found_holds, has_top, large_first, row_holds};
 use arrayvec::ArrayVec;
 use re_config::Row;
 use re_labels::{LabelSet, MAX_LABELS};
@@ -145,8 +145,8 @@ fn some_row_holds(rows: &[Row], sets: &[LabelSet]) -> bool
 }
 
 /// Whether a row of the list is seen to dominate the sets: true only where one does. Up to eight rows are compared with the sets
-/// one by one. Of more rows the index names one that dominates them, and it alone is compared. Of the sets, those with many labels are
-/// looked for first. With m rows of d sets that is m / 128 steps for each label and place, and few of them where no row has the first
+/// one by one. Of more rows the index names one that dominates them, and it alone is compared. The rows that were added last are asked
+/// first, and of the sets a largest one. With m rows of d sets that is m / 128 steps for each label and place, and few of them where no row has the first
 /// set.
 pub fn is_seen_dominated(rows: &[Row], lookup: &RowIndex, sets: &[LabelSet]) -> bool
     requires { length sets.now ≤ 6 }
@@ -158,7 +158,9 @@ pub fn is_seen_dominated(rows: &[Row], lookup: &RowIndex, sets: &[LabelSet]) -> 
     let hard = large_first(sets);
     let places = 63u8 >> (6 - hard.len());
     let all = LabelSet::of_number(u128::MAX);
-    for block in 0..lookup.marks.len() / MARKS {
+    let blocks = lookup.marks.len() / MARKS;
+    for later in 0..blocks {
+        let block = blocks - 1 - later;
         if let Some(number) = holder(
             lookup.marks.as_slice(),
             block * MARKS,
@@ -167,7 +169,7 @@ pub fn is_seen_dominated(rows: &[Row], lookup: &RowIndex, sets: &[LabelSet]) -> 
             all,
         ) {
             let row = block * BLOCK + number as usize;
-            if row_holds(rows, row, hard.as_slice()) {
+            if found_holds(rows, row, hard.as_slice()) {
                 return true;
             }
         }

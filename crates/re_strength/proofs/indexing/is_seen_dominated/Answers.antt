@@ -3,8 +3,8 @@ use Rattle.re_config.specs.Rows.{Dominates}
 use Rattle.re_strength.proofs.HeldSets.{seen}
 use Rattle.re_strength.proofs.indexing.is_seen_dominated.Goals as goal
 
-pub returns-then-row_holds : goal.returns-then-row_holds
-returns-then-row_holds c = λ e.
-    let d = c.row_holds.ensures c.if-row_holds.true in
+pub returns-then-found_holds : goal.returns-then-found_holds
+returns-then-found_holds c = λ e.
+    let d = c.found_holds.ensures c.if-found_holds.true in
     seen c.args.rows.now c.args.sets.now c.large_first-hard.result.items d.0 d.1 c.large_first-hard.ensures
     (subst (Dominates d.0) c.as_slice-in-Some.ensures.value d.2)

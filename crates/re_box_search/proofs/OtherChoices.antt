@@ -29,6 +29,11 @@ length-with [] place y = refl
 length-with (x ∷ c) zero y = refl
 length-with (x ∷ c) (suc place) y = ap suc (length-with c place y)
 
+pub same_choice : (c : List ℕ) (place : ℕ) → slice_set c place (get_or c place 0) ≡ c
+same_choice [] place = refl
+same_choice (x ∷ c) zero = refl
+same_choice (x ∷ c) (suc place) = ap (λ l. x ∷ l) (same_choice c place)
+
 all_chosen : (c : List ℕ) (r : List (List ℕ)) → length c ≡ length r → ((i : ℕ) → i < length r → IsIn (get_or c i 0) (set_at r i)) → IsChoice c r
 all_chosen [] [] e h = tt
 all_chosen [] (s ∷ r) e h = absurd (omega (arith, e))

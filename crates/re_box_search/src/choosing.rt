@@ -107,8 +107,9 @@ fn are_all_bad(
     are_all_bad(constraint, trail, choice, place, labels.remove(label))
 }
 
-/// Whether no good row of the box lacks a label of the choice: one that has to have all but one of them would make, with any label at
-/// the place of that one, no configuration. It looks up one configuration for each of these labels until it finds one.
+/// Whether no good row of the box lacks a label of the choice, which is no configuration: one that has to have all but one of them
+/// would make, with any label at the place of that one, no configuration. It looks up one configuration for each of these labels but
+/// that of the choice, until it finds one.
 pub(crate) fn none_lacks(
     constraint: &Constraint,
     must: &[LabelSet],
@@ -121,6 +122,7 @@ pub(crate) fn none_lacks(
     requires count { length may.now ≡ constraint.now.degree }
     requires sets { AllByRecursion (IsLabelSet MAX_LABELS) may.now }
     requires choice { IsChoice choice.now may.now }
+    requires bad { Has constraint.now choice.now → ⊥ }
     ensures { result ≡ true → (ups : ℕ → List ℕ) (rows : List (List (List ℕ))) → IsPartCovered constraint.now ups rows must.now may.now choice.now 0 }
 {
     let _degree = constraint.degree();
@@ -130,5 +132,6 @@ pub(crate) fn none_lacks(
     if place >= may.len() {
         return true;
     }
-    are_all_bad(constraint, &mut Trail::default(), choice, place, may[place])
+    let others = may[place].remove(choice[place]);
+    are_all_bad(constraint, &mut Trail::default(), choice, place, others)
 }

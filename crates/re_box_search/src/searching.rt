@@ -5,6 +5,7 @@ ghost use Rattle.re_config.specs.Rows.{IsChoice};
 ghost use Rattle.re_strength.specs.Held.{ups_in};
 ghost use Rattle.re_strength.specs.Parts.{IsPartCovered, left_out};
 ghost use Rattle.re_strength.specs.Sets.{AreSets};
+ghost use Rattle.re_table.specs.Constraints.{Has};
 ghost use Rattle.std.specs.Prelude.{◌≡◌, ◌≤◌, ◌<◌, IfErr, OnOk, length, slice_index};
 
 use crate::Keeper;
@@ -57,6 +58,7 @@ fn cover_choice<K: Keeper>(
     requires may { length may.now ≡ constraint.now.degree }
     requires sets { AreSets strength.now.labels may.now }
     requires choice { IsChoice choice.now may.now }
+    requires bad { Has constraint.now choice.now → ⊥ }
     ensures serves { OnOk result (K.serves keeper.new constraint.now strength.now.labels) }
     ensures covered { OnOk result (IsPartCovered constraint.now (ups_in strength.now.ups.items) (K.rows keeper.new) must.now may.now choice.now 0) }
     ensures refused { IfErr result (K.tells keeper.new constraint.now strength.now.labels) }

@@ -159,12 +159,16 @@ fn cover_config<K: Keeper>(
     ensures most { K.most keeper.new ≡ K.most keeper.old }
 {
     let _degree = constraint.degree();
-    let sets = strength.up_sets(config.labels());
-    keeper.settle(constraint, strength, sets.as_slice())
+    let up = strength.up_sets(config.labels());
+    let sets = up.as_slice();
+    if keeper.sees_dominated(sets) {
+        return Ok(());
+    }
+    keeper.settle(constraint, strength, sets)
 }
 
 /// Each configuration, with what its labels go up to, is dominated by a kept row then, or good sets were refused. It settles the
-/// sets of each configuration.
+/// sets of each configuration that no kept row is seen to dominate.
 pub fn cover_configs<K: Keeper>(
     constraint: &Constraint,
     strength: &Strength,

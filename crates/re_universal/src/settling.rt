@@ -59,7 +59,7 @@ impl Keeper for Found {
         is_seen_dominated(self.rows.as_slice(), &self.lookup, sets)
     }
 
-    // Good sets that no row is seen to dominate grow to a row, which is kept where it isn't listed yet.
+    // The sets grow to a row, which is kept where it isn't listed yet.
     fn settle(
         &mut self,
         constraint: &Constraint,
@@ -67,9 +67,6 @@ impl Keeper for Found {
         sets: &[LabelSet],
     ) -> Result<(), RowsFault> {
         let _degree = constraint.degree();
-        if self.sees_dominated(sets) {
-            return Ok(());
-        }
         let row = grown(constraint, strength, &mut self.memo, sets);
         if is_listed(self.rows.as_slice(), &row) {
             return Ok(());

@@ -58,7 +58,11 @@ fn holder(
         return found.first();
     };
     for place in 0..6u8 {
-        if (free >> place) & 1 == 1 {
+        let later = free >> place;
+        if later == 0 {
+            return None;
+        }
+        if later & 1 == 1 {
             let more = having(marks, start + place as usize * BLOCK, *first, found);
             if !more.is_empty() {
                 let row = holder(marks, start, free & !(1 << place), rest, more);
@@ -146,8 +150,8 @@ fn some_row_holds(rows: &[Row], sets: &[LabelSet]) -> bool
 
 /// Whether a row of the list is seen to dominate the sets: true only where one does. Up to eight rows are compared with the sets
 /// one by one. Of more rows the index names one that dominates them, and it alone is compared. The rows that were added last are asked
-/// first, and of the sets a largest one. With m rows of d sets that is m / 128 steps for each label and place, and few of them where no row has the first
-/// set.
+/// first, and of the sets a largest one. With m rows of d sets that is m / 128 steps for each label and place, and few of them where no
+/// row has the first set.
 pub fn is_seen_dominated(rows: &[Row], lookup: &RowIndex, sets: &[LabelSet]) -> bool
     requires { length sets.now ≤ 6 }
     ensures { result ≡ true → IsDominated rows.now sets.now }

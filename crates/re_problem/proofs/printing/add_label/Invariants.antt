@@ -2,4 +2,4 @@ use Rattle.std.proofs.Common.{◌≡◌, ◌∷◌, ◌++◌, take}
 use Rattle.re_problem.proofs.printing.add_label.Given as goal
 
 abbrev pub invariant-loop-byte : goal.invariant-loop-byte
-invariant-loop-byte l = l.line.items ≡ l.fn.line.items ++ 40 ∷ take l.byte-index l.bytes
+invariant-loop-byte l = l.line ≡ l.fn.line ++ 40 ∷ take l.byte-index l.bytes

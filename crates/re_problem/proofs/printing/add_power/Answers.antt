@@ -11,5 +11,5 @@ digit_power count some few =
 
 pub returns-then-count-gt1-clause-power : goal.returns-then-count-gt1-clause-power
 returns-then-count-gt1-clause-power c =
-    c.push-then-count-gt1.ensures.items ∙ ap (λ l. l ++ (48 + c.args.count) ∷ []) c.push.ensures.items ∙ append_assoc c.args.line.now.items (94 ∷ []) ((48 + c.args.count) ∷ [])
-    ∙ ap (λ l. c.args.line.now.items ++ l) (digit_power c.args.count c.if-count-gt1.true c.requires.few)
+    c.push-then-count-gt1.ensures.items ∙ ap (λ l. l ++ (48 + c.args.count) ∷ []) c.push.ensures.items ∙ append_assoc c.args.line.now (94 ∷ []) ((48 + c.args.count) ∷ [])
+    ∙ ap (λ l. c.args.line.now ++ l) (digit_power c.args.count c.if-count-gt1.true c.requires.few)

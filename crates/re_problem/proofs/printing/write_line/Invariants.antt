@@ -6,9 +6,9 @@ abbrev pub invariant-runs : goal.invariant-runs
 invariant-runs l = record {
   begun : 0 < l.at;
   within : l.at ≤ length l.labels;
-  room : length l.line.items < 21 * l.at;
-  head : IsHead l.names l.labels l.line.items l.before.labels l.before.bytes;
-  written : IsWritten l.names l.labels l.line.items l.at;
+  room : length l.line < 21 * l.at;
+  head : IsHead l.names l.labels l.line l.before.labels l.before.bytes;
+  written : IsWritten l.names l.labels l.line l.at;
 }
 
 abbrev pub decreases-runs : goal.decreases-runs

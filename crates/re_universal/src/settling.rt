@@ -6,7 +6,7 @@ ghost use Rattle.re_table.specs.GoodRows.{IsDominated, IsGood, max_rows};
 ghost use Rattle.re_box_search.specs.Growing.{IsLonger};
 ghost use Rattle.re_universal.specs.Completing.{AreRight};
 ghost use Rattle.re_universal.specs.Kept.{IsKept};
-ghost use Rattle.std.specs.Prelude.{◌≡◌, ◌<◌, ◌↔◌, Contains, IfErr, IsTrue, OnOk, length};
+ghost use Rattle.std.specs.Prelude.{◌≡◌, ◌<◌, ◌↔◌, Contains, IfErr, IsTrue, OnOk, length, true};
 
 use crate::RowsFault;
 use crate::completing::Memo;
@@ -18,6 +18,15 @@ use re_strength::{RowIndex, Strength, is_seen_dominated, row_order};
 use re_table::Constraint;
 use std::cmp::Ordering;
 
+// Whether the last sets are the same. Rows that end in different sets differ, and most do.
+fn end_alike(row: &Row, other: &Row) -> bool
+    ensures { row.now ≡ other.now → result ≡ true }
+{
+    let sets = row.sets();
+    let others = other.sets();
+    sets[sets.len() - 1].number() == others[others.len() - 1].number()
+}
+
 // Whether the row is one of the list.
 fn is_listed(rows: &[Row], row: &Row) -> bool
     ensures { IsTrue result ↔ Contains rows.now row.now }
@@ -25,8 +34,10 @@ fn is_listed(rows: &[Row], row: &Row) -> bool
     let _sets = row.sets();
     for other in rows {
         let _others = other.sets();
-        if row_order(row, other) == Ordering::Equal {
-            return true;
+        if end_alike(row, other) {
+            if row_order(row, other) == Ordering::Equal {
+                return true;
+            }
         }
     }
     false

@@ -5,6 +5,7 @@ use Rattle.re_config.specs.Rows.{row_cmp}
 use Rattle.re_strength.proofs.EqualRows.{equal_rows, equal_seen, equal_when, row_cmp-same}
 use Rattle.re_strength.proofs.Walks.{all_walked, always, never, one_more}
 use Rattle.re_universal.proofs.settling.is_listed.Goals as goal
+use Rattle.re_universal.proofs.settling.is_listed.Goals.{then-end_alike+else-eq, else-end_alike}
 use Rattle.re_labels.specs.declared.TheConstants.{MAX_LABELS}
 
 pub returns-then-eq : goal.returns-then-eq
@@ -18,8 +19,12 @@ pub loop-other-preserved : goal.loop-other-preserved
 loop-other-preserved c =
     let row = c.args.row.now in
     let other = c.other-item.result in
-    one_more [] (λ r. row ≡ r → ⊥) c.args.rows.now c.loop-other.other-index other c.loop-other-test.true c.other-item.is c.loop-other.invariant
-    (λ same. false≢true (sym c.if-eq.false ∙ c.eq.ensures ∙ equal_seen c.row_order.result (c.row_order.ensures ∙ ap (row_cmp row) (sym same) ∙ row_cmp-same row)))
+    let differs : row ≡ other → ⊥ =
+    elim c.if-end_alike.branch [
+      | then-end_alike+else-eq w ↦ λ same. false≢true (sym w.if-eq.false ∙ w.eq.ensures ∙ equal_seen w.row_order.result (w.row_order.ensures ∙ ap (row_cmp row) (sym same) ∙ row_cmp-same row))
+      | else-end_alike w ↦ λ same. false≢true (sym w.if-end_alike.false ∙ c.end_alike.ensures same)
+    ] in
+    one_more [] (λ r. row ≡ r → ⊥) c.args.rows.now c.loop-other.other-index other c.loop-other-test.true c.other-item.is c.loop-other.invariant differs
 
 pub returns : goal.returns
 returns c = never (λ held. all_walked [] (λ r. c.args.row.now ≡ r → ⊥) c.args.rows.now c.loop-other.other-index c.loop-other-test.false c.loop-other.invariant c.args.row.now held refl)

@@ -174,6 +174,14 @@ rising_adjacent (x ∷ y ∷ xs) h = (h 1 (omega arith) (omega arith), rising_ad
     tail h zero some below = absurd (omega arith)
     tail h (suc j) some below = let e : suc (suc j) - 1 ≡ suc j = omega arith in let f : suc j - 1 ≡ j = omega arith in subst (λ n. get_or (y ∷ xs) n 0 ≤ get_or (y ∷ xs) (suc j) 0) (sym f) (subst (λ n. get_or (x ∷ y ∷ xs) n 0 ≤ get_or (x ∷ y ∷ xs) (suc (suc j)) 0) e (h (suc (suc j)) (omega arith) (omega arith)))
 
+-- a list that ascends does so with one more number that is at least its last one
+pub rising_with_last : (xs : List ℕ) (x n : ℕ) → suc n ≡ length xs → IsRising (λ x y. x ≤ y) xs → get_or xs n 0 ≤ x → IsRising (λ x y. x ≤ y) (xs ++ x ∷ [])
+rising_with_last [] x n l h b = absurd (omega arith)
+rising_with_last (y ∷ []) x zero l h b = (b, tt)
+rising_with_last (y ∷ []) x (suc n) l h b = absurd (omega arith)
+rising_with_last (y ∷ z ∷ xs) x zero l h b = absurd (omega arith)
+rising_with_last (y ∷ z ∷ xs) x (suc n) l h b = (h.0, rising_with_last (z ∷ xs) x n (omega arith) h.1 b)
+
 -- what a sort of unsigned numbers leaves
 pub sorted-from_sort : (xs ys : List ℕ) → IsPermutation xs ys → IsSorted nat_cmp ys → ys ≡ sorted xs
 sorted-from_sort xs ys p s =

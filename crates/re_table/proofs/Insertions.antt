@@ -1,5 +1,5 @@
 -- Insertion into a constraint.
-use Rattle.std.proofs.Common.{◌≡◌, ◌∷◌, ◌++◌, ◌+◌, ◌∙◌, ℕ, ◌<◌, ◌≤◌, map, take, List, [], length, get_or, inl, inr, sym, ap, subst, arith}
+use Rattle.std.proofs.Common.{◌≡◌, ◌∷◌, ◌++◌, ◌+◌, ◌∙◌, ℕ, ◌<◌, ◌≤◌, map, take, List, [], length, get_or, inl, inr, sym, ap, subst, arith, length-append}
 use Rattle.std.specs.List.Sorted.{IsPermutation}
 use Rattle.std.specs.List.{AllByRecursion}
 use Rattle.std.proofs.lemmas.List.Sorted.{Contains-permutation, IsPermutation-sym, length_permutation}
@@ -7,11 +7,11 @@ use Rattle.std.specs.Prelude.{Bool, Err, Ok, OnErr, OnOk, Result}
 use Rattle.re_table.specs.declared.constraint_table.InsertFault.{InsertFault}
 use Rattle.std.proofs.lemmas.List.{take_more}
 use Rattle.re_labels.proofs.ListSets.{In-list_set, In-with_list, cases_of, list_set-In, list_set_map, list_set_push, one_set, rising-list_set, rising-with_list}
-use Rattle.re_labels.proofs.Membership.{AllByRecursion-In, AllByRecursion-from_In, AllByRecursion-from_contains, Contains-In, Contains-map_cases, In-Contains, length-map'}
+use Rattle.re_labels.proofs.Membership.{In, In-append_cases, In-append_left, In-map_from, AllByRecursion-In, AllByRecursion-from_In, AllByRecursion-from_contains, all-push, Contains-In, Contains-map_cases, In-Contains, length-map'}
 use Rattle.re_labels.specs.ListSets.{list_set, with_list}
-use Rattle.re_config.proofs.Sorting.{length-sorted}
-use Rattle.re_config.specs.Configs.{IsConfig, image_at, image_of}
-use Rattle.re_table.specs.Constraints.{IsConstraint}
+use Rattle.re_config.proofs.Sorting.{IsConfig-of_sorted, length-sorted}
+use Rattle.re_config.specs.Configs.{IsConfig, image_at, image_of, sorted}
+use Rattle.re_table.specs.Constraints.{IsConstraint, with_each}
 use Rattle.re_table.specs.PrefixTrees.{held_configs, leaf_configs}
 use Rattle.re_table.specs.declared.prefix_tree.Node.{Node}
 use Rattle.re_labels.specs.declared.TheConstants.{MAX_LABELS}
@@ -36,6 +36,36 @@ pub IsConstraint-either : (degree : ℕ) (configs now new : List (List ℕ)) (co
     → length config ≡ degree → IsConfig (length config) MAX_LABELS config → OnOk result (new ≡ with_list now config) → OnErr result (new ≡ now) → IsConstraint MAX_LABELS (record { degree = degree; configs = new })
 IsConstraint-either degree configs now new config (Ok b) is same e c ok err = IsConstraint-with degree configs new config is e c (ok ∙ ap (λ l. with_list l config) same)
 IsConstraint-either degree configs now new config (Err f) is same e c ok err = subst (λ l. IsConstraint MAX_LABELS (record { degree = degree; configs = l })) (sym (err ∙ same)) is
+
+-- with the configurations of labels and one more of some
+IsConstraint-some : (degree : ℕ) (configs new : List (List ℕ)) (labels some : List ℕ) → IsConstraint MAX_LABELS (record { degree = degree; configs = configs }) → length labels + 1 ≡ degree → AllByRecursion (λ x. x < MAX_LABELS) labels
+    → AllByRecursion (λ x. x < MAX_LABELS) some → new ≡ list_set (configs ++ with_each labels some) → IsConstraint MAX_LABELS (record { degree = degree; configs = new })
+IsConstraint-some degree configs new labels some is fit below lows n = subst (λ l. IsConstraint MAX_LABELS (record { degree = degree; configs = l })) (sym n) (record {
+  least = is.least;
+  most = is.most;
+  configs = AllByRecursion-from_In (IsConfig degree MAX_LABELS) (list_set (configs ++ with_each labels some)) (λ z i. elim (In-append_cases z configs (with_each labels some) (In-list_set (configs ++ with_each labels some) z i)) [
+    | inl j ↦ AllByRecursion-In (IsConfig degree MAX_LABELS) configs z is.configs j
+    | inr j ↦
+        let from = In-map_from (λ last. sorted (labels ++ last ∷ [])) z some j in
+        subst (IsConfig degree MAX_LABELS) (sym from.2) (each from.0 (AllByRecursion-In (λ x. x < MAX_LABELS) some from.0 lows from.1))
+  ]);
+  ascends = rising-list_set (configs ++ with_each labels some);
+})
+  where
+    each : (last : ℕ) → last < MAX_LABELS → IsConfig degree MAX_LABELS (sorted (labels ++ last ∷ []))
+    each last low =
+        let long : length (labels ++ last ∷ []) ≡ degree = length-append labels (last ∷ []) ∙ fit in
+        subst (λ d. IsConfig d MAX_LABELS (sorted (labels ++ last ∷ []))) (length-sorted (labels ++ last ∷ []) ∙ long)
+        (IsConfig-of_sorted (labels ++ last ∷ []) (subst (λ d. 2 ≤ d) (sym long) is.least) (subst (λ d. d ≤ 6) (sym long) is.most) (all-push (λ x. x < MAX_LABELS) labels last below low)).2
+
+-- whether all or some first ones were put in
+pub IsConstraint-each : (degree : ℕ) (configs now new : List (List ℕ)) (labels lasts : List ℕ) (result : Result Unit InsertFault) → IsConstraint MAX_LABELS (record { degree = degree; configs = configs }) → now ≡ configs → length labels + 1 ≡ degree
+    → AllByRecursion (λ x. x < MAX_LABELS) labels → AllByRecursion (λ x. x < MAX_LABELS) lasts → OnOk result (new ≡ list_set (now ++ with_each labels lasts))
+    → OnErr result ((begun rest : List ℕ) × (begun ++ rest ≡ lasts) × (new ≡ list_set (now ++ with_each labels begun))) → IsConstraint MAX_LABELS (record { degree = degree; configs = new })
+IsConstraint-each degree configs now new labels lasts (Ok u) is same fit below lows ok err = IsConstraint-some degree configs new labels lasts is fit below lows (ok ∙ ap (λ l. list_set (l ++ with_each labels lasts)) same)
+IsConstraint-each degree configs now new labels lasts (Err f) is same fit below lows ok (begun, rest, both, n) =
+    IsConstraint-some degree configs new labels begun is fit below
+    (AllByRecursion-from_In (λ x. x < MAX_LABELS) begun (λ x i. AllByRecursion-In (λ x. x < MAX_LABELS) lasts x lows (subst (In x) both (In-append_left x begun rest i)))) (n ∙ ap (λ l. list_set (l ++ with_each labels begun)) same)
 
 -- ---- many insertions
 -- one more configuration

@@ -1,12 +1,12 @@
 -- Walks over the choices of a row, one label after another.
 use Rattle.re_labels.proofs.Membership.{all-append}
-use Rattle.std.proofs.Common.{◌≡◌, ℕ, suc, ◌<◌, ◌+◌, ◌-◌, Bool, true, false, eqb, ◌&&◌, List, [], ◌∷◌, ◌++◌, length, map, take, refl, sym, ap, ◌∙◌, subst, arith, Some, None, append_assoc, append-nil, length-append}
+use Rattle.std.proofs.Common.{◌≡◌, ℕ, suc, ◌<◌, ◌+◌, ◌-◌, Bool, true, false, eqb, ◌&&◌, List, [], ◌∷◌, ◌++◌, length, map, take, refl, sym, ap, ◌∙◌, subst, arith, Some, append_assoc, append-nil, length-append}
 use Rattle.std.specs.Prelude.{Contains, IsTrue, ◌↔◌}
 use Rattle.std.specs.List.{list_all}
 use Rattle.re_config.proofs.LeastLabels.{first-is}
 use Rattle.re_config.specs.Configs.{sorted}
 use Rattle.re_config.specs.Rows.{choices, is_full}
-use Rattle.re_labels.proofs.Tests.{eqb-same, same_tests, and_assoc, and-whole}
+use Rattle.re_labels.proofs.Tests.{eqb-same, same_tests, and-whole}
 use Rattle.re_labels.specs.Lists.{IsRising}
 use Rattle.re_labels.specs.Sets.{IsLabelSet, first_of, without_label}
 use Rattle.re_table.proofs.Goodness.{Has-has_config, has_config-Has}

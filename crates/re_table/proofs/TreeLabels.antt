@@ -1,11 +1,11 @@
 -- The labels of a prefix tree's nodes are those of its configurations.
-use Rattle.std.proofs.Common.{◌≡◌, ℕ, zero, suc, ◌<◌, ◌≤◌, ◌+◌, Bool, true, false, ◌||◌, eqb, List, [], ◌∷◌, length, get_or, refl, sym, ap, ◌∙◌, subst, arith, inl, inr, ◌⊎◌}
+use Rattle.std.proofs.Common.{◌≡◌, ℕ, suc, ◌<◌, ◌≤◌, ◌+◌, Bool, true, false, ◌||◌, eqb, List, ◌∷◌, length, get_or, refl, sym, ap, ◌∙◌, subst, arith, inl, inr}
 use Rattle.std.specs.List.{list_any}
 use Rattle.std.specs.Prelude.{Contains, ◌↔◌, IsTrue}
 use Rattle.std.proofs.lemmas.List.{get_or_default}
 use Rattle.std.proofs.lemmas.List.Elements.{Contains-get_or}
 use Rattle.re_labels.proofs.Before.{three_ways}
-use Rattle.re_labels.proofs.Membership.{In, In-Contains, any_found, any_true}
+use Rattle.re_labels.proofs.Membership.{In-Contains, any_found, any_true}
 use Rattle.re_labels.proofs.Sets.{IsIn-has, has-IsIn, has-with_label}
 use Rattle.re_labels.proofs.Tests.{eqb-same, eqb-true}
 use Rattle.re_labels.specs.Sets.{has, with_label}

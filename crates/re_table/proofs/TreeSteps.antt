@@ -20,7 +20,7 @@ use Rattle.re_table.specs.declared.prefix_tree.Kind.{Kind}
 use Rattle.re_table.specs.declared.prefix_tree.Kind.TheVariants.{Inner, Leaf}
 use Rattle.re_table.specs.declared.prefix_tree.Node.{Node}
 use Rattle.re_table.specs.PrefixTrees.{IsBelow, IsPrefixTree, IsTable, IsTree, bare_root, begins, configs_of, held_configs, leaf_configs, leaves_of, node_at, prefix}
-use Rattle.re_table.specs.TreeGrowth.{IsFound, IsGrown, IsNewNode, linked, new_inner, new_inners, new_leaf, places_up, way_nodes, with_first, with_leaves}
+use Rattle.re_table.specs.TreeGrowth.{IsFound, IsGrown, IsLastLeaf, IsNewNode, linked, new_inner, new_inners, new_leaf, places_up, way_nodes, with_first, with_leaves}
 use Rattle.re_labels.specs.declared.TheConstants.{MAX_LABELS}
 
 -- ---- the new nodes in their order
@@ -57,6 +57,15 @@ module _ (config : List ℕ) (depth parent after start : ℕ) (inside : depth < 
       ap (node_at (way_nodes config depth parent after start)) at
       ∙ get_or-append_seam (new_inners config depth parent after start (length config - depth - 1)) (new_leaf config depth parent after start (length config - depth - 1)) [] bare_root
       ∙ ap (new_leaf config depth parent after start) last
+
+-- a way with the leaf alone
+pub way-leaf : (config : List ℕ) (last parent start : ℕ) → last + 1 ≡ length config → way_nodes config last parent 0 start ≡ record { label = get_or config last 0; next = 0; parent = parent; kind = Leaf config } ∷ []
+way-leaf config last parent start long =
+    let none : length config - last - 1 ≡ 0 = omega (arith, long) in
+    let same : last + 0 ≡ last = omega arith in
+    let first : eqb 0 0 ≡ true = eqb-same 0 in
+    ap (λ k. new_inners config last parent 0 start k ++ new_leaf config last parent 0 start k ∷ []) none
+    ∙ (λ i. record { label = get_or config (same i) 0; next = cond (first i) 0 0; parent = cond (first i) parent (start + 0 - 1); kind = Leaf config } ∷ [])
 
 -- ---- the link
 module _ (nodes : List Node) (parent before start : ℕ) (parent_within : parent < length nodes) (before_within : before < length nodes) where
@@ -409,18 +418,31 @@ module _ (nodes : List Node) (config : List ℕ) (depth parent before after : �
   pub held-written : held_configs new ≡ with_list (held_configs nodes) config
   held-written = ap list_set leaves-written ∙ list_set_push (leaf_configs nodes) config
 
+  grown : IsGrown nodes new held_tree.0 config (length config) depth parent before after
+  grown = IsGrown-written nodes config depth parent before after found held_tree.0 held_tree.1
+      (off_way (length config) nodes (held_configs nodes) held_tree.0 config depth parent before after held_tree.1 (found.gap held_tree.0 held_tree.1)) longer new is_longer same_length label next up kind
+
   pub IsPrefixTree-written : IsPrefixTree (length config) new
   IsPrefixTree-written =
       let key = held_tree.0 in
       let tree = held_tree.1 in
-      let gap = found.gap key tree in
-      let grown = IsGrown-written nodes config depth parent before after found key tree
-      (off_way (length config) nodes (held_configs nodes) key config depth parent before after tree gap) longer new is_longer same_length label next up kind in (
+      let gap = found.gap key tree in (
         grown_key key (length nodes) config depth,
         IsTree-grown (length config) nodes new (held_configs nodes) (held_configs new) key config depth parent before after filled tree gap grown found.inside refl low_labels
             (λ labels. ap (count_by (begins labels)) held-written ∙ count-with_list (begins labels) (held_configs nodes) config (λ i. is_new (In-Contains config (held_configs nodes) i)))
             (reached (length config) nodes key tree),
       )
+
+  -- where the last label alone is new and nothing comes behind it, the new node is the last leaf
+  pub last-written : depth + 1 ≡ length config → after ≡ 0 → IsLastLeaf new config (length nodes)
+  last-written last none =
+      let node = grown.new_node (length nodes) depth (omega arith) found.inside refl in
+      record {
+        within = omega (arith, grown.longer, last);
+        kind = node.leaf (omega (arith, last));
+        label = node.label ∙ ap (λ j. get_or config j 0) (omega (arith, last));
+        alone = node.top refl ∙ none;
+      }
 
 -- ---- how many leaves are counted
 leaves_of-with_first : (kind : Kind) (other : ℕ) → leaves_of (with_first kind other) ≡ leaves_of kind

@@ -1,5 +1,5 @@
 -- Nodes of a prefix tree whose labels are renumbered in place.
-use Rattle.std.specs.Prelude.{List, ℕ, map}
+use Rattle.std.specs.Prelude.{List, ℕ}
 use Rattle.re_config.specs.Configs.{image_at, image_of}
 use Rattle.re_table.specs.declared.prefix_tree.Kind.{Kind}
 use Rattle.re_table.specs.declared.prefix_tree.Kind.TheVariants.{Inner, Leaf}

@@ -4,16 +4,16 @@ ghost use Rattle.re_labels.specs.ListSets.{list_set, with_list};
 ghost use Rattle.re_labels.specs.Sets.{has};
 ghost use Rattle.re_config.specs.Configs.{image_of};
 ghost use Rattle.std.specs.List.Sorted.{IsPermutation};
-ghost use Rattle.re_table.specs.Constraints.{IsConstraint, images_of};
+ghost use Rattle.re_table.specs.Constraints.{IsConstraint, images_of, with_each};
 ghost use Rattle.re_table.specs.GoodRows.{is_allowed};
 ghost use Rattle.re_table.specs.PrefixTrees.{IsPrefixTree, held_configs};
 ghost use Rattle.std.specs.List.{AllByRecursion, list_any};
-ghost use Rattle.std.specs.Prelude.{◌≡◌, ◌≤◌, ◌<◌, ◌↔◌, ℕ, [], length, slice_index_or, OnErr, OnOk, MatchResult, IsSome, IsTrue, IfOk, IfSome, insert, map, Contains};
+ghost use Rattle.std.specs.Prelude.{◌≡◌, ◌≤◌, ◌<◌, ◌+◌, ◌++◌, ◌↔◌, ℕ, List, [], length, slice_index_or, OnErr, OnOk, MatchResult, IsSome, IsTrue, IfOk, IfSome, insert, map, Contains};
 
 use crate::configurations::{Configurations, walk_of};
 use crate::prefix_tree::{
     Node, Trail, copied, draws_from, is_held, labels_of, leaf_at, leaf_count, leaf_images,
-    make_root, put, renumber_nodes,
+    make_root, put, put_each, renumber_nodes,
 };
 use re_config::{Config, Row};
 use re_labels::{LabelSet, MAX_LABELS, NoMemory};
@@ -179,6 +179,25 @@ impl Constraint {
             return Err(InsertFault::NoMemory);
         }
         put(&mut self.nodes, &config, &mut self.trail)
+    }
+
+    /// The configurations of these labels and one of the set more, in ascending order of that; each counts once. They are refused with
+    /// `TooManyConfigurations` only where there would be more than `MAX_CONFIGURATIONS`, and always there unless memory runs out. After a
+    /// refusal it has those of some first labels of the set besides what it had. Where they come behind all that begin with these
+    /// labels, it goes down the tree once; else as `insert` does for each.
+    pub fn insert_each(&mut self, labels: &[u8], lasts: LabelSet) -> Result<(), InsertFault>
+        requires fit { length labels.now + 1 ≡ self.old.degree }
+        requires below { AllByRecursion (λ label. label < MAX_LABELS) labels.now }
+        ensures degree { self.new.degree ≡ self.old.degree }
+        ensures configs { OnOk result (self.new.configs ≡ list_set (self.old.configs ++ with_each labels.now lasts)) }
+        ensures full { (result ≡ Err InsertFault.TooManyConfigurations) → MAX_CONFIGURATIONS < length (list_set (self.old.configs ++ with_each labels.now lasts)) }
+        ensures err { OnErr result ((begun rest : List ℕ) × (begun ++ rest ≡ lasts) × (self.new.configs ≡ list_set (self.old.configs ++ with_each labels.now begun))) }
+    {
+        let _count = lasts.count();
+        if let Err(_) = make_root(&mut self.nodes, self.degree) {
+            return Err(InsertFault::NoMemory);
+        }
+        put_each(&mut self.nodes, labels, lasts, &mut self.trail)
     }
 
     /// The same constraint in memory of its own.

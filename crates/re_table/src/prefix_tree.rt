@@ -1,8 +1,10 @@
 //! The nodes of a prefix tree of configurations, in one vector.
 ghost use Rattle.re_table.specs.PrefixTrees.{IsInnerPlace, IsLink, IsPrefixTree, IsTable, IsTree, configs_of, first_of, held_configs, leaf_configs, leaves_of, node_at, prefix};
-ghost use Rattle.re_table.specs.TreeGrowth.{IsFound, linked, places_up, way_nodes, with_first, with_leaves};
-ghost use Rattle.re_config.specs.Configs.{image_at, image_of};
-ghost use Rattle.re_labels.specs.ListSets.{with_list};
+ghost use Rattle.re_table.specs.TreeGrowth.{IsChildBefore, IsFound, IsLastLeaf, IsLonger, linked, places_up, way_nodes, with_first, with_leaves};
+ghost use Rattle.re_config.specs.Configs.{image_at, image_of, sorted};
+ghost use Rattle.re_labels.specs.Lists.{IsRising};
+ghost use Rattle.re_table.specs.Constraints.{with_each};
+ghost use Rattle.re_labels.specs.ListSets.{list_set, with_list};
 ghost use Rattle.re_labels.specs.Sets.{IsLabelSet, has};
 ghost use Rattle.re_table.specs.Fitting.{Completes, CompletesFrom, IsOpen};
 ghost use Rattle.std.specs.List.{AllByRecursion, list_any, remove};
@@ -165,7 +167,7 @@ pub struct Spot {
 
 // How many labels in front are the same.
 fn shared(labels: &[u8], others: &[u8]) -> usize
-    requires { length others.now ≡ length labels.now }
+    requires { length labels.now ≤ length others.now }
     ensures most { result ≤ length labels.now }
     ensures same { prefix labels.now result ≡ prefix others.now result }
 {
@@ -250,7 +252,8 @@ fn add_way(nodes: &mut Vec<Node>, config: &Config, depth: usize, parent: usize, 
     requires few { vec_len nodes.old + length config.now < 2 ^ 32 }
     requires parent { parent < vec_len nodes.old }
     requires after { after < vec_len nodes.old }
-    ensures { nodes.new.items ≡ nodes.old.items ++ way_nodes config.now depth parent after (length nodes.old.items) }
+    ensures items { nodes.new.items ≡ nodes.old.items ++ way_nodes config.now depth parent after (length nodes.old.items) }
+    ensures capacity { vec_capacity nodes.new ≡ vec_capacity nodes.old }
 {
     let last = config.labels().len() - 1;
     let mut next = after as u32;
@@ -324,23 +327,68 @@ fn count_up(nodes: &mut [Node], start: usize, count: usize)
     }
 }
 
-/// Puts the configuration in at its gap, counted at the places above it.
+// Links the way of a configuration, whose nodes lie behind those of the tree from `start` on, into it, and counts the leaf at the places
+// above it.
+fn join_way(nodes: &mut Vec<Node>, config: &Config, gap: Gap, start: u32)
+    requires { (old : List Node) × IsLonger MAX_CONFIGURATIONS old nodes.old.items config.now gap.depth gap.parent gap.between.before gap.between.after start }
+    ensures table { IsTable (length config.now) MAX_CONFIGURATIONS nodes.new.items }
+    ensures held { (old : List Node) → IsLonger MAX_CONFIGURATIONS old nodes.old.items config.now gap.depth gap.parent gap.between.before gap.between.after start → held_configs nodes.new.items ≡ with_list (held_configs old) config.now }
+    ensures len { vec_len nodes.new ≡ vec_len nodes.old }
+    ensures capacity { vec_capacity nodes.new ≡ vec_capacity nodes.old }
+    ensures leaf { (old : List Node) → IsLonger MAX_CONFIGURATIONS old nodes.old.items config.now gap.depth gap.parent gap.between.before gap.between.after start → gap.depth + 1 ≡ length config.now → gap.between.after ≡ 0 → IsLastLeaf nodes.new.items config.now start }
+{
+    let _labels = config.labels();
+    link(nodes.as_mut_slice(), gap.parent, gap.between.before, start);
+    count_up(nodes.as_mut_slice(), gap.parent, gap.depth + 1);
+}
+
+/// Puts the configuration in at its gap.
 fn grow(nodes: &mut Vec<Node>, config: &Config, gap: Gap)
-    requires tree { IsPrefixTree (length config.now) nodes.old.items }
+    requires table { IsTable (length config.now) MAX_CONFIGURATIONS nodes.old.items }
     requires found { IsFound nodes.old.items config.now gap.depth gap.parent gap.between.before gap.between.after }
     requires room { vec_len nodes.old + length config.now ≤ vec_capacity nodes.old }
-    requires few { vec_len nodes.old + length config.now < 2 ^ 32 }
-    requires counted { length (held_configs nodes.old.items) + 7 < 2 ^ 32 }
-    ensures tree { IsPrefixTree (length config.now) nodes.new.items }
-    ensures leaves { leaf_configs nodes.new.items ≡ leaf_configs nodes.old.items ++ config.now ∷ [] }
+    requires few { length (held_configs nodes.old.items) < MAX_CONFIGURATIONS }
+    ensures table { IsTable (length config.now) MAX_CONFIGURATIONS nodes.new.items }
     ensures held { held_configs nodes.new.items ≡ with_list (held_configs nodes.old.items) config.now }
-    ensures len { vec_len nodes.new ≤ vec_len nodes.old + length config.now }
+    ensures len { vec_len nodes.new + gap.depth ≡ vec_len nodes.old + length config.now }
 {
     let _labels = config.labels();
     let start = nodes.len() as u32;
     add_way(nodes, config, gap.depth, gap.parent, gap.between.after);
-    link(nodes.as_mut_slice(), gap.parent, gap.between.before, start);
-    count_up(nodes.as_mut_slice(), gap.parent, gap.depth + 1);
+    join_way(nodes, config, gap, start);
+}
+
+// Puts the configuration in behind the leaf nearby, the last child, and gives its place: its leaf alone is new, and the last node.
+fn grow_behind(nodes: &mut Vec<Node>, config: &Config, last: usize, near: usize) -> usize
+    requires last { last + 1 ≡ length config.now }
+    requires table { IsTable (length config.now) MAX_CONFIGURATIONS nodes.old.items }
+    requires found { IsFound nodes.old.items config.now last (node_at nodes.old.items near).parent near 0 }
+    requires room { vec_len nodes.old < vec_capacity nodes.old }
+    requires few { length (held_configs nodes.old.items) < MAX_CONFIGURATIONS }
+    ensures table { IsTable (length config.now) MAX_CONFIGURATIONS nodes.new.items }
+    ensures held { held_configs nodes.new.items ≡ with_list (held_configs nodes.old.items) config.now }
+    ensures len { vec_len nodes.new ≡ vec_len nodes.old + 1 }
+    ensures capacity { vec_capacity nodes.new ≡ vec_capacity nodes.old }
+    ensures leaf { IsLastLeaf nodes.new.items config.now result }
+{
+    let parent = nodes[near].parent;
+    let start = nodes.len();
+    nodes.push_reserved(Node {
+        label: config.labels()[last],
+        next: 0,
+        parent,
+        kind: Kind::Leaf(config.copy()),
+    });
+    let gap = Gap {
+        depth: last,
+        parent: parent as usize,
+        between: Between {
+            before: near,
+            after: 0,
+        },
+    };
+    join_way(nodes, config, gap, start as u32);
+    start
 }
 
 /// The child below which the leaf with this number lies, where leaves are counted below the parent, and its number there.
@@ -493,6 +541,7 @@ pub fn put(nodes: &mut Vec<Node>, config: &Config, trail: &mut Trail) -> Result<
     requires table { IsTable (length config.now) MAX_CONFIGURATIONS nodes.old.items }
     requires filled { 0 < length nodes.old.items }
     ensures table { IsTable (length config.now) MAX_CONFIGURATIONS nodes.new.items }
+    ensures filled { 0 < length nodes.new.items }
     ensures held { OnOk result (held_configs nodes.new.items ≡ with_list (held_configs nodes.old.items) config.now) }
     ensures is_new { IfOk result (λ is_new. IsTrue is_new ↔ (Contains (held_configs nodes.old.items) config.now → ⊥)) }
     ensures full { (result ≡ Err InsertFault.TooManyConfigurations) ↔ ((length (held_configs nodes.old.items) ≡ MAX_CONFIGURATIONS) × (Contains (held_configs nodes.old.items) config.now → ⊥)) }
@@ -512,6 +561,108 @@ pub fn put(nodes: &mut Vec<Node>, config: &Config, trail: &mut Trail) -> Result<
     note_new(trail, gap.depth, labels, nodes.len());
     grow(nodes, config, gap);
     Ok(true)
+}
+
+// The configuration of these labels and one more. Each count of labels has its own arm, so that nothing goes over them at run time.
+fn config_with(labels: &[u8], last: u8) -> Config
+    requires some { 1 ≤ length labels.now }
+    requires five { length labels.now ≤ 5 }
+    requires below { AllByRecursion (λ label. label < MAX_LABELS) labels.now }
+    requires last { last < MAX_LABELS }
+    ensures { result ≡ sorted (labels.now ++ last ∷ []) }
+{
+    match labels {
+        [a] => Config::with_last(&[*a], last),
+        [a, b] => Config::with_last(&[*a, *b], last),
+        [a, b, c] => Config::with_last(&[*a, *b, *c], last),
+        [a, b, c, d] => Config::with_last(&[*a, *b, *c, *d], last),
+        _ => Config::with_last(labels, last),
+    }
+}
+
+// Whether the leaf nearby is that of these labels and a lower one than the least of the set, and no sibling comes behind it. Those with
+// a label of the set come right behind it then.
+fn goes_on(nodes: &[Node], labels: &[u8], least: u8, near: usize) -> bool
+    requires tree { IsPrefixTree (length labels.now + 1) nodes.now }
+    requires some { 1 ≤ length labels.now }
+    ensures { result ≡ true → IsChildBefore nodes.now labels.now near least × IsRising (λ x y. x ≤ y) (labels.now ++ least ∷ []) }
+{
+    if near >= nodes.len() {
+        return false;
+    }
+    let node = &nodes[near];
+    let Kind::Leaf(other) = &node.kind else {
+        return false;
+    };
+    if node.next != 0
+        || node.label >= least
+        || labels[labels.len() - 1] > least
+        || shared(labels, other.labels()) != labels.len()
+    {
+        return false;
+    }
+    true
+}
+
+// Puts in the configurations of these labels and one of the set behind the leaf nearby, and gives the place of the last leaf.
+fn grow_run(nodes: &mut Vec<Node>, labels: &[u8], lasts: LabelSet, near: usize) -> usize
+    requires some { 1 ≤ length labels.now }
+    requires five { length labels.now ≤ 5 }
+    requires below { AllByRecursion (λ label. label < MAX_LABELS) labels.now }
+    requires set { IsLabelSet MAX_LABELS lasts }
+    requires table { IsTable (length labels.now + 1) MAX_CONFIGURATIONS nodes.old.items }
+    requires behind { AllByRecursion (λ last. IsChildBefore nodes.old.items labels.now near last × IsRising (λ x y. x ≤ y) (labels.now ++ last ∷ [])) lasts }
+    requires few { length (held_configs nodes.old.items) + length lasts ≤ MAX_CONFIGURATIONS }
+    requires room { vec_len nodes.old + length lasts + 6 ≤ vec_capacity nodes.old }
+    ensures table { IsTable (length labels.now + 1) MAX_CONFIGURATIONS nodes.new.items }
+    ensures held { held_configs nodes.new.items ≡ list_set (held_configs nodes.old.items ++ with_each labels.now lasts) }
+{
+    let mut left = lasts;
+    let mut at = near;
+    'run: while let Some(last) = left.first() {
+        at = grow_behind(nodes, &config_with(labels, last), labels.len(), at);
+        left = left.remove(last);
+    }
+    at
+}
+
+/// Puts in the configurations of these labels and one of the set, in ascending order of that. The trail is the way of the last one then.
+/// Where they come behind the last child of a node, the way is looked for once. After a refusal those of some first labels of the set
+/// may have been put in.
+pub fn put_each(
+    nodes: &mut Vec<Node>,
+    labels: &[u8],
+    lasts: LabelSet,
+    trail: &mut Trail,
+) -> Result<(), InsertFault>
+    requires some { 1 ≤ length labels.now }
+    requires five { length labels.now ≤ 5 }
+    requires below { AllByRecursion (λ label. label < MAX_LABELS) labels.now }
+    requires table { IsTable (length labels.now + 1) MAX_CONFIGURATIONS nodes.old.items }
+    requires filled { 0 < length nodes.old.items }
+    ensures table { IsTable (length labels.now + 1) MAX_CONFIGURATIONS nodes.new.items }
+    ensures held { OnOk result (held_configs nodes.new.items ≡ list_set (held_configs nodes.old.items ++ with_each labels.now lasts)) }
+    ensures full { (result ≡ Err InsertFault.TooManyConfigurations) → MAX_CONFIGURATIONS < length (list_set (held_configs nodes.old.items ++ with_each labels.now lasts)) }
+    ensures err { OnErr result ((begun rest : List ℕ) × (begun ++ rest ≡ lasts) × (held_configs nodes.new.items ≡ list_set (held_configs nodes.old.items ++ with_each labels.now begun))) }
+{
+    let _count = lasts.count();
+    let mut left = lasts;
+    'each: while let Some(last) = left.first() {
+        let near = trail.at(labels.len());
+        let count = left.count() as usize;
+        if leaf_count(nodes.as_slice()) + count <= MAX_CONFIGURATIONS
+            && goes_on(nodes.as_slice(), labels, last, near)
+        {
+            if let Err(_) = nodes.reserve(count + 6) {
+                return Err(InsertFault::NoMemory);
+            }
+            trail.note(labels.len(), grow_run(nodes, labels, left, near));
+            return Ok(());
+        }
+        put(nodes, &config_with(labels, last), trail)?;
+        left = left.remove(last);
+    }
+    Ok(())
 }
 
 /// The same node.

@@ -1,7 +1,6 @@
-use Rattle.std.proofs.Common.{◌≡◌, ◌<◌, ◌∙◌, ap, sym, arith, length}
-use Rattle.re_table.proofs.TreeLabels.{IsLabelBefore, labels-held, labels-more}
+use Rattle.std.proofs.Common.{ap, sym, arith}
+use Rattle.re_table.proofs.TreeLabels.{labels-held, labels-more}
 use Rattle.re_table.proofs.TreeWalks.{read-there}
-use Rattle.re_table.specs.PrefixTrees.{node_at}
 use Rattle.re_table.specs.declared.prefix_tree.Node.{Node}
 use Rattle.re_table.proofs.prefix_tree.labels_of.Goals as goal
 

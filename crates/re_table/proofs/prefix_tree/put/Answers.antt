@@ -1,15 +1,12 @@
-use Rattle.std.proofs.Common.{◌≡◌, ◌∙◌, ◌∷◌, ◌++◌, [], ap, sym, subst, arith, length, List, ℕ, refl}
+use Rattle.std.proofs.Common.{◌≡◌, ◌∙◌, ap, sym, subst, length, List, ℕ, refl}
 use Rattle.std.specs.Prelude.{Contains}
 use Rattle.re_labels.proofs.ListSets.{rising-list_set}
-use Rattle.re_labels.specs.ListSets.{with_list}
 use Rattle.re_labels.proofs.Searching.{with_list-held}
 use Rattle.re_table.proofs.TreeLeaves.{gap-new}
-use Rattle.re_table.proofs.TreeSteps.{IsTable-more}
 use Rattle.re_table.specs.PrefixTrees.{IsPrefixTree, held_configs, leaf_configs}
 use Rattle.re_table.specs.TreeGrowth.{IsFound}
 use Rattle.re_table.specs.declared.prefix_tree.Node.{Node}
 use Rattle.re_table.proofs.prefix_tree.put.Goals as goal
-use Rattle.re_table.specs.declared.constraint_table.TheConstants.{MAX_CONFIGURATIONS}
 
 absent : (nodes read : List Node) (config : List ℕ) (depth parent before after : ℕ) → read ≡ nodes → IsPrefixTree (length config) nodes → IsFound read config depth parent before after → Contains (held_configs nodes) config → ⊥
 absent nodes read config depth parent before after same tree found =
@@ -32,18 +29,6 @@ returns-then-leaf_count-eq-MAX_CONFIGURATIONS-clause-full c =
       ),
       λ _. refl,
     )
-
-pub returns-clause-table : goal.returns-clause-table
-returns-clause-table c =
-    let nodes = c.args.nodes.now.items in
-    let count = ap (λ l. length (held_configs l)) c.as_slice-2.ensures.value in
-    IsTable-more (length c.args.config.now) MAX_CONFIGURATIONS nodes c.grow.new.nodes.items c.args.config.now c.requires.table c.labels-labels.ensures.six
-    (omega (arith, count, c.leaf_count.ensures, c.if-leaf_count-eq-MAX_CONFIGURATIONS.false, c.requires.table.few))
-    (absent nodes c.as_slice.result.now c.args.config.now c.in-Some.gap.depth c.in-Some.gap.parent c.in-Some.gap.between.before c.in-Some.gap.between.after
-    c.as_slice.ensures.value c.requires.table.tree c.in-Some.ensures)
-    c.grow.ensures.tree (c.grow.ensures.leaves ∙ ap (λ l. leaf_configs l ++ c.args.config.now ∷ []) c.in_default.ensures.items)
-    (c.grow.ensures.held ∙ ap (λ l. with_list (held_configs l) c.args.config.now) c.in_default.ensures.items)
-    (omega (arith, c.grow.ensures.len, c.in_default.ensures.len, c.grow.new.nodes.ok.0, c.args.nodes.now.ok.0))
 
 pub returns-clause-is_new : goal.returns-clause-is_new
 returns-clause-is_new c =

@@ -1,4 +1,4 @@
-use Rattle.std.proofs.Common.{◌≡◌, ◌<◌, ◌∷◌, ◌∙◌, ℕ, List, length, ap, sym, subst, arith}
+use Rattle.std.proofs.Common.{◌≡◌, ◌<◌, ◌∙◌, length, ap, sym, subst, arith}
 use Rattle.re_table.proofs.TreeWalks.{first_link, read-node, read-there, walk_near, walk_start, walk_within}
 use Rattle.re_table.specs.PrefixTrees.{first_of, held_configs, node_at}
 use Rattle.re_table.specs.declared.prefix_tree.Node.{Node}

@@ -11,9 +11,10 @@ ghost use Rattle.std.specs.List.{AllByRecursion, list_any};
 ghost use Rattle.std.specs.Prelude.{◌≡◌, ◌≤◌, ◌<◌, ◌+◌, ◌++◌, ◌↔◌, ℕ, List, [], length, slice_index_or, OnErr, OnOk, MatchResult, IsSome, IsTrue, IfOk, IfSome, insert, map, Contains};
 
 use crate::configurations::{Configurations, walk_of};
+use crate::drawing::draws_from;
 use crate::prefix_tree::{
-    Node, Trail, copied, draws_from, is_held, labels_of, leaf_at, leaf_count, leaf_images,
-    make_root, put, put_each, renumber_nodes,
+    Node, Trail, copied, is_held, labels_of, leaf_at, leaf_count, leaf_images, make_root, put,
+    put_each, renumber_nodes,
 };
 use re_config::{Config, Row};
 use re_labels::{LabelSet, MAX_LABELS, NoMemory};

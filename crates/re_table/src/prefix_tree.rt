@@ -1,13 +1,12 @@
 //! The nodes of a prefix tree of configurations, in one vector.
-ghost use Rattle.re_table.specs.PrefixTrees.{IsInnerPlace, IsLink, IsPrefixTree, IsTable, IsTree, configs_of, first_of, held_configs, leaf_configs, leaves_of, node_at, prefix};
+ghost use Rattle.re_table.specs.PrefixTrees.{IsInnerPlace, IsPrefixTree, IsTable, IsTree, configs_of, first_of, held_configs, leaf_configs, leaves_of, node_at, prefix};
 ghost use Rattle.re_table.specs.TreeGrowth.{IsChildBefore, IsFound, IsLastLeaf, IsLonger, linked, places_up, way_nodes, with_first, with_leaves};
 ghost use Rattle.re_config.specs.Configs.{image_at, image_of, sorted};
 ghost use Rattle.re_labels.specs.Lists.{IsRising};
 ghost use Rattle.re_table.specs.Constraints.{with_each};
 ghost use Rattle.re_labels.specs.ListSets.{list_set, with_list};
 ghost use Rattle.re_labels.specs.Sets.{IsLabelSet, has};
-ghost use Rattle.re_table.specs.Fitting.{Completes, CompletesFrom, IsOpen};
-ghost use Rattle.std.specs.List.{AllByRecursion, list_any, remove};
+ghost use Rattle.std.specs.List.{AllByRecursion, list_any};
 ghost use Rattle.std.specs.List.Sorted.{IsPermutation};
 ghost use Rattle.std.specs.Vec.{vec_capacity, vec_len};
 ghost use Rattle.re_table.specs.Renumbered.{node_image};
@@ -15,7 +14,6 @@ ghost use Rattle.re_table.specs.TreeWalks.{IsMissing, IsWalked, precedes};
 ghost use Rattle.std.specs.Prelude.{◌≡◌, ◌<◌, ◌≤◌, ◌+◌, ◌^◌, ◌==◌, ◌∷◌, ◌++◌, [], ℕ, Contains, List, IfOk, IfSome, IsTrue, MatchOption, MatchResult, OnErr, OnOk, ◌↔◌, true, count_by, map, length, slice_index_or};
 
 use crate::{InsertFault, MAX_CONFIGURATIONS};
-use arrayvec::ArrayVec;
 use re_config::Config;
 use re_labels::{LabelSet, MAX_LABELS, NoMemory};
 use std::alloc::Global;
@@ -757,60 +755,4 @@ pub fn leaf_images(alloc: Global, nodes: &[Node], images: &[u8]) -> Result<Vec<C
         all.as_mut_slice().reverse();
     }
     Ok(all)
-}
-
-/// The sets without the one at this place.
-fn without(sets: &[LabelSet], place: usize) -> ArrayVec<LabelSet, 6>
-    requires place { place < length sets.now }
-    requires six { length sets.now ≤ 6 }
-    ensures { result.items ≡ remove sets.now place }
-{
-    let mut rest = ArrayVec::new();
-    for before in &sets[..place] {
-        rest.push(*before);
-    }
-    for after in &sets[place + 1..] {
-        rest.push(*after);
-    }
-    rest
-}
-
-/// Whether some configuration below the siblings from this one on draws its labels from there on from the sets, one from
-/// each. A branch is left where its label is in no set, or no branch below it draws the others.
-fn completes_from(nodes: &[Node], at: usize, sets: &[LabelSet]) -> bool
-    requires open { IsOpen nodes.now at sets.now }
-    requires six { length sets.now ≤ 6 }
-    ensures { (degree : ℕ) (key : ℕ → List ℕ) (above : List ℕ) (least : ℕ) → IsTree degree nodes.now (held_configs nodes.now) key → length above + length sets.now ≡ degree
-        → IsLink nodes.now key above least at → IsTrue result ↔ CompletesFrom (held_configs nodes.now) above least sets.now }
-{
-    if at == 0 {
-        return false;
-    }
-    let label = nodes[at].label;
-    let first = first_of(&nodes[at].kind) as usize;
-    for place in 0..sets.len() {
-        if sets[place].has(label) {
-            let rest = without(sets, place);
-            if rest.is_empty() {
-                return true;
-            }
-            if completes_from(nodes, first, rest.as_slice()) {
-                return true;
-            }
-        }
-    }
-    completes_from(nodes, nodes[at].next as usize, sets)
-}
-
-/// Whether some configuration draws its labels from the sets, one from each.
-pub fn draws_from(nodes: &[Node], sets: &[LabelSet]) -> bool
-    requires tree { IsPrefixTree (length sets.now) nodes.now }
-    requires some { 0 < length sets.now }
-    requires six { length sets.now ≤ 6 }
-    ensures { IsTrue result ↔ Completes (held_configs nodes.now) [] sets.now }
-{
-    match nodes.first() {
-        Some(root) => completes_from(nodes, first_of(&root.kind) as usize, sets),
-        None => false,
-    }
 }

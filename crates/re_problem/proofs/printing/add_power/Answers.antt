@@ -9,7 +9,7 @@ digit_power : (count : ℕ) → 1 < count → count < 10 → 94 ∷ (48 + count)
 digit_power count some few =
     ap (λ l. 94 ∷ l) (sym (decimal_digit count few)) ∙ ap (λ b. cond b [] (codes "^" ++ decimal count)) (sym (eqb-apart count 1 (λ e. absurd (omega arith))))
 
-pub returns-then-count-gt1-clause-power : goal.returns-then-count-gt1-clause-power
-returns-then-count-gt1-clause-power c =
-    c.push-then-count-gt1.ensures.items ∙ ap (λ l. l ++ (48 + c.args.count) ∷ []) c.push.ensures.items ∙ append_assoc c.args.line.now (94 ∷ []) ((48 + c.args.count) ∷ [])
-    ∙ ap (λ l. c.args.line.now ++ l) (digit_power c.args.count c.if-count-gt1.true c.requires.few)
+pub returns-clause-power : goal.returns-clause-power
+returns-clause-power c front ended =
+    c.push-3.ensures.items ∙ ap (λ l. l ++ 32 ∷ []) (c.push-2.ensures.items ∙ ap (λ l. l ++ (48 + c.args.count) ∷ []) (c.push.ensures.items ∙ ap (λ l. l ++ 94 ∷ []) (c.pop.ensures.items front 32 ended)))
+    ∙ ap (λ l. l ++ codes " ") (append_assoc front (94 ∷ []) ((48 + c.args.count) ∷ []) ∙ ap (λ l. front ++ l) (digit_power c.args.count c.requires.some c.requires.few))

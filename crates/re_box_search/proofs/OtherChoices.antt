@@ -19,16 +19,6 @@ use Rattle.re_strength.proofs.SetsAtPlaces.{set_under, under_at, under_set}
 use Rattle.re_strength.specs.Parts.{IsPartCovered, left_out}
 
 -- ---- choices with another label at a place
-pub labels_with : (P : ℕ → Type 0) (c : List ℕ) (place y : ℕ) → AllByRecursion P c → P y → AllByRecursion P (slice_set c place y)
-labels_with P [] place y h k = tt
-labels_with P (x ∷ c) zero y h k = (k, h.1)
-labels_with P (x ∷ c) (suc place) y h k = (h.0, labels_with P c place y h.1 k)
-
-pub length-with : (c : List ℕ) (place y : ℕ) → length (slice_set c place y) ≡ length c
-length-with [] place y = refl
-length-with (x ∷ c) zero y = refl
-length-with (x ∷ c) (suc place) y = ap suc (length-with c place y)
-
 pub same_choice : (c : List ℕ) (place : ℕ) → slice_set c place (get_or c place 0) ≡ c
 same_choice [] place = refl
 same_choice (x ∷ c) zero = refl

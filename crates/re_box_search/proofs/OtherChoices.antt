@@ -10,8 +10,8 @@ use Rattle.re_config.proofs.Rows.{all_at}
 use Rattle.re_config.specs.Rows.{IsChoice, IsUnder, set_at}
 use Rattle.re_labels.proofs.Membership.{Contains-filter}
 use Rattle.re_labels.proofs.Sets.{IsIn-has, IsIn-union_cases, has-IsIn}
-use Rattle.re_labels.proofs.Tests.{eqb-same, eqb-true}
-use Rattle.re_labels.specs.Sets.{IsIn, IsWithin, has, union, without_label}
+use Rattle.re_labels.proofs.Tests.{eqb-same}
+use Rattle.re_labels.specs.Sets.{IsIn, IsWithin, has, union}
 use Rattle.re_table.specs.Constraints.{Constraint, Has}
 use Rattle.re_box_search.specs.Held.{AreHeldBeside}
 use Rattle.re_table.specs.GoodRows.{IsDominated}
@@ -40,13 +40,6 @@ other_chosen (x ∷ c) (s ∷ r) (suc place) y e h k = (
   h zero (omega arith) (λ q. absurd (omega (arith, q))),
   other_chosen c r place y (omega (arith, e)) (λ i b ne. h (suc i) (omega (arith, b)) (λ q. ne (omega (arith, q)))) k,
 )
-
--- a label of the set is this one or stays
-pub kept_cases : (s : List ℕ) (x z : ℕ) → IsIn z s → (z ≡ x) ⊎ IsIn z (without_label s x)
-kept_cases s x z h = elim (eqb z x) as (λ b. eqb z x ≡ b → (z ≡ x) ⊎ IsIn z (without_label s x)) [
-  | true ↦ λ e. inl (eqb-true z x e)
-  | false ↦ λ e. inr (Contains-filter (λ y. not (eqb y x)) s z h (ap not e))
-] refl
 
 pub same_or_apart : (i j : ℕ) → (i ≡ j) ⊎ (i ≡ j → ⊥)
 same_or_apart i j = elim (eqb_tells i j) [ inl t ↦ inl t.1 | inr t ↦ inr (λ e. false≢true (sym t.0 ∙ subst (λ k. eqb i k ≡ true) e (eqb-same i))) ]

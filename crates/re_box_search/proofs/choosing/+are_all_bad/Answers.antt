@@ -3,9 +3,8 @@ use Rattle.std.specs.Prelude.{slice_set}
 use Rattle.std.proofs.lemmas.Bool.{false≢true}
 use Rattle.re_config.specs.Configs.{sorted}
 use Rattle.re_labels.specs.Sets.{IsIn}
-use Rattle.re_strength.proofs.DrawnChoices.{found-has, without_label-fewer}
+use Rattle.re_strength.proofs.DrawnChoices.{found-has, label_cases, without_label-fewer}
 use Rattle.re_table.specs.Constraints.{Has}
-use Rattle.re_box_search.proofs.OtherChoices.{kept_cases}
 use Rattle.re_box_search.proofs.choosing.+are_all_bad.Goals as goal
 
 pub are_all_bad-requires : goal.are_all_bad-requires
@@ -16,7 +15,7 @@ returns t c told label i =
     let with = slice_set c.args.choice.now c.args.place in
     let other = c.as_slice.ensures.value ∙ c.with_label-other.ensures in
     let has = found-has c.args.constraint.now (with c.in-Some.label) c.from_labels.result c.contains_near.result c.contains_near.ensures (c.from_labels.ensures ∙ ap sorted other) in
-    elim (kept_cases c.args.labels c.in-Some.label label i) [
+    elim (label_cases c.args.labels c.in-Some.label label i) [
       | inl same ↦ λ h. false≢true (sym c.if-contains_near.false ∙ has.1 (subst (λ y. Has c.args.constraint.now (with y)) same h))
       | inr k ↦ c.are_all_bad.ensures told label (subst (IsIn label) (sym c.remove.ensures) k)
     ]

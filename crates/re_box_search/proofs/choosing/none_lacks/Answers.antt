@@ -5,9 +5,10 @@ use Rattle.re_config.proofs.RowCalls.{read_within}
 use Rattle.re_config.specs.Rows.{set_at}
 use Rattle.re_labels.specs.Sets.{IsIn, without_label}
 use Rattle.re_labels.specs.declared.TheConstants.{MAX_LABELS}
+use Rattle.re_strength.proofs.DrawnChoices.{label_cases}
 use Rattle.re_strength.proofs.RaisedChoices.{choice_at, choice_below}
 use Rattle.re_table.specs.Constraints.{Has}
-use Rattle.re_box_search.proofs.OtherChoices.{kept_cases, none_lacking, same_choice}
+use Rattle.re_box_search.proofs.OtherChoices.{none_lacking, same_choice}
 use Rattle.re_box_search.proofs.choosing.none_lacks.Goals as goal
 
 pub only_place-requires-clause-even : goal.only_place-requires-clause-even
@@ -37,7 +38,7 @@ returns c told ups rows =
     none_lacking c.args.constraint.now ups rows c.args.must.now c.args.may.now c.args.choice.now place (length-AllZip IsIn c.args.choice.now c.args.may.now c.requires.choice) c.requires.count c.in-Some.ensures
     (λ inside y i.
     let mine : c.index-may-place.result ≡ set_at c.args.may.now place = c.index-may-place.is ∙ read_within c.args.may.now place c.index-may-place.result [] inside in
-    elim (kept_cases (set_at c.args.may.now place) label y i) [
+    elim (label_cases (set_at c.args.may.now place) label y i) [
       | inl same ↦ λ h. c.requires.bad (subst (Has c.args.constraint.now) (same_choice c.args.choice.now place) (subst (λ z. Has c.args.constraint.now (slice_set c.args.choice.now place z)) same h))
       | inr k ↦ c.are_all_bad.ensures told y (subst (IsIn y) (sym (c.remove-others.ensures ∙ ap (λ s. without_label s label) mine)) k)
     ])

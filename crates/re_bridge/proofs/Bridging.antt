@@ -22,6 +22,7 @@ use Rattle.re_problem.specs.NamedProblems.{IsNamedProblem, NamedProblem, unnamed
 use Rattle.re_problem.specs.Steps.{IsLowerStepByRow, IsLowerStepBySet, LowerMap, SetEntry, entry_sets, label_at, label_of}
 use Rattle.re_problem.specs.Steps.LowerMap.{by_row, by_set}
 use Rattle.re_cert.specs.declared.certificate.StepParts.{StepParts}
+use Rattle.re_entries.specs.StepClauses.{entry_labels}
 use Rattle.re_clauses.proofs.StepMeaning.{lower_clauses}
 use Rattle.re_clauses.specs.Clauses.{are_exchanged, step_fault}
 use Rattle.re_bridge.proofs.Beginnings.{set_beginnings}
@@ -29,7 +30,7 @@ use Rattle.re_bridge.proofs.Meeting.{passes-row_step, passes-step, row_step-pass
 use Rattle.re_bridge.proofs.RowBeginnings.{row_beginnings}
 use Rattle.re_bridge.proofs.WalkLemmas.{walk_law}
 use Rattle.re_bridge.specs.Bridges.{IsFound, entries_for, image_of, images_for, missing, over, passes_by_row, passes_by_set, row_bridge, rows_of, set_bridge, sets_of, step_by, walk_by_row, walk_by_set}
-use Rattle.re_bridge.specs.Laws.{BridgeLaw, IsAnswer, IsBridge, Meets, entry_labels, image_labels}
+use Rattle.re_bridge.specs.Laws.{BridgeLaw, IsAnswer, IsBridge, Meets, image_labels}
 use Rattle.re_bridge.specs.Walking.{IsAssignment, Tells, Walk, cut, found, nowhere}
 
 -- ---- labels of a configuration

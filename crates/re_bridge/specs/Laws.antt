@@ -1,11 +1,12 @@
 -- What walks and bridges tell.
-use Rattle.std.specs.Prelude.{◌≡◌, ℕ, Bool, List, flat_map, map, Option, None, Some}
+use Rattle.std.specs.Prelude.{◌≡◌, ℕ, Bool, List, flat_map, Option, None, Some}
 use Rattle.re_labels.specs.Lists.{IsBefore}
 use Rattle.re_problem.specs.NamedProblems.{IsNamedProblem, NamedProblem}
 use Rattle.re_problem.specs.Steps.{LowerMap, SetEntry}
 use Rattle.re_problem.specs.Steps.LowerMap.{by_row, by_set}
 use Rattle.re_cert.specs.Bounds.{step_with}
 use Rattle.re_cert.specs.declared.certificate.StepParts.{StepParts}
+use Rattle.re_entries.specs.StepClauses.{entry_labels}
 use Rattle.re_clauses.specs.Clauses.{step_fault}
 use Rattle.re_bridge.specs.Bridges.{Bridge, bridge_of, cut_off, missing, over, step_by}
 use Rattle.re_bridge.specs.Walking.{BeginningsPass, Tells, walk}
@@ -18,10 +19,7 @@ WalkLaw = (passes : List ℕ → Bool) (n places tries : ℕ) → BeginningsPass
 abbrev pub Meets : NamedProblem → NamedProblem → LowerMap → Type 0
 Meets before next map = step_fault before (step_by before next map) ≡ None
 
--- the labels of a map: those of the entries, and those of the images, one behind the other
-abbrev pub entry_labels : List SetEntry → List ℕ
-entry_labels entries = map (λ (e : SetEntry). e.label) entries
-
+-- the labels of the images, one behind the other
 abbrev pub image_labels : List (List ℕ) → List ℕ
 image_labels images = flat_map (λ image. image) images
 

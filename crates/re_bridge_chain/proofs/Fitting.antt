@@ -13,12 +13,13 @@ use Rattle.re_cert.specs.Bounds.{Bound, entry_fits, image_fits, is_label, last_p
 use Rattle.re_cert.specs.declared.certificate.Kind.TheVariants.{Lower}
 use Rattle.re_cert.specs.declared.certificate.StepParts.{StepParts}
 use Rattle.re_chain_parts.specs.Chains.{IsSoundChain, chain_with}
+use Rattle.re_entries.specs.StepClauses.{entry_labels}
 use Rattle.re_clauses.proofs.StepMeaning.{lower_clauses}
 use Rattle.re_clauses.specs.Clauses.{step_fault}
 use Rattle.re_tree.proofs.Entries.{rows-fit, set-is}
 use Rattle.re_bridge.proofs.Bridging.{held_labels, set_assignment}
 use Rattle.re_bridge.specs.Bridges.{IsFound, bridge_of, rows_of, sets_of, step_by}
-use Rattle.re_bridge.specs.Laws.{IsAnswer, Meets, entry_labels}
+use Rattle.re_bridge.specs.Laws.{IsAnswer, Meets}
 use Rattle.re_bridge_chain.specs.Bridged.{IsBridged, in_one_form}
 use Rattle.re_config.specs.declared.TheConstants.{MAX_ROWS}
 

@@ -32,7 +32,7 @@ use Rattle.re_entries.proofs.RowChoices.{becomes-entry, keeps_allowed_by_row_law
 use Rattle.re_entries.proofs.RowSets.{row_sets_law}
 use Rattle.re_entries.specs.LabelsOver.{labels_over}
 use Rattle.re_entries.specs.RowEntries.{image_entries}
-use Rattle.re_entries.specs.StepClauses.{HasAllowedImages, HasGoodImages, HasNextLabels, HasRowSets}
+use Rattle.re_entries.specs.StepClauses.{HasAllowedImages, HasGoodImages, HasNextLabels, HasRowSets, entry_labels}
 use Rattle.re_clauses.proofs.StepMeaning.{all_pass, all_there, lower_clauses}
 use Rattle.re_clauses.specs.Clauses.{are_exchanged, meets, step_clauses, step_fault}
 use Rattle.re_clauses.specs.declared.clause.Clause.{Clause}
@@ -47,7 +47,7 @@ use Rattle.re_views.proofs.Preorder.{rising-count_from}
 use Rattle.re_witness.proofs.Bounds.{fits_steps}
 use Rattle.re_witness.proofs.Dispatch.{degrees-are, next-labels, rows-few}
 use Rattle.re_witness.proofs.Giving.{at-held}
-use Rattle.re_witness.specs.Finding.{firsts, labels_of, map_entries, seconds}
+use Rattle.re_witness.specs.Finding.{firsts, map_entries, seconds}
 use Rattle.re_witness.specs.Laws.{HoldsChoices, HoldsRows, RefutesLaw}
 use Rattle.re_witness.specs.Witnesses.{AreOtherDegrees, Becomes, IsAt, IsShown, ShowsBack, ShowsBad, ShowsChoice, ShowsEnd, ShowsImage, ShowsInSteps, ShowsLabels, ShowsRows, ShowsSets, ShowsShut, ShowsStep}
 use Rattle.re_witness.specs.declared.witness.Witness.{Witness}
@@ -164,7 +164,7 @@ lower-refuted before s c w is few step (inr (inr (inr (inr (inr i))))) h = absur
 -- ---- an upper step
 labels-refuted : (n : ℕ) (entries : List SetEntry) (w : Witness) → HasNextLabels n entries → ShowsLabels n entries w → ⊥
 labels-refuted n entries (LabelOrder k) has h =
-    h.4 (rising-at (λ x y. x < y) (labels_of entries) k h.0.label h.1.label (subst (IsRising (λ x y. x < y)) (sym has.labels) (rising-count_from 0 n)) (map-at (λ (e : SetEntry). e.label) entries k h.0 h.2) (map-at (λ (e : SetEntry). e.label) entries (k + 1) h.1 h.3))
+    h.4 (rising-at (λ x y. x < y) (entry_labels entries) k h.0.label h.1.label (subst (IsRising (λ x y. x < y)) (sym has.labels) (rising-count_from 0 n)) (map-at (λ (e : SetEntry). e.label) entries k h.0 h.2) (map-at (λ (e : SetEntry). e.label) entries (k + 1) h.1 h.3))
 labels-refuted n entries (MissingLabel label) has h = h.1 (subst (λ (xs : List ℕ). Contains xs label) (sym has.labels) (Contains-count_from 0 n label (omega arith) (let l = h.0 in omega (arith, l))))
 labels-refuted n entries (EmptySet label) has h =
     let l = AllByRecursion-contains (λ s. 0 < length s) (entry_sets entries) [] has.filled (In-Contains [] (entry_sets entries) (In-map (λ (e : SetEntry). e.set) (record { set = []; label = label }) entries (Contains-In (record { set = []; label = label }) entries h))) in

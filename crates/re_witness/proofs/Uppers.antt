@@ -16,7 +16,7 @@ use Rattle.re_table.specs.GoodRows.{IsAllowed, IsGood, is_allowed, is_good}
 use Rattle.re_problem.proofs.FedLines.{unnot_true}
 use Rattle.re_problem.specs.Steps.{SetEntry, entry_sets, set_for}
 use Rattle.re_entries.proofs.AllowedImages.{set_at-entry}
-use Rattle.re_entries.specs.StepClauses.{HasAllowedImages, HasGoodImages, HasNextLabels}
+use Rattle.re_entries.specs.StepClauses.{HasAllowedImages, HasGoodImages, HasNextLabels, entry_labels}
 use Rattle.re_maps.specs.Verdicts.{first_label, first_not_allowed, first_not_good}
 use Rattle.re_views.proofs.Preorder.{rising-count_from}
 use Rattle.re_maps.proofs.VerdictLaws.{label-none}
@@ -24,7 +24,7 @@ use Rattle.re_witness.proofs.Found.{found_passes, none_all}
 use Rattle.re_witness.proofs.Giving.{gives-at_last, gives-or, map-none, map-some, unordered-rising, unordered-some}
 use Rattle.re_witness.proofs.Rows.{bad_shown, first_label-some, none_bad}
 use Rattle.re_witness.specs.BadChoice.{first_bad}
-use Rattle.re_witness.specs.Finding.{bad_sets, bad_witness, empty_set, first_unordered, is_empty, label_witness, labels_ascend, labels_of, names_label, shut_witness}
+use Rattle.re_witness.specs.Finding.{bad_sets, bad_witness, empty_set, first_unordered, is_empty, label_witness, labels_ascend, names_label, shut_witness}
 use Rattle.re_witness.specs.Laws.{Gives, LabelWitnessLaw, UpperWitnessLaw}
 use Rattle.re_witness.specs.Witnesses.{ShowsBad, ShowsLabels, ShowsShut}
 use Rattle.re_witness.specs.declared.witness.Witness.{Witness}
@@ -57,23 +57,23 @@ module _ (n : ℕ) (entries : List SetEntry) (below : AllByRecursion (λ (entry 
       let same : i ≡ k = omega (arith, is) in
       subst (λ m. ShowsLabels n entries (LabelOrder m)) same (entry, next, at, behind, λ l. let passes : nat_lt entry.label next.label ≡ true = grind (arith, nat_tests) in true≢false (sym passes ∙ fails))
 
-  rises : (xs : List SetEntry) → IsRising (λ x y. labels_ascend x y ≡ true) xs → IsRising (λ x y. x < y) (labels_of xs)
+  rises : (xs : List SetEntry) → IsRising (λ x y. labels_ascend x y ≡ true) xs → IsRising (λ x y. x < y) (entry_labels xs)
   rises [] h = tt
   rises (x ∷ []) h = tt
   rises (x ∷ y ∷ xs) h = let passes : nat_lt x.label y.label ≡ true = h.0 in let l : x.label < y.label = grind (arith, nat_tests) in (l, rises (y ∷ xs) h.1)
 
-  all_below : (xs : List SetEntry) → AllByRecursion (λ (entry : SetEntry). entry.label < n) xs → AllByRecursion (λ x. x < n) (labels_of xs)
+  all_below : (xs : List SetEntry) → AllByRecursion (λ (entry : SetEntry). entry.label < n) xs → AllByRecursion (λ x. x < n) (entry_labels xs)
   all_below [] h = tt
   all_below (x ∷ xs) h = (h.0, all_below xs h.1)
 
-  named-is : (x : ℕ) → names_label entries x ≡ true → Contains (labels_of entries) x
+  named-is : (x : ℕ) → names_label entries x ≡ true → Contains (entry_labels entries) x
   named-is x passes =
       let (entry, held, same) = any_found (λ (entry : SetEntry). eqb entry.label x) entries passes in
-      subst (Contains (labels_of entries)) (eqb-true entry.label x same) (In-Contains entry.label (labels_of entries) (In-map (λ (f : SetEntry). f.label) entry entries (Contains-In entry entries held)))
+      subst (Contains (entry_labels entries)) (eqb-true entry.label x same) (In-Contains entry.label (entry_labels entries) (In-map (λ (f : SetEntry). f.label) entry entries (Contains-In entry entries held)))
 
-  is-named : (x : ℕ) → Contains (labels_of entries) x → names_label entries x ≡ true
+  is-named : (x : ℕ) → Contains (entry_labels entries) x → names_label entries x ≡ true
   is-named x held =
-      let (entry, inside, same) = In-map_from (λ (f : SetEntry). f.label) x entries (Contains-In x (labels_of entries) held) in
+      let (entry, inside, same) = In-map_from (λ (f : SetEntry). f.label) x entries (Contains-In x (entry_labels entries) held) in
       any_true (λ (entry : SetEntry). eqb entry.label x) entries entry (In-Contains entry entries inside) (subst (λ y. eqb entry.label y ≡ true) (sym same) (eqb-same entry.label))
 
   missing_here : (x : ℕ) → first_label (λ x. not (names_label entries x)) n ≡ Some x → ShowsLabels n entries (MissingLabel x)
@@ -115,7 +115,7 @@ module _ (n : ℕ) (entries : List SetEntry) (below : AllByRecursion (λ (entry 
       gives-or (option_map MissingLabel missing) _ P (λ w e. let (x, found, same) = map-some MissingLabel missing w e in subst P same (missing_here x found)) (λ whole.
       gives-at_last (option_map EmptySet (empty_set entries)) P (λ w e. let (x, found, same) = map-some EmptySet (empty_set entries) w e in subst P same (empty_here x found)) (λ none.
       isnt (record {
-        labels = all_labels n (labels_of entries) (rises entries (unordered-rising labels_ascend 0 entries (map-none LabelOrder (first_unordered labels_ascend 0 entries) order))) (all_below entries below)
+        labels = all_labels n (entry_labels entries) (rises entries (unordered-rising labels_ascend 0 entries (map-none LabelOrder (first_unordered labels_ascend 0 entries) order))) (all_below entries below)
             (λ x l. named-is x (not-false (names_label entries x) (label-none (λ x. not (names_label entries x)) n (map-none MissingLabel missing whole) x l)));
         filled = filled entries (map-none (λ (entry : SetEntry). entry.label) (find is_empty entries) (map-none EmptySet (empty_set entries) none));
       }))))

@@ -178,9 +178,6 @@ abbrev pub lost_witness : Constraint → Constraint → List (List (List ℕ)) �
 lost_witness before passive rows m = first_some (lost_choice rows m passive) before.configs
 
 -- ---- upper steps
-abbrev pub labels_of : List SetEntry → List ℕ
-labels_of entries = map (λ (entry : SetEntry). entry.label) entries
-
 abbrev pub labels_ascend : SetEntry → SetEntry → Bool
 labels_ascend entry next = nat_lt entry.label next.label
 

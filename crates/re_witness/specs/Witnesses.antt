@@ -19,11 +19,11 @@ use Rattle.re_maps.specs.Verdicts.{renaming_verdict}
 use Rattle.re_maps.specs.declared.verdict.MapVerdict.TheVariants.{Yes}
 use Rattle.re_cert.specs.Bounds.{Bound, BoundStep, entries_in, is_fixed, is_lower, last_problem, problem_at}
 use Rattle.re_cert.specs.declared.certificate.Kind.{Kind}
-use Rattle.re_entries.specs.StepClauses.{OccursInRows}
+use Rattle.re_entries.specs.StepClauses.{OccursInRows, entry_labels}
 use Rattle.re_clauses.specs.Clauses.{step_clauses}
 use Rattle.re_clauses.specs.declared.clause.Clause.{Clause}
 use Rattle.re_clauses.specs.declared.clause.Clause.TheVariants.{L1, L2, L3, L4, L5, U1, U2, U3, U4, End, Back}
-use Rattle.re_witness.specs.Finding.{firsts, labels_of, seconds}
+use Rattle.re_witness.specs.Finding.{firsts, seconds}
 use Rattle.re_witness.specs.declared.witness.Witness.{Witness}
 use Rattle.re_witness.specs.declared.witness.Witness.TheVariants.{Degrees, BadRow, Extends, RowOrder, ManyRows, MissingRow, SetOrder, MissingSet, ForeignSet, ImageCount, LostRow, LostChoice, LabelOrder, MissingLabel, EmptySet, BadSets, ShutSets, Fit, NoActive, NoFit, PairOrder, MissingPair, Renaming}
 
@@ -76,7 +76,7 @@ ShowsChoice before passive rows m witness = ⊥
 -- U2: entries whose labels don't ascend, a label that no entry has, or an entry with an empty set
 abbrev pub ShowsLabels : ℕ → List SetEntry → Witness → Type 0
 ShowsLabels n entries (LabelOrder k) = (entry next : SetEntry) × IsAt entries k entry × IsAt entries (k + 1) next × (entry.label < next.label → ⊥)
-ShowsLabels n entries (MissingLabel label) = (label < n) × (Contains (labels_of entries) label → ⊥)
+ShowsLabels n entries (MissingLabel label) = (label < n) × (Contains (entry_labels entries) label → ⊥)
 ShowsLabels n entries (EmptySet label) = Contains entries (record { set = []; label = label })
 ShowsLabels n entries witness = ⊥
 

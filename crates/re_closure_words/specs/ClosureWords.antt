@@ -1,8 +1,7 @@
 -- The word `closure`, and what it may answer.
-use Rattle.std.specs.Prelude.{◌≡◌, ℕ, ◌⊎◌, Bool, false, List, [], ◌∷◌, ◌++◌, codes, slice_index_or, Option, Some, None}
+use Rattle.std.specs.Prelude.{◌≡◌, ℕ, ◌⊎◌, Bool, false, List, [], ◌∷◌, ◌++◌, codes, Option, Some, None}
 use Rattle.std.specs.Fmt.{decimal}
 use Rattle.std.specs.Str.{bytes_eq}
-use Rattle.re_problem.specs.CanonicalTexts.{config_text}
 use Rattle.re_problem.specs.NamedProblems.{NamedProblem, unnamed}
 use Rattle.re_problem.specs.Zero.{zero_place}
 use Rattle.re_problem.specs.declared.fault.InputFault.{InputFault}
@@ -17,6 +16,7 @@ use Rattle.re_closure.specs.declared.types.ClosureLimit.{ClosureLimit}
 use Rattle.re_closure.specs.declared.types.ClosureLimit.TheVariants.{Configurations, Labels, Rows, Steps}
 use Rattle.re_frame.specs.Check.{verdict_outcome}
 use Rattle.re_frame.specs.Outcomes.{Outcome, limit, refused}
+use Rattle.re_frame.specs.SearchLines.{solvable_line}
 use Rattle.re_frame.specs.TextFaults.{fault_outcome}
 use Rattle.re_printing.specs.SetTexts.{row_text}
 
@@ -30,10 +30,6 @@ unfoldable pub closure_help : List ℕ
 closure_help = codes "closure: reads a chain, gives the fixed point by right-closed sets that goes on from it\n"
 
 -- ---- lines
--- the line for a problem that is solvable without communication, with its first configuration that shows it
-abbrev pub solvable_line : NamedProblem → ℕ → List ℕ
-solvable_line problem place = codes "not found: solvable without communication: " ++ config_text problem.names (slice_index_or problem.active.configs place []) ++ codes "\n"
-
 -- the line for a problem whose closure is solvable without communication, with the configuration of sets of its labels that shows it
 abbrev pub closure_line : NamedProblem → List (List ℕ) → List ℕ
 closure_line problem sets = codes "not found: solvable without communication: " ++ row_text problem.names sets ++ codes "\n"

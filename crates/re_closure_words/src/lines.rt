@@ -1,8 +1,9 @@
 //! The lines of the word.
 ghost use Rattle.re_closure.specs.declared.types.ClosureLimit.TheVariants.{Configurations, Labels, Rows, Steps};
 ghost use Rattle.re_closure.specs.Closures.{AreNamed};
-ghost use Rattle.re_closure_words.specs.ClosureWords.{closure_line, limit_line, solvable_line};
+ghost use Rattle.re_closure_words.specs.ClosureWords.{closure_line, limit_line};
 ghost use Rattle.re_frame.specs.Outcomes.{limit as limited_by, outcome_of, refused as refused_with};
+ghost use Rattle.re_frame.specs.SearchLines.{solvable_line};
 ghost use Rattle.re_problem.specs.NamedProblems.{unnamed};
 ghost use Rattle.re_problem.specs.Zero.{zero_place};
 ghost use Rattle.std.specs.Prelude.{◌≡◌, ◌++◌, IfOk, Some};

@@ -1,5 +1,6 @@
 pub mod Check
 pub mod Outcomes
 pub mod Runs
+pub mod SearchLines
 pub mod StepLimits
 pub mod TextFaults

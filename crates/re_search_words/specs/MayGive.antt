@@ -1,9 +1,8 @@
 -- What the words `longest` and `cycle` may answer.
-use Rattle.std.specs.Prelude.{◌≡◌, ℕ, List, [], ◌++◌, codes, slice_index_or, Option, Some, None, ◌⊎◌}
+use Rattle.std.specs.Prelude.{◌≡◌, ℕ, List, ◌++◌, codes, Option, Some, None, ◌⊎◌}
 use Rattle.std.specs.Fmt.{decimal}
 use Rattle.re_labels.specs.declared.TheConstants.{MAX_LABELS}
-use Rattle.re_problem.specs.CanonicalTexts.{config_text}
-use Rattle.re_problem.specs.NamedProblems.{NamedProblem, unnamed}
+use Rattle.re_problem.specs.NamedProblems.{unnamed}
 use Rattle.re_problem.specs.Zero.{zero_place}
 use Rattle.re_problem.specs.declared.fault.InputFault.{InputFault}
 use Rattle.re_cert.specs.Bounds.{Bound, last_problem}
@@ -15,19 +14,12 @@ use Rattle.re_check.specs.declared.verdict.Verdict.{Verdict}
 use Rattle.re_extend.specs.Extensions.{GoesOn}
 use Rattle.re_frame.specs.Check.{verdict_outcome}
 use Rattle.re_frame.specs.Outcomes.{Outcome, limit, refused}
+use Rattle.re_frame.specs.SearchLines.{not_found_line, solvable_line}
 use Rattle.re_frame.specs.TextFaults.{fault_outcome}
 use Rattle.re_search_words.specs.declared.words.SearchWord.{SearchWord}
 use Rattle.re_search_words.specs.declared.words.SearchWord.TheVariants.{Cycle, Longest}
 
 -- ---- lines
--- the line for a problem that is solvable without communication, with its first configuration that shows it
-abbrev pub solvable_line : NamedProblem → ℕ → List ℕ
-solvable_line problem place = codes "not found: solvable without communication: " ++ config_text problem.names (slice_index_or problem.active.configs place []) ++ codes "\n"
-
--- the line of a search without success
-abbrev pub not_found_line : ℕ → ℕ → List ℕ
-not_found_line nodes cut = codes "not found: nodes " ++ decimal nodes ++ codes ", cut " ++ decimal cut ++ codes "\n"
-
 -- the line for more problems than may be looked at
 abbrev pub too_many_line : ℕ → List ℕ
 too_many_line nodes = codes "limit: more than " ++ decimal nodes ++ codes " nodes\n"

@@ -5,10 +5,11 @@ ghost use Rattle.re_chain_texts.specs.OverChains.{steps_refusal};
 ghost use Rattle.re_extend.specs.Extensions.{IsSoundChain};
 ghost use Rattle.re_check.specs.Verdicts.{steps_fault};
 ghost use Rattle.re_frame.specs.Outcomes.{limit as limited_by, outcome_of, refused as refused_with};
+ghost use Rattle.re_frame.specs.SearchLines.{not_found_line, solvable_line};
 ghost use Rattle.re_io.specs.declared.read.TheConstants.{MAX_BYTES};
 ghost use Rattle.re_problem.specs.NamedProblems.{unnamed};
 ghost use Rattle.re_problem.specs.Zero.{zero_place};
-ghost use Rattle.re_search_words.specs.MayGive.{MayFindBehind, MayGive, MayGiveAt, MayGiveSound, not_found_line, solvable_line, too_many_line};
+ghost use Rattle.re_search_words.specs.MayGive.{MayFindBehind, MayGive, MayGiveAt, MayGiveSound, too_many_line};
 ghost use Rattle.std.specs.Prelude.{◌≡◌, ◌≤◌, IfOk, None, Some, length};
 
 use crate::words::SearchWord;

@@ -1,6 +1,5 @@
 -- The commands that search for a certificate: `lower`, `upper` and `fixed`.
-use Rattle.std.specs.Prelude.{ℕ, List, ◌++◌, codes, Result, Ok, Err}
-use Rattle.std.specs.Fmt.{decimal}
+use Rattle.std.specs.Prelude.{ℕ, codes, Result, Ok, Err}
 use Rattle.re_cert.specs.declared.certificate.Kind.{Kind}
 use Rattle.re_cert_text.specs.PrintedCertificates.{certificate_text}
 use Rattle.re_problem.specs.NamedProblems.{NamedProblem}
@@ -9,10 +8,7 @@ use Rattle.re_search.specs.declared.types.FindFault.{FindFault}
 use Rattle.re_search.specs.declared.types.Search.{Search}
 use Rattle.re_search.specs.declared.types.Search.TheVariants.{Found, NotFound}
 use Rattle.re_frame.specs.Outcomes.{Outcome, done, limit, refused}
-
--- the line of a search without success
-abbrev pub not_found_line : ℕ → ℕ → List ℕ
-not_found_line nodes cut = codes "not found: nodes " ++ decimal nodes ++ codes ", cut " ++ decimal cut ++ codes "\n"
+use Rattle.re_frame.specs.SearchLines.{not_found_line}
 
 -- the certificate that is found, or the counts of the nodes, unless these are too many
 abbrev pub searched : Result Search FindFault → Outcome

@@ -4,7 +4,8 @@ ghost use Rattle.re_frame.specs.Check.{check_outcome};
 ghost use Rattle.re_words.specs.Command.{least_steps};
 ghost use Rattle.re_words.specs.Found.{Accepts};
 ghost use Rattle.re_frame.specs.Outcomes.{outcome_of, refused as refused_with};
-ghost use Rattle.re_words.specs.Searching.{not_found_line, search_outcome};
+ghost use Rattle.re_frame.specs.SearchLines.{not_found_line};
+ghost use Rattle.re_words.specs.Searching.{search_outcome};
 ghost use Rattle.re_search.specs.Searches.{Answers, FindsSteps, FindsValid};
 ghost use Rattle.std.specs.Prelude.{◌≡◌, ◌≤◌, IfOk};
 

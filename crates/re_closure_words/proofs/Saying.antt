@@ -1,5 +1,5 @@
 -- What the word may answer, and the chains of texts.
-use Rattle.std.proofs.Common.{◌≡◌, ℕ, Bool, true, false, List, Option, Some, None, sym, subst, refl, inl, inr}
+use Rattle.std.proofs.Common.{ℕ, Bool, true, false, List, Option, Some, None, refl, inl, inr}
 use Rattle.std.specs.Prelude.{if◌then◌else◌}
 use Rattle.re_problem.specs.NamedProblems.{unnamed}
 use Rattle.re_problem.specs.Zero.{zero_place}
@@ -11,13 +11,10 @@ use Rattle.re_chain_parts.specs.Chains.{chain_kind}
 use Rattle.re_chain_texts.specs.ChainTexts.{chain_fault, is_certificate_text, text_chain}
 use Rattle.re_chain_texts.specs.OverChains.{steps_refusal}
 use Rattle.re_check.specs.declared.verdict.Verdict.{Verdict}
-use Rattle.re_frame.proofs.Said.{check_says, fault_says}
+use Rattle.re_frame.proofs.Said.{check_says, fault_says, says_as}
 use Rattle.re_frame.specs.Outcomes.{Outcome}
 use Rattle.re_frame.specs.Runs.{MaySay}
 use Rattle.re_closure_words.specs.ClosureWords.{MayFind, MayFindBehind, MayGive, MayGiveAt, MayGiveRead, MayGiveSound}
-
-says_as : (outcome given : Outcome) → outcome ≡ given → MaySay given.status true → MaySay outcome.status true
-says_as outcome given e may = subst (λ (o : Outcome). MaySay o.status true) (sym e) may
 
 find_says : (chain : Bound) (outcome : Outcome) → MayFind chain outcome → MaySay outcome.status true
 find_says chain outcome (inl may) = says_as outcome _ may.1 tt

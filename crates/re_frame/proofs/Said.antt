@@ -15,6 +15,10 @@ use Rattle.re_frame.specs.declared.output.Output.{Output}
 pub said : (output : Output) (outcome : Outcome) (judging : Bool) → outcome_of output ≡ outcome → MaySay outcome.status judging → MaySay (status_of output.answer) judging
 said output outcome judging is says = subst (λ (o : Outcome). MaySay o.status judging) (sym is) says
 
+-- equal outcomes may say the same
+pub says_as : (outcome given : Outcome) → outcome ≡ given → MaySay given.status true → MaySay outcome.status true
+says_as outcome given e may = subst (λ (o : Outcome). MaySay o.status true) (sym e) may
+
 pub fault_says : (fault : InputFault) (judging : Bool) → MaySay (fault_status fault) judging
 fault_says (input.BadByte at) judging = tt
 fault_says (input.BadItem line) judging = tt

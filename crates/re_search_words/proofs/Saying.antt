@@ -1,5 +1,5 @@
 -- What the words may answer, and the chains of texts.
-use Rattle.std.proofs.Common.{◌≡◌, ℕ, true, List, Option, Some, None, sym, subst, refl, inl, inr}
+use Rattle.std.proofs.Common.{ℕ, true, List, Option, Some, None, refl, inl, inr}
 use Rattle.re_problem.specs.NamedProblems.{unnamed}
 use Rattle.re_problem.specs.Zero.{zero_place}
 use Rattle.re_problem.specs.declared.fault.InputFault.{InputFault}
@@ -9,15 +9,12 @@ use Rattle.re_cert.specs.declared.certificate.Kind.TheVariants.{Fixed, Lower, Up
 use Rattle.re_chain_texts.specs.ChainTexts.{chain_fault, text_chain}
 use Rattle.re_chain_texts.specs.OverChains.{steps_refusal}
 use Rattle.re_check.specs.declared.verdict.Verdict.{Verdict}
-use Rattle.re_frame.proofs.Said.{check_says, fault_says}
+use Rattle.re_frame.proofs.Said.{check_says, fault_says, says_as}
 use Rattle.re_frame.specs.Outcomes.{Outcome}
 use Rattle.re_frame.specs.Runs.{MaySay}
 use Rattle.re_search_words.specs.MayGive.{MayFind, MayFindBehind, MayGive, MayGiveAt, MayGiveRead, MayGiveSound}
 use Rattle.re_search_words.specs.declared.words.SearchWord.{SearchWord}
 use Rattle.re_search_words.specs.declared.words.SearchWord.TheVariants.{Cycle, Longest}
-
-says_as : (outcome given : Outcome) → outcome ≡ given → MaySay given.status true → MaySay outcome.status true
-says_as outcome given e may = subst (λ (o : Outcome). MaySay o.status true) (sym e) may
 
 find_says : (word : SearchWord) (chain : Bound) (outcome : Outcome) → MayFind word chain outcome → MaySay outcome.status true
 find_says (Longest steps labels) chain outcome may = says_as outcome _ may.1 tt

@@ -1,4 +1,3 @@
-pub mod Appending
 pub mod Covering
 pub mod Lines
 pub mod Thinning

@@ -1,3 +1,2 @@
-pub mod Appending
 pub mod Named
 pub mod Within

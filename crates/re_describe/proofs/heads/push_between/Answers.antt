@@ -1,4 +1,4 @@
-use Rattle.re_describe.proofs.Appending.{then, then_ok}
+use Rattle.re_printing.proofs.Appending.{then, then_ok}
 use Rattle.re_describe.proofs.heads.push_between.Goals as goal
 
 pub returns : goal.returns

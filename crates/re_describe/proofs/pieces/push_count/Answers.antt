@@ -1,4 +1,4 @@
-use Rattle.re_describe.proofs.Appending.{then_ok}
+use Rattle.re_printing.proofs.Appending.{then_ok}
 use Rattle.re_describe.proofs.pieces.push_count.Goals as goal
 
 pub returns : goal.returns

@@ -1,7 +1,7 @@
 use Rattle.std.proofs.Common.{◌≡◌, ◌++◌, ◌∙◌, ap, codes, length}
 use Rattle.std.specs.Fmt.{decimal}
 use Rattle.re_describe.specs.Heads.{side_counts}
-use Rattle.re_describe.proofs.Appending.{then, then_ok}
+use Rattle.re_printing.proofs.Appending.{then, then_ok}
 use Rattle.re_describe.proofs.problems.push_counts.Goals as goal
 
 pub returns : goal.returns

@@ -1,7 +1,7 @@
 use Rattle.std.proofs.Common.{◌≡◌, ◌++◌, ◌∙◌, ap, codes, subst}
 use Rattle.std.specs.Fmt.{decimal}
 use Rattle.std.specs.Prelude.{OnOk}
-use Rattle.re_describe.proofs.Appending.{then_ok}
+use Rattle.re_printing.proofs.Appending.{then_ok}
 use Rattle.re_describe.proofs.problems.push_side_counts.Goals as goal
 
 pub returns : goal.returns

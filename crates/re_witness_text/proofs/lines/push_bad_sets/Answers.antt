@@ -1,5 +1,5 @@
 use Rattle.std.proofs.Common.{◌≡◌, ◌++◌, ◌∙◌, ap}
-use Rattle.re_witness_text.proofs.Appending.{first2, then, then2_ok, then_ok}
+use Rattle.re_printing.proofs.Appending.{then, then2_ok}
 use Rattle.re_witness_text.specs.WitnessTexts.{choice_text, config_text_of, sets_text}
 use Rattle.re_witness_text.proofs.lines.push_bad_sets.Goals as goal
 

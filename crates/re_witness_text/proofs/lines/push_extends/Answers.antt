@@ -1,5 +1,5 @@
 use Rattle.std.proofs.Common.{◌≡◌, ◌++◌, ◌∙◌, ap}
-use Rattle.re_witness_text.proofs.Appending.{first2, then, then2_ok, then_ok}
+use Rattle.re_printing.proofs.Appending.{first2, then, then2_ok}
 use Rattle.re_witness_text.proofs.lines.push_extends.Goals as goal
 
 pub returns : goal.returns

@@ -1,5 +1,5 @@
 -- Chains with another last step: what fits and what is sound.
-use Rattle.std.proofs.Common.{◌≡◌, ℕ, suc, Bool, true, false, not, leb, List, [], ◌∷◌, length, Option, None, Some, refl, sym, ap, ◌∙◌, subst}
+use Rattle.std.proofs.Common.{◌≡◌, ℕ, suc, Bool, true, false, not, leb, List, [], ◌∷◌, length, None, refl, sym, ap, ◌∙◌, subst}
 use Rattle.std.specs.Prelude.{◌&&◌, ◌||◌, option_map}
 use Rattle.std.specs.List.{AllByRecursion, list_all}
 use Rattle.re_items.specs.Steps.{is_nil}
@@ -11,6 +11,7 @@ use Rattle.re_cert.specs.declared.certificate.Kind.{Kind}
 use Rattle.re_cert.specs.declared.certificate.Kind.TheVariants.{Lower, Upper, Fixed}
 use Rattle.re_cert.specs.declared.certificate.TheConstants.{MAX_STEPS}
 use Rattle.re_clauses.specs.Clauses.{step_fault}
+use Rattle.re_check.proofs.Meaning.{both_met}
 use Rattle.re_check.specs.Verdicts.{fault_at, fault_or, steps_fault}
 use Rattle.re_chain_parts.specs.Chains.{chain_kind, chain_with}
 use Rattle.re_chain.specs.Chains.{last_changed, with_last}
@@ -74,16 +75,6 @@ pub record Keeps (kind : Kind) (before : NamedProblem) (s t : BoundStep) : Type 
   pub problem : IsNamedProblem t.next
   pub form : step_fits kind before s ≡ true → is_by_row t.map ≡ is_by_row s.map
 
-neither : (number : ℕ) (before : NamedProblem) (first : BoundStep) (steps : List BoundStep) → steps_fault before number (first ∷ steps) ≡ None → (step_fault before first ≡ None) × (steps_fault first.next (suc number) steps ≡ None)
-neither number before first steps none = go (step_fault before first) refl none
-  where
-    go : (o : Option _) → step_fault before first ≡ o → fault_or (option_map (fault_at number) (step_fault before first)) (steps_fault first.next (suc number) steps) ≡ None
-        → (step_fault before first ≡ None) × (steps_fault first.next (suc number) steps ≡ None)
-    go None e h = (e, ap (λ o. fault_or (option_map (fault_at number) o) (steps_fault first.next (suc number) steps)) (sym e) ∙ h)
-    go (Some clause) e h =
-        let some : Some (fault_at number clause) ≡ None = ap (λ o. fault_or (option_map (fault_at number) o) (steps_fault first.next (suc number) steps)) (sym e) ∙ h in
-        absurd (cc)
-
 module _ (kind : Kind) (change : BoundStep → BoundStep) (P : BoundStep → Type 0) (keeps : (before : NamedProblem) (s : BoundStep) → P s → IsNamedProblem s.next → Keeps kind before s (change s)) where
   pub length-last : (steps : List BoundStep) → length (last_changed change steps) ≡ length steps
   length-last [] = refl
@@ -102,10 +93,10 @@ module _ (kind : Kind) (change : BoundStep → BoundStep) (P : BoundStep → Typ
       → steps_fault before number (last_changed change steps) ≡ None
   sound-last number before [] last over fits none = refl
   sound-last number before (s ∷ []) last over fits none =
-      ap (λ o. fault_or (option_map (fault_at number) o) None) ((keeps before s last over.0).sound (and-true (step_fits kind before s) true fits).0 (neither number before s [] none).0)
+      ap (λ o. fault_or (option_map (fault_at number) o) None) ((keeps before s last over.0).sound (and-true (step_fits kind before s) true fits).0 (both_met number before s [] none).0)
   sound-last number before (s ∷ t ∷ steps) last over fits none =
       let two = and-true (step_fits kind before s) (steps_fit kind s.next (t ∷ steps)) fits in
-      let both = neither number before s (t ∷ steps) none in
+      let both = both_met number before s (t ∷ steps) none in
       ap (λ o. fault_or (option_map (fault_at number) o) (steps_fault s.next (suc number) (last_changed change (t ∷ steps)))) both.0
       ∙ sound-last (suc number) s.next (t ∷ steps) last over.1 two.1 both.1
 

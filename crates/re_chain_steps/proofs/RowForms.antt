@@ -27,7 +27,7 @@ use Rattle.re_cert.specs.declared.certificate.TheConstants.{MAX_STEPS}
 use Rattle.re_clauses.proofs.StepMeaning.{lower_clauses}
 use Rattle.re_clauses.specs.Clauses.{step_fault}
 use Rattle.re_check.specs.Verdicts.{fault_at, fault_or, steps_fault}
-use Rattle.re_tree.proofs.Paths.{neither}
+use Rattle.re_check.proofs.Meaning.{both_met}
 use Rattle.re_chain_steps.specs.Laws.{ByRowsLaw, RowFormLaw}
 use Rattle.re_chain_parts.specs.Chains.{IsSound}
 use Rattle.re_chain_steps.specs.RowForms.{HasSets, HasStepSets, by_rows, map_by_rows, row_form, step_by_rows}
@@ -187,19 +187,19 @@ pub steps-fit : (kind : Kind) (number : ℕ) (before : NamedProblem) (steps : Li
 steps-fit kind number before [] fit none = refl
 steps-fit kind number before (s ∷ steps) fit none =
     let two = and-true (step_fits kind before s) (steps_fit kind s.next steps) fit in
-    let sound = neither number before s steps none in
+    let sound = both_met number before s steps none in
     true-and (step_fits kind before (step_by_rows s)) (steps_fit kind s.next (map step_by_rows steps)) (step-fits kind before s two.0 sound.0) (steps-fit kind (suc number) s.next steps two.1 sound.1)
 
 pub steps-sound : (number : ℕ) (before : NamedProblem) (steps : List BoundStep) → steps_fault before number steps ≡ None → steps_fault before number (map step_by_rows steps) ≡ None
 steps-sound number before [] none = refl
 steps-sound number before (s ∷ steps) none =
-    let sound = neither number before s steps none in
+    let sound = both_met number before s steps none in
     ap (λ o. fault_or (option_map (fault_at number) o) (steps_fault s.next (suc number) (map step_by_rows steps))) (step-sound before s sound.0) ∙ steps-sound (suc number) s.next steps sound.1
 
 pub steps-sets : (number : ℕ) (before : NamedProblem) (steps : List BoundStep) → steps_fault before number steps ≡ None → AllByRecursion HasStepSets steps
 steps-sets number before [] none = tt
 steps-sets number before (s ∷ steps) none =
-    let sound = neither number before s steps none in
+    let sound = both_met number before s steps none in
     (step-sets before s sound.0, steps-sets (suc number) s.next steps sound.1)
 
 pub next-same : (steps : List BoundStep) → next_problems (map step_by_rows steps) ≡ next_problems steps

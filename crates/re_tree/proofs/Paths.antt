@@ -22,6 +22,7 @@ use Rattle.re_cert.specs.Bounds.{Bound, BoundStep, is_bound, is_fixed, is_lower,
 use Rattle.re_cert.specs.declared.certificate.Kind.{Kind}
 use Rattle.re_cert.specs.declared.certificate.Kind.TheVariants.{Lower, Upper, Fixed}
 use Rattle.re_clauses.specs.Clauses.{step_fault}
+use Rattle.re_check.proofs.Meaning.{both_met}
 use Rattle.re_check.specs.Verdicts.{fault_at, fault_or, steps_fault}
 use Rattle.re_tree.proofs.LowerSteps.{IsProblem-named_derived, lower-fits, lower-meets}
 use Rattle.re_tree.proofs.UpperSteps.{upper-fits, upper-meets}
@@ -40,20 +41,10 @@ fits-more kind before (first ∷ steps) s fits one =
     true-and (step_fits kind before first) (steps_fit kind first.next (steps ++ s ∷ [])) two.0
     (fits-more kind first.next steps s two.1 (subst (λ p. step_fits kind p s ≡ true) (last-next before first.next (next_problems steps)) one))
 
-pub neither : (number : ℕ) (before : NamedProblem) (first : BoundStep) (steps : List BoundStep) → steps_fault before number (first ∷ steps) ≡ None → (step_fault before first ≡ None) × (steps_fault first.next (suc number) steps ≡ None)
-neither number before first steps none = go (step_fault before first) refl none
-  where
-    go : (o : Option _) → step_fault before first ≡ o → fault_or (option_map (fault_at number) (step_fault before first)) (steps_fault first.next (suc number) steps) ≡ None
-        → (step_fault before first ≡ None) × (steps_fault first.next (suc number) steps ≡ None)
-    go None e h = (e, ap (λ o. fault_or (option_map (fault_at number) o) (steps_fault first.next (suc number) steps)) (sym e) ∙ h)
-    go (Some clause) e h =
-        let some : Some (fault_at number clause) ≡ None = ap (λ o. fault_or (option_map (fault_at number) o) (steps_fault first.next (suc number) steps)) (sym e) ∙ h in
-        absurd (cc)
-
 pub valid-more : (number : ℕ) (before : NamedProblem) (steps : List BoundStep) (s : BoundStep) → steps_fault before number steps ≡ None → step_fault (last_or before (next_problems steps)) s ≡ None → steps_fault before number (steps ++ s ∷ []) ≡ None
 valid-more number before [] s none one = ap (λ o. fault_or (option_map (fault_at number) o) None) one
 valid-more number before (first ∷ steps) s none one =
-    let two = neither number before first steps none in
+    let two = both_met number before first steps none in
     ap (λ o. fault_or (option_map (fault_at number) o) (steps_fault first.next (suc number) (steps ++ s ∷ []))) two.0
     ∙ valid-more (suc number) first.next steps s two.1 (subst (λ p. step_fault p s ≡ None) (last-next before first.next (next_problems steps)) one)
 

@@ -7,11 +7,11 @@ use Rattle.re_labels.proofs.Tests.{below-true, eqb-same}
 use Rattle.re_problem.specs.NamedProblems.{IsNamedProblem, NamedProblem}
 use Rattle.re_cert.specs.Bounds.{Bound, BoundStep, is_bound, is_label, is_lower, last_problem, next_problems}
 use Rattle.re_cert.specs.declared.certificate.Kind.{Kind}
-use Rattle.re_cert.specs.declared.certificate.Kind.TheVariants.{Lower, Upper, Fixed}
 use Rattle.re_chain.proofs.LastSteps.{Keeps, LastIs, chain_with-bound, last-next, with_last-bound, with_last-sound}
 use Rattle.re_chain.proofs.DroppedSteps.{drop-keeps}
 use Rattle.re_chain.proofs.MergedSteps.{merge-keeps}
 use Rattle.re_chain.proofs.NamedSteps.{name-keeps, named-named}
+use Rattle.re_chain_parts.proofs.ChainBounds.{lower-chain}
 use Rattle.re_chain_parts.specs.Chains.{chain_kind, chain_with}
 use Rattle.re_chain.specs.Chains.{with_last}
 use Rattle.re_labels.specs.Names.{IsName}
@@ -21,11 +21,6 @@ use Rattle.re_chain.specs.Laws.{DropLaw, MergeLaw, NameLaw}
 use Rattle.re_chain.specs.Naming.{is_taken, name_refusal, named, named_problem, named_step}
 use Rattle.re_chain.specs.Merging.{merge_refusal, merged, merged_step}
 use Rattle.re_chain.specs.declared.refusal.Refusal.TheVariants.{NotALabel, NotLower, NotUpper, NoStep, Same, Taken}
-
-pub kind-same : (kind : Kind) → is_lower (chain_kind kind) ≡ is_lower kind
-kind-same Lower = refl
-kind-same Upper = refl
-kind-same Fixed = refl
 
 -- ---- merges
 -- what is known where a merge isn't refused
@@ -60,7 +55,7 @@ module _ (bound : Bound) (x y : ℕ) (may : merge_refusal x y bound ≡ None) wh
   last = let m = may-merge x y bound may in last-next (λ (p : NamedProblem). y < length p.names) bound.first bound.steps m.some m.to
 
   keeps : (before : NamedProblem) (s : BoundStep) → y < length s.next.names → IsNamedProblem s.next → Keeps (chain_kind bound.kind) before s (merged_step x y s)
-  keeps before s l is = let m = may-merge x y bound may in merge-keeps (chain_kind bound.kind) x y before s (kind-same bound.kind ∙ m.lower) l m.apart is
+  keeps before s l is = let m = may-merge x y bound may in merge-keeps (chain_kind bound.kind) x y before s (lower-chain bound.kind ∙ m.lower) l m.apart is
 
   pub merged-bound : is_bound bound ≡ true → AllByRecursion IsNamedProblem (next_problems bound.steps) → is_bound (merged x y bound) ≡ true
   merged-bound = with_last-bound bound (merged_step x y) (λ (s : BoundStep). y < length s.next.names) last keeps
@@ -93,7 +88,7 @@ module _ (bound : Bound) (x : ℕ) (may : drop_refusal x bound ≡ None) where
   drop-last = let m = may-drop x bound may in last-next (λ (p : NamedProblem). x < length p.names) bound.first bound.steps m.some m.label
 
   dropping-keeps : (before : NamedProblem) (s : BoundStep) → x < length s.next.names → IsNamedProblem s.next → Keeps (chain_kind bound.kind) before s (dropped_step x s)
-  dropping-keeps before s l is = let m = may-drop x bound may in drop-keeps (chain_kind bound.kind) x before s (kind-same bound.kind ∙ m.upper) l is
+  dropping-keeps before s l is = let m = may-drop x bound may in drop-keeps (chain_kind bound.kind) x before s (lower-chain bound.kind ∙ m.upper) l is
 
   pub dropped-bound : is_bound bound ≡ true → AllByRecursion IsNamedProblem (next_problems bound.steps) → is_bound (dropped x bound) ≡ true
   dropped-bound = with_last-bound bound (dropped_step x) (λ (s : BoundStep). x < length s.next.names) drop-last dropping-keeps

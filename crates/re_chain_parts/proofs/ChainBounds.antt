@@ -3,7 +3,7 @@ use Rattle.std.proofs.Common.{◌≡◌, Bool, true, ◌&&◌, List, [], ◌∷�
 use Rattle.std.specs.Prelude.{nat_le}
 use Rattle.re_labels.proofs.Tests.{and-true, true-and}
 use Rattle.re_problem.specs.NamedProblems.{NamedProblem}
-use Rattle.re_cert.specs.Bounds.{Bound, BoundStep, is_bound, one_form, renaming_fits, step_fits, steps_fit}
+use Rattle.re_cert.specs.Bounds.{Bound, BoundStep, is_bound, is_lower, one_form, renaming_fits, step_fits, steps_fit}
 use Rattle.re_cert.specs.declared.certificate.Kind.{Kind}
 use Rattle.re_cert.specs.declared.certificate.Kind.TheVariants.{Lower, Upper, Fixed}
 use Rattle.re_cert.specs.declared.certificate.TheConstants.{MAX_STEPS}
@@ -18,6 +18,12 @@ kind_fit : (kind : Kind) (before : NamedProblem) (steps : List BoundStep) → st
 kind_fit Lower before steps = refl
 kind_fit Upper before steps = refl
 kind_fit Fixed before steps = fixed_fit before steps
+
+-- the steps of a chain are lower ones exactly where those of the bound are
+pub lower-chain : (kind : Kind) → is_lower (chain_kind kind) ≡ is_lower kind
+lower-chain Lower = refl
+lower-chain Upper = refl
+lower-chain Fixed = refl
 
 -- a chain has no renaming that would have to fit
 no_renaming : (kind : Kind) (first : NamedProblem) (steps : List BoundStep) → renaming_fits (record { kind = chain_kind kind; back = 0; first = first; steps = steps; renaming = [] }) ≡ true

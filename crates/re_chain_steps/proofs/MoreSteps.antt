@@ -24,6 +24,7 @@ use Rattle.re_check.proofs.Meaning.{named-last}
 use Rattle.re_chain_steps.proofs.OwnEntries.{few-labels}
 use Rattle.re_chain_steps.proofs.RowForms.{step-fits, step-form, step-sound}
 use Rattle.re_chain_steps.specs.Laws.{StepLaw}
+use Rattle.re_chain_parts.proofs.ChainBounds.{lower-chain}
 use Rattle.re_chain_parts.specs.Chains.{IsOverProblems, IsSound, chain_kind}
 use Rattle.re_chain_steps.specs.RowForms.{step_by_rows}
 use Rattle.re_chain_steps.specs.Stepped.{derived_step, fault_of_step, next_step, stepped, stepping_fault}
@@ -52,11 +53,6 @@ fits-chain Fixed before steps fit = same before steps ∙ fit
     same : (before : NamedProblem) (steps : List BoundStep) → steps_fit Lower before steps ≡ steps_fit Fixed before steps
     same before [] = refl
     same before (s ∷ steps) = ap (λ b. step_fits Fixed before s && b) (same s.next steps)
-
-lower-chain : (kind : Kind) → is_lower (chain_kind kind) ≡ is_lower kind
-lower-chain Lower = refl
-lower-chain Upper = refl
-lower-chain Fixed = refl
 
 no_way : (kind : Kind) (b : Bool) → (if is_fixed (chain_kind kind) then b else true) ≡ true
 no_way Lower b = refl

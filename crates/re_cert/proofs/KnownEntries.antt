@@ -20,9 +20,10 @@ use Rattle.re_labels.specs.Sets.{IsLabelSet, has, number, set_of}
 use Rattle.re_problem.proofs.FedNames.{named_set}
 use Rattle.re_problem.specs.NamedProblems.{NamedProblem}
 use Rattle.re_problem.specs.ProblemTexts.{expanded, labels_named, line_expanded, line_items, names_in, power_or_one}
-use Rattle.re_problem.specs.Steps.{SetEntry}
+use Rattle.re_problem.specs.Steps.{LowerMap, SetEntry}
+use Rattle.re_problem.specs.Steps.LowerMap.{by_row, by_set}
 use Rattle.re_cert.proofs.ReadLabels.{held_parts}
-use Rattle.re_cert.specs.Bounds.{entry_fits, image_fits, pair_fits, row_fits}
+use Rattle.re_cert.specs.Bounds.{entries_in, entry_fits, image_fits, map_fits, pair_fits, row_fits}
 use Rattle.re_cert.specs.Entries.{both, entry_on, entry_with, image_on, labels_in, labels_on, of_length, row_on}
 use Rattle.re_sections.specs.Pairs.{ItemPair, label_held}
 use Rattle.re_labels.specs.PortLabels.{port_labels}
@@ -33,6 +34,11 @@ all_labels n [] below = refl
 all_labels n (x ∷ set) below = λ i. true-below x n below.0 i && all_labels n set below.1 i
 
 -- ---- entries and pairs
+-- the entries of a map that fits fit
+pub entries-fit : (before next : NamedProblem) (map : LowerMap) → map_fits before next map ≡ true → list_all (entry_fits before next) (entries_in map) ≡ true
+entries-fit before next (by_set entries) fits = fits
+entries-fit before next (by_row images) fits = refl
+
 pub entry_known : (before next : NamedProblem) (set label : ItemText) (entry : SetEntry) → entry_on before.names next.names set label ≡ Some entry → entry_fits before next entry ≡ true
 entry_known before next set label entry e = go (labels_held before.names set.names) (label_held next.names label) refl refl e
   where

@@ -10,14 +10,14 @@ use Rattle.re_labels.proofs.Tests.{and-true, below-true, true-and, true-below}
 use Rattle.re_labels.specs.Lists.{count_from}
 use Rattle.re_problem.proofs.StepLaws.{map-map}
 use Rattle.re_problem.specs.NamedProblems.{IsNamedProblem, NamedProblem}
-use Rattle.re_problem.specs.Steps.LowerMap.{by_row, by_set}
-use Rattle.re_problem.specs.Steps.{LowerMap, SetEntry, entry_sets, set_for}
+use Rattle.re_problem.specs.Steps.{SetEntry, entry_sets, set_for}
 use Rattle.re_table.specs.GoodRows.{is_allowed, is_good}
 use Rattle.re_changes.proofs.LeftLabels.{IsLeft, IsLeft-left_out, IsLeft-unchanged, labels_left, left_as}
 use Rattle.re_changes.proofs.OneChange.{IsLabelSet-staying, IsProblem-after, after-built, below-counted, counted-below}
 use Rattle.re_changes.specs.Changes.{after, becomes, changed_by, staying, unchanged}
 use Rattle.re_changes.specs.declared.change.Change.TheVariants.{LeaveOut}
-use Rattle.re_cert.specs.Bounds.{BoundStep, entries_in, entry_fits, is_label, is_lower, map_fits, step_fits}
+use Rattle.re_cert.proofs.KnownEntries.{entries-fit}
+use Rattle.re_cert.specs.Bounds.{BoundStep, entries_in, entry_fits, is_label, is_lower, step_fits}
 use Rattle.re_cert.specs.declared.certificate.Kind.{Kind}
 use Rattle.re_clauses.proofs.StepMeaning.{all_pass, none_fails}
 use Rattle.re_clauses.specs.Clauses.{is_filled, meets, step_clauses, step_fault}
@@ -28,11 +28,6 @@ use Rattle.re_chain.proofs.LeftEntries.{labels-in_order, left-from, left-with, s
 use Rattle.re_chain.proofs.NamedProblems.{IsNamed-built, IsNames-kept}
 use Rattle.re_chain.proofs.StepsAlong.{is-upper, parts-fit, step-parts}
 use Rattle.re_chain.specs.Dropping.{dropped_step, entries_left}
-
--- the entries of a map that fits fit
-pub entries-fit : (before next : NamedProblem) (map : LowerMap) → map_fits before next map ≡ true → list_all (entry_fits before next) (entries_in map) ≡ true
-entries-fit before next (by_set entries) fits = fits
-entries-fit before next (by_row images) fits = refl
 
 -- what the labels have become
 pub images-made : (x : ℕ) (named : NamedProblem) → (changed_by (LeaveOut x) (unchanged named)).images ≡ map (becomes (LeaveOut x) named) (count_from 0 (length named.names))

@@ -33,13 +33,13 @@ use Rattle.re_table.specs.Constraints.{Constraint, IsConstraint}
 use Rattle.re_table.specs.GoodRows.{is_allowed, is_good}
 use Rattle.re_changes.proofs.Numbering.{image-named, image-occurs}
 use Rattle.re_changes.proofs.OneChange.{below-counted, counted-below}
+use Rattle.re_cert.proofs.KnownEntries.{entries-fit}
 use Rattle.re_cert.specs.Bounds.{BoundStep, entries_in, entry_fits, is_by_row, is_lower, map_fits, step_fits}
 use Rattle.re_cert.specs.declared.certificate.Kind.{Kind}
 use Rattle.re_clauses.proofs.StepMeaning.{all_pass, lower_clauses, none_fails}
 use Rattle.re_clauses.specs.Clauses.{is_filled, meets, step_clauses, step_fault}
 use Rattle.re_clauses.specs.declared.clause.Clause.TheVariants.{U1, U2, U3, U4}
 use Rattle.re_check.proofs.Meaning.{kind-lower}
-use Rattle.re_chain.proofs.DroppedSteps.{entries-fit}
 use Rattle.re_chain.proofs.LastSteps.{Keeps}
 use Rattle.re_chain.proofs.NamedProblems.{IsNamed-built}
 use Rattle.re_chain.proofs.RelaxedSteps.{relaxed-step}

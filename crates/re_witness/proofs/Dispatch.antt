@@ -20,6 +20,7 @@ use Rattle.re_problem.proofs.FedLines.{unnot, unnot_true}
 use Rattle.re_problem.specs.NamedProblems.{IsNamedProblem, NamedProblem, unnamed}
 use Rattle.re_problem.specs.Steps.{LowerMap, SetEntry, entry_sets, label_at, label_of, set_for}
 use Rattle.re_problem.specs.Steps.LowerMap.{by_row, by_set}
+use Rattle.re_cert.proofs.KnownEntries.{entries-fit}
 use Rattle.re_cert.specs.Bounds.{BoundStep, entries_in, entry_fits, image_fits, is_label, kind_fits, map_fits, row_fits, step_fits}
 use Rattle.re_cert.specs.declared.certificate.Kind.{Kind}
 use Rattle.re_entries.proofs.AllowedImages.{keeps_allowed_law}
@@ -258,10 +259,6 @@ rows-few kind before s fits =
 
 pub map-fits : (kind : Kind) (before : NamedProblem) (s : BoundStep) → step_fits kind before s ≡ true → map_fits before s.next s.map ≡ true
 map-fits kind before s fits = (and-true (kind_fits kind s && nat_le (length s.rows) MAX_ROWS && list_all (row_fits before) s.rows) (map_fits before s.next s.map) fits).1
-
-pub entries-fit : (before next : NamedProblem) (m : LowerMap) → map_fits before next m ≡ true → list_all (entry_fits before next) (entries_in m) ≡ true
-entries-fit before next (by_set entries) e = e
-entries-fit before next (by_row images) e = refl
 
 -- a clause of the other side isn't found
 not-upper : (before : NamedProblem) (s : BoundStep) (c : Clause) → find (test before s) (L1 ∷ L2 ∷ L3 ∷ L4 ∷ L5 ∷ []) ≡ Some c → (L1 ≡ c → ⊥) → (L2 ≡ c → ⊥) → (L3 ≡ c → ⊥) → (L4 ≡ c → ⊥) → (L5 ≡ c → ⊥) → ⊥

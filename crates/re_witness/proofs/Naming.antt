@@ -24,6 +24,7 @@ use Rattle.re_maps.specs.declared.verdict.MapVerdict.TheVariants as verdict
 use Rattle.re_cert.specs.Bounds.{Bound, BoundStep, entries_in, entry_fits, image_fits, is_bound, is_fixed, is_label, last_problem, map_fits, next_problems, problem_at, row_fits, step_fits, steps_fit}
 use Rattle.re_cert.specs.declared.certificate.Kind.{Kind}
 use Rattle.re_cert.proofs.FittingStates.{last_behind}
+use Rattle.re_cert.proofs.KnownEntries.{entries-fit}
 use Rattle.re_entries.proofs.Telling.{read-held}
 use Rattle.re_entries.specs.StepClauses.{HasRowSets, OccursInRows}
 use Rattle.re_clauses.specs.Clauses.{step_fault}
@@ -32,7 +33,7 @@ use Rattle.re_clauses.specs.declared.clause.Clause.TheVariants.{Back, End, L1, L
 use Rattle.re_check.specs.Verdicts.{bound_fault, end_fault, ends_well, fault_at, fault_or, meets_back, meets_end, steps_fault}
 use Rattle.re_check.specs.declared.verdict.ClauseFault.{ClauseFault}
 use Rattle.re_witness.proofs.Bounds.{at_steps, final, fits_back, fits_steps, steps_clause}
-use Rattle.re_witness.proofs.Dispatch.{entries-fit, labels-below, map-fits, row-sets, rows-fit, sets-at, step-shown}
+use Rattle.re_witness.proofs.Dispatch.{labels-below, map-fits, row-sets, rows-fit, sets-at, step-shown}
 use Rattle.re_witness.proofs.Ends.{end_witness_law, in_order}
 use Rattle.re_witness.proofs.Found.{found_passes}
 use Rattle.re_witness.proofs.Giving.{at-held, map-none, map-some}

@@ -1,6 +1,6 @@
 -- A label of the last problem has another name: the problem, and the step to it.
 use Rattle.std.proofs.Common.{◌≡◌, ℕ, zero, suc, ◌+◌, ◌<◌, Bool, true, false, cond, not, eqb, List, [], ◌∷◌, ◌++◌, length, map, get_or, set, None, Some, refl, sym, ap, ◌∙◌, subst, arith, ◌⊎◌, inl, inr}
-use Rattle.std.proofs.lemmas.List.{get_or-map, get_or-set_other, get_or-set_same, length-set}
+use Rattle.std.proofs.lemmas.List.{get_or-map, get_or-set_other, get_or-set_same, length-set, map-id}
 use Rattle.std.proofs.lemmas.Map.Steps.{le-length_from_below}
 use Rattle.std.specs.Prelude.{Contains, ◌&&◌, ◌||◌, filter, flat_map, if◌then◌else◌}
 use Rattle.std.specs.List.{AllByRecursion, list_all, list_any}
@@ -82,10 +82,6 @@ filter-one {X} p (x ∷ xs) (suc k) d l h alone = go (p x) refl (filter-one p xs
 flat-singles : {X Y : Type 0} (f : X → List Y) (g : X → Y) (xs : List X) → ((x : X) → In x xs → f x ≡ g x ∷ []) → flat_map f xs ≡ map g xs
 flat-singles f g [] h = refl
 flat-singles f g (x ∷ xs) h = ap (λ l. l ++ flat_map f xs) (h x (inl refl)) ∙ ap (λ l. g x ∷ l) (flat-singles f g xs (λ y i. h y (inr i)))
-
-map-itself : (xs : List ℕ) → map (λ x. x) xs ≡ xs
-map-itself [] = refl
-map-itself (x ∷ xs) = ap (λ l. x ∷ l) (map-itself xs)
 
 module _ (x : ℕ) (name : List ℕ) (problem : NamedProblem) (is : IsNamedProblem problem) (below : x < length problem.names) where
   renamed : List (List ℕ)
@@ -294,7 +290,7 @@ module _ (x : ℕ) (name : List ℕ) (problem : NamedProblem) (is : IsNamedProbl
       pub labels-ordered : map (λ (entry : SetEntry). entry.label) (by_label (length problem.names) (map (entry_sent (image_at (name_numbers x name problem))) entries)) ≡ count_from 0 (length (list_set (names_with x name problem)))
       labels-ordered = ap (map (λ (entry : SetEntry). entry.label)) ordered
           ∙ map-map (λ (entry : SetEntry). entry.label) (λ k. record { set = set_for entries (place_of (names_with x name problem) (get_or (list_set (names_with x name problem)) k [])); label = k }) (count_from 0 (length problem.names))
-          ∙ map-itself (count_from 0 (length problem.names)) ∙ ap (count_from 0) (sym count-names)
+          ∙ map-id (count_from 0 (length problem.names)) ∙ ap (count_from 0) (sym count-names)
 
       -- the set of a number is that of its label
       pub set-kept : (label : ℕ) → label < length problem.names

@@ -1,9 +1,7 @@
 -- The steps from a problem to that of two families, from there to that of the two the other way round, and back.
-use Rattle.std.proofs.Common.{◌≡◌, ℕ, ◌<◌, List, [], ◌∷◌, length, map, refl, sym, ap, subst}
+use Rattle.std.proofs.Common.{◌<◌, length, sym, subst}
 use Rattle.re_table.specs.GoodRows.{max_rows}
 use Rattle.re_problem.proofs.StepLaws.{IsMapped-lower, IsRelaxed-itself}
-use Rattle.re_problem.specs.Problems.{IsProblem, Problem}
-use Rattle.re_problem.specs.Steps.{IsRelaxed}
 use Rattle.re_problem.specs.Steps.LowerMap.{by_set}
 use Rattle.re_laws.proofs.ChainRounds.{fixed_point}
 use Rattle.re_laws.specs.Chains.{IsLowerChain}
@@ -20,10 +18,6 @@ other_way family other opposed = record {
       let both = opposed.within y x (subst (λ m. y < m) (sym opposed.count) y_low) (subst (λ m. x < m) (sym opposed.count) x_low) in
       (both.1, both.0);
 }
-
-map-same : (xs : List ℕ) → map (λ x. x) xs ≡ xs
-map-same [] = refl
-map-same (x ∷ xs) = ap (λ l. x ∷ l) (map-same xs)
 
 pub fixed_law : FixedLaw
 fixed_law problem active passive T is a p around not_zero solvable =

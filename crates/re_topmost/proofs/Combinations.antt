@@ -1,8 +1,9 @@
 -- The combinations of two lines, one after another.
-use Rattle.std.proofs.Common.{◌≡◌, ℕ, zero, suc, ◌+◌, ◌-◌, ◌<◌, ◌≤◌, List, [], ◌∷◌, ◌++◌, length, get_or, refl, sym, ap, ◌∙◌, subst, ◌⊎◌, inl, inr, arith}
+use Rattle.std.proofs.Common.{◌≡◌, ℕ, zero, suc, ◌+◌, ◌-◌, ◌<◌, ◌≤◌, List, [], ◌∷◌, ◌++◌, length, get_or, sym, ap, ◌∙◌, subst, ◌⊎◌, inl, inr, arith}
 use Rattle.std.specs.Prelude.{Contains}
 use Rattle.std.specs.List.{remove}
 use Rattle.std.proofs.lemmas.Bool.{cases_lt}
+use Rattle.std.proofs.lemmas.List.{append-nil}
 use Rattle.std.proofs.lemmas.List.Edits.{length-remove}
 use Rattle.re_config.proofs.ChoicesOfRows.{IsUnder-refl}
 use Rattle.re_config.proofs.Placing.{Dominates-trans}
@@ -22,22 +23,14 @@ pub record AreMeetingsBefore (chosen : List (List ℕ)) (first : List ℕ) (rest
   pub made : (line : List (List ℕ)) → Contains new line → Contains old line ⊎ IsMeeting chosen (first ∷ rest) left line
   pub all : (place : ℕ) → place < before → (moved : List (List ℕ)) → Rearranged (remove left place) moved → HasAlike new (chosen ++ meet first (set_at left place) ∷ meets rest moved)
 
-append_none : (xs : List (List ℕ)) → xs ++ [] ≡ xs
-append_none [] = refl
-append_none (x ∷ xs) = ap (λ l. x ∷ l) (append_none xs)
-
-no_sets : (xs : List (List ℕ)) → length xs ≡ 0 → xs ≡ []
-no_sets [] e = refl
-no_sets (x ∷ xs) e = absurd (omega arith)
-
 pub meetings_none : (chosen left : List (List ℕ)) (old new : List (List (List ℕ))) (line : List (List ℕ)) → length left ≡ 0 → line ≡ chosen → new ≡ old ++ line ∷ [] → AreMeetings chosen [] left old new
 meetings_none chosen left old new line none is pushed = subst (AreMeetings chosen [] left old) (sym pushed) (record {
   stays = λ other held. has_before old line other held;
   made = λ other held. elim (has_either old line other held) [
     | inl h ↦ inl h
-    | inr e ↦ inr (left, Rearranged-refl left, subst (λ w. Rearranged (chosen ++ []) w) (append_none chosen ∙ sym is ∙ sym e) (Rearranged-refl (chosen ++ [])))
+    | inr e ↦ inr (left, Rearranged-refl left, subst (λ w. Rearranged (chosen ++ []) w) (append-nil chosen ∙ sym is ∙ sym e) (Rearranged-refl (chosen ++ [])))
   ];
-  all = λ moved p. (line, has_last old line, subst (λ w. Rearranged (chosen ++ []) w) (append_none chosen ∙ sym is) (Rearranged-refl (chosen ++ [])));
+  all = λ moved p. (line, has_last old line, subst (λ w. Rearranged (chosen ++ []) w) (append-nil chosen ∙ sym is) (Rearranged-refl (chosen ++ [])));
 })
 
 module _ (chosen : List (List ℕ)) (first : List ℕ) (rest left : List (List ℕ)) (place : ℕ) (old : List (List (List ℕ))) (low : place < length left) where

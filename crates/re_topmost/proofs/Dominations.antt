@@ -1,22 +1,18 @@
 -- Domination, one place after another.
-use Rattle.std.proofs.Common.{◌≡◌, ℕ, ◌+◌, ◌-◌, ◌<◌, ◌≤◌, List, [], ◌∷◌, length, get_or, refl, sym, ap, ◌∙◌, subst, inl, inr, arith}
+use Rattle.std.proofs.Common.{◌≡◌, ℕ, ◌+◌, ◌-◌, ◌<◌, ◌≤◌, List, [], ◌∷◌, length, get_or, sym, ◌∙◌, subst, inl, inr, arith}
 use Rattle.std.specs.List.{remove}
 use Rattle.std.proofs.lemmas.Bool.{cases_lt}
+use Rattle.std.proofs.lemmas.List.{nil_from_length}
 use Rattle.re_config.proofs.Rearranging.{Rearranged-refl, length-AllZip, length-Rearranged}
 use Rattle.re_config.proofs.RowCalls.{read_within}
 use Rattle.re_table.specs.GoodRows.{IsDominated}
 use Rattle.re_config.specs.Rearranging.{chained, kept}
 use Rattle.re_config.specs.Rows.{Dominates, IsUnder, set_at}
-use Rattle.re_labels.proofs.Numbers.{set_of-number}
-use Rattle.re_labels.specs.Sets.{IsLabelSet, IsWithin, number, set_of}
+use Rattle.re_labels.specs.Sets.{IsWithin}
 use Rattle.re_topmost.proofs.Places.{front, placed_first, removed_same}
 
-no_sets : (xs : List (List ℕ)) → length xs ≡ 0 → xs ≡ []
-no_sets [] e = refl
-no_sets (x ∷ xs) e = absurd (omega arith)
-
 pub none_held : (tops : List (List ℕ)) → length tops ≡ 0 → Dominates tops []
-none_held tops e = (tops, Rearranged-refl tops, subst (IsUnder []) (sym (no_sets tops e)) tt)
+none_held tops e = (tops, Rearranged-refl tops, subst (IsUnder []) (sym (nil_from_length tops e)) tt)
 
 pub held_at : (tops : List (List ℕ)) (first : List ℕ) (others : List (List ℕ)) (place : ℕ) → place < length tops → IsWithin first (set_at tops place) → Dominates (remove tops place) others
     → Dominates tops (first ∷ others)

@@ -5,10 +5,11 @@ use Rattle.std.specs.List.{AllByRecursion}
 use Rattle.std.specs.List.Sorted.{IsNonDecreasingBy, IsPermutation}
 use Rattle.std.proofs.lemmas.Bool.{cases_lt}
 use Rattle.std.proofs.lemmas.Bool.Decides.{nat_tests}
+use Rattle.std.proofs.lemmas.List.{append-nil}
 use Rattle.std.proofs.lemmas.List.Elements.{Contains-append_cases, Contains-append_left, Contains-append_right, filter-append}
 use Rattle.std.proofs.lemmas.List.Sorted.{Contains-permutation, IsPermutation-sym}
 use Rattle.re_config.specs.Rows.{placed, set_at}
-use Rattle.re_labels.proofs.Membership.{AllByRecursion-contains, AllByRecursion-from_contains, Contains-cases, Contains-filter_cases, Contains-flat_map, Contains-flat_map_cases, Contains-here, Contains-map, Contains-map_cases, Contains-none, all-push, count_from-last, count_from_range, map-alike}
+use Rattle.re_labels.proofs.Membership.{AllByRecursion-contains, AllByRecursion-from_contains, Contains-filter_cases, Contains-flat_map, Contains-flat_map_cases, Contains-here, Contains-map, Contains-map_cases, Contains-none, count_from-last, count_from_range, map-alike}
 use Rattle.re_config.specs.Configs.{IsConfig}
 use Rattle.re_labels.proofs.Membership.{get_or-count_from, length-count_from}
 use Rattle.re_labels.specs.Lists.{IsRising, count_from}
@@ -44,10 +45,6 @@ one_more set n =
     ∙ ap (filter (λ label. not (has set label))) (count_from-last 0 n ∙ ap (λ m. count_from 0 n ++ m ∷ []) z)
     ∙ filter-append (λ label. not (has set label)) (count_from 0 n) (n ∷ [])
 
-append_none : (xs : List ℕ) → xs ++ [] ≡ xs
-append_none [] = refl
-append_none (x ∷ xs) = ap (λ l. x ∷ l) (append_none xs)
-
 pub others_in : (set left more : List ℕ) (n : ℕ) → has set n ≡ false → left ≡ filter (λ label. not (has set label)) (count_from 0 n) → more ≡ with_label left n
     → more ≡ filter (λ label. not (has set label)) (count_from 0 (n + 1))
 others_in set left more n out is e =
@@ -56,7 +53,7 @@ others_in set left more n out is e =
 
 pub others_out : (set left : List ℕ) (n : ℕ) → has set n ≡ true → left ≡ filter (λ label. not (has set label)) (count_from 0 n) → left ≡ filter (λ label. not (has set label)) (count_from 0 (n + 1))
 others_out set left n held is =
-    is ∙ sym (one_more set n ∙ ap (λ b. filter (λ label. not (has set label)) (count_from 0 n) ++ cond (not b) (n ∷ []) []) held ∙ append_none (filter (λ label. not (has set label)) (count_from 0 n)))
+    is ∙ sym (one_more set n ∙ ap (λ b. filter (λ label. not (has set label)) (count_from 0 n) ++ cond (not b) (n ∷ []) []) held ∙ append-nil (filter (λ label. not (has set label)) (count_from 0 n)))
 
 -- ---- each set once
 pub record IsOnce (sets : List (List ℕ)) (place : ℕ) (once : List (List ℕ)) : Type 0 where

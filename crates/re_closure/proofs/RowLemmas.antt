@@ -25,6 +25,7 @@ use Rattle.re_labels.specs.declared.TheConstants.{MAX_LABELS}
 use Rattle.re_table.proofs.MaxRows.{rising-max_rows}
 use Rattle.re_table.specs.GoodRows.{max_rows}
 use Rattle.re_boxes.proofs.Spread.{IsIn-filled}
+use Rattle.re_strength.specs.Ordering.{is_row_before}
 use Rattle.re_problem.specs.Problems.{IsProblem, Problem}
 use Rattle.re_lines.proofs.FirstSteps.{of_maximal}
 use Rattle.re_lines.proofs.Generated.{closure_families_law}
@@ -32,7 +33,7 @@ use Rattle.re_lines.proofs.MaximalLines.{in_order-row, maximal_lines_law}
 use Rattle.re_lines.proofs.Unders.{IsIn-labels_within, IsLabelSet-labels_within}
 use Rattle.re_lines.specs.Closures.{AreClosure}
 use Rattle.re_lines.specs.Lines.{AreApart, Family, IsFamily, below, labels_within, row_within}
-use Rattle.re_closure.specs.Sides.{IsRowBefore, is_row_below, row_at}
+use Rattle.re_closure.specs.Sides.{IsRowBefore, row_at}
 
 -- ---- the row of a line
 full : (n : ℕ) (r : List (List ℕ)) → AreSets n r → is_full r ≡ true
@@ -76,7 +77,7 @@ row_is sets line two six few known =
     ∙ ap Some (one_order (length sets) MAX_LABELS few r is)
 
 -- ---- each row once
-pub rows_ranked : IsStrictWeakOrder is_row_below
+pub rows_ranked : IsStrictWeakOrder is_row_before
 rows_ranked = ranks_by nat_list_cmp_total (map number)
 
 pub record IsOnce (rows : List (List (List ℕ))) (place : ℕ) (once : List (List (List ℕ))) : Type 0 where
@@ -101,7 +102,7 @@ rises_more (r ∷ []) row h low = (low r (Contains-here r []), tt)
 rises_more (r ∷ s ∷ once) row h low = (h.0, rises_more (s ∷ once) row h.1 (λ z held. low z (Contains-later z r (s ∷ once) held)))
 
 -- a row that is neither above the next one nor the same is before it
-before-next : (row next : List (List ℕ)) → is_row_below next row ≡ false → (row_cmp row next ≡ Equal → ⊥) → IsRowBefore row next
+before-next : (row next : List (List ℕ)) → is_row_before next row ≡ false → (row_cmp row next ≡ Equal → ⊥) → IsRowBefore row next
 before-next row next low anew = elim (three_orders (map number row) (map number next)) [
   | inl less ↦ less
   | inr other ↦ elim other [
@@ -116,7 +117,7 @@ either once row z h = elim (Contains-append_cases once (row ∷ []) z h) [
   | inr k ↦ elim (Contains-cases z row [] k) [ inl e ↦ inr e | inr m ↦ absurd (Contains-none z m) ]
 ]
 
-module _ (rows : List (List (List ℕ))) (place : ℕ) (once : List (List (List ℕ))) (order : IsSortedBy is_row_below rows) (low : place < length rows) (before : IsOnce rows place once) where
+module _ (rows : List (List (List ℕ))) (place : ℕ) (once : List (List (List ℕ))) (order : IsSortedBy is_row_before rows) (low : place < length rows) (before : IsOnce rows place once) where
   back : place + 1 - 1 ≡ place
   back = omega arith
 
@@ -151,7 +152,7 @@ module _ (rows : List (List (List ℕ))) (place : ℕ) (once : List (List (List 
       up some =
           let next : place - 1 + 1 ≡ place = omega (arith, some) in
           before-next (row_at rows (place - 1)) (row_at rows place)
-          (subst (λ k. is_row_below (row_at rows k) (row_at rows (place - 1)) ≡ false) next (order (place - 1) [] (omega (arith, some, low)) (omega (arith, some, low)))) (anew some)
+          (subst (λ k. is_row_before (row_at rows k) (row_at rows (place - 1)) ≡ false) next (order (place - 1) [] (omega (arith, some, low)) (omega (arith, some, low)))) (anew some)
 
       below_row : (r : List (List ℕ)) → Contains once r → IsRowBefore r row
       below_row r h = let m = before.most r h in subst (IsRowBefore r) (sym at) (elim m.1 [

@@ -1,6 +1,5 @@
 -- What is computed of the two families of a closure, and the chain that it makes.
 use Rattle.std.specs.Prelude.{◌≡◌, ℕ, suc, ◌≤◌, Bool, true, List, [], ◌∷◌, ◌++◌, length, map, filter, if◌then◌else◌, slice_index_or}
-use Rattle.std.specs.Ordering.{is_lt}
 use Rattle.std.specs.declared.cmp.Ordering.TheVariants.{Less}
 use Rattle.re_labels.specs.Lists.{count_from}
 use Rattle.re_labels.specs.Sets.{within}
@@ -28,9 +27,6 @@ abbrev pub labels_around : List (List ℕ) → List ℕ → List ℕ
 labels_around sets set = filter (λ label. within set (set_at sets label)) (count_from 0 (length sets))
 
 -- ---- rows
-abbrev pub is_row_below : List (List ℕ) → List (List ℕ) → Bool
-is_row_below row other = is_lt (row_cmp row other)
-
 abbrev pub IsRowBefore : List (List ℕ) → List (List ℕ) → Type 0
 IsRowBefore row other = row_cmp row other ≡ Less
 

@@ -1,9 +1,10 @@
 //! The rows of lines: in place of each set the labels whose sets lie within it.
-ghost use Rattle.re_closure.specs.Sides.{IsRowBefore, family_of, is_row_below, row_at};
+ghost use Rattle.re_closure.specs.Sides.{IsRowBefore, family_of, row_at};
 ghost use Rattle.re_config.specs.Rows.{row_cmp};
 ghost use Rattle.re_config.specs.declared.TheConstants.{MAX_ROWS};
 ghost use Rattle.re_labels.specs.Lists.{IsRising};
 ghost use Rattle.re_lines.specs.Lines.{AreApart, IsFamily, below, labels_within, row_within};
+ghost use Rattle.re_strength.specs.Ordering.{is_row_before};
 ghost use Rattle.re_table.specs.GoodRows.{max_rows};
 ghost use Rattle.std.specs.List.Sorted.{IsPermutation, IsSortedBy};
 ghost use Rattle.std.specs.Prelude.{◌≡◌, ◌<◌, ◌≤◌, ◌-◌, ◌↔◌, Contains, IfOk, IsTrue, List, false, length, map, ℕ};
@@ -64,7 +65,7 @@ fn order(row: &Row, other: &Row) -> Ordering
 // The rows in order.
 fn in_order(rows: Vec<Row>) -> Vec<Row>
     ensures same { IsPermutation rows.items result.items }
-    ensures order { IsSortedBy is_row_below result.items }
+    ensures order { IsSortedBy is_row_before result.items }
 {
     let mut all = rows;
     all.sort_unstable_by(order);
@@ -89,7 +90,7 @@ fn is_again(rows: &[Row], place: usize) -> bool
 
 // Each of the rows once, where they are in order.
 fn without_repeats(alloc: Global, rows: &[Row]) -> Result<Vec<Row>, NoMemory>
-    requires { IsSortedBy is_row_below rows.now }
+    requires { IsSortedBy is_row_before rows.now }
     ensures rises { IfOk result (λ once. IsRising IsRowBefore once.items) }
     ensures same { IfOk result (λ once. (row : List (List ℕ)) → Contains once.items row ↔ Contains rows.now row) }
     ensures few { IfOk result (λ once. length once.items ≤ length rows.now) }

@@ -14,8 +14,9 @@ use Rattle.re_cert.specs.declared.certificate.Kind.{Kind}
 use Rattle.re_cert.specs.declared.certificate.TheConstants.{MAX_STEPS}
 use Rattle.re_config.specs.declared.TheConstants.{MAX_ROWS}
 use Rattle.re_table.proofs.SaidChoices.{all-map}
+use Rattle.re_strength.specs.Ordering.{is_row_before}
 use Rattle.re_tidy.specs.Orders.{in_order, inserted}
-use Rattle.re_tidy.specs.Tidied.{first_row_before, images_in_order, map_in_order, pair_before, row_before, step_in_order, tidied}
+use Rattle.re_tidy.specs.Tidied.{first_row_before, images_in_order, map_in_order, pair_before, step_in_order, tidied}
 
 -- ---- lists in order
 swapped : (a b c : Bool) → (a && (b && c)) ≡ (b && (a && c))
@@ -93,10 +94,10 @@ map_kept before next lower rows (by_row images) =
 
 step_kept : (kind : Kind) (before : NamedProblem) (s : BoundStep) → step_fits kind before (step_in_order s) ≡ step_fits kind before s
 step_kept kind before s =
-    ap (λ b. (if s.lower then is_lower kind else not (is_lower kind) && not b) && nat_le (length (in_order row_before s.rows)) MAX_ROWS && list_all (row_fits before) (in_order row_before s.rows)
+    ap (λ b. (if s.lower then is_lower kind else not (is_lower kind) && not b) && nat_le (length (in_order is_row_before s.rows)) MAX_ROWS && list_all (row_fits before) (in_order is_row_before s.rows)
     && map_fits before s.next (map_in_order s.lower s.rows s.map)) (form_kept s.lower s.rows s.map)
-    ∙ ap (λ n. kind_fits kind s && nat_le n MAX_ROWS && list_all (row_fits before) (in_order row_before s.rows) && map_fits before s.next (map_in_order s.lower s.rows s.map)) (length_in_order row_before s.rows)
-    ∙ ap (λ b. kind_fits kind s && nat_le (length s.rows) MAX_ROWS && b && map_fits before s.next (map_in_order s.lower s.rows s.map)) (all_in_order row_before (row_fits before) s.rows)
+    ∙ ap (λ n. kind_fits kind s && nat_le n MAX_ROWS && list_all (row_fits before) (in_order is_row_before s.rows) && map_fits before s.next (map_in_order s.lower s.rows s.map)) (length_in_order is_row_before s.rows)
+    ∙ ap (λ b. kind_fits kind s && nat_le (length s.rows) MAX_ROWS && b && map_fits before s.next (map_in_order s.lower s.rows s.map)) (all_in_order is_row_before (row_fits before) s.rows)
     ∙ ap (λ b. kind_fits kind s && nat_le (length s.rows) MAX_ROWS && list_all (row_fits before) s.rows && b) (map_kept before s.next s.lower s.rows s.map)
 
 steps_kept : (kind : Kind) (before : NamedProblem) (steps : List BoundStep) → steps_fit kind before (map step_in_order steps) ≡ steps_fit kind before steps

@@ -4,14 +4,11 @@ use Rattle.std.specs.List.{zip}
 use Rattle.std.specs.Ordering.{is_lt, nat_cmp}
 use Rattle.re_labels.specs.Sets.{number}
 use Rattle.re_config.specs.Rows.{row_cmp}
+use Rattle.re_strength.specs.Ordering.{is_row_before}
 use Rattle.re_problem.specs.Steps.{LowerMap, SetEntry}
 use Rattle.re_problem.specs.Steps.LowerMap.{by_row, by_set}
 use Rattle.re_cert.specs.Bounds.{Bound, BoundStep}
 use Rattle.re_tidy.specs.Orders.{in_order}
-
--- the order of rows
-abbrev pub row_before : List (List ℕ) → List (List ℕ) → Bool
-row_before row other = is_lt (row_cmp row other)
 
 -- the order of rows that have something with them, by the rows alone
 abbrev pub first_row_before : List (List ℕ) × List ℕ → List (List ℕ) × List ℕ → Bool
@@ -39,7 +36,7 @@ map_in_order lower rows (by_row images) = by_row (images_in_order rows images)
 
 -- the step with its rows and its map in order
 abbrev pub step_in_order : BoundStep → BoundStep
-step_in_order s = record { lower = s.lower; next = s.next; rows = in_order row_before s.rows; map = map_in_order s.lower s.rows s.map }
+step_in_order s = record { lower = s.lower; next = s.next; rows = in_order is_row_before s.rows; map = map_in_order s.lower s.rows s.map }
 
 -- the bound with its steps and its pairs in order
 abbrev pub tidied : Bound → Bound

@@ -1,7 +1,8 @@
 //! The lists of a certificate in order. Each sort takes about n log n comparisons; elements of which none is before the other stay in
 //! their order.
 ghost use Rattle.re_tidy.specs.Orders.{in_order};
-ghost use Rattle.re_tidy.specs.Tidied.{first_row_before, images_in_order, label_before, pair_before, row_before, set_before};
+ghost use Rattle.re_strength.specs.Ordering.{is_row_before};
+ghost use Rattle.re_tidy.specs.Tidied.{first_row_before, images_in_order, label_before, pair_before, set_before};
 ghost use Rattle.std.specs.List.{zip};
 ghost use Rattle.std.specs.Prelude.{◌≡◌, ◌++◌, IfOk, List, ℕ, OnOk, drop, length, map};
 
@@ -14,7 +15,7 @@ use std::alloc::Global;
 
 /// Puts the rows in order.
 pub(crate) fn sort_rows(rows: &mut Vec<Row>) -> Result<(), NoMemory>
-    ensures { OnOk result (rows.new.items ≡ in_order row_before rows.old.items) }
+    ensures { OnOk result (rows.new.items ≡ in_order is_row_before rows.old.items) }
 {
     rows.sort_by(|row, other| row_order(row, other))?;
     Ok(())

@@ -21,6 +21,7 @@ use Rattle.re_config.specs.declared.TheConstants.{MAX_ROWS}
 use Rattle.re_boxes.proofs.Grown.{grown_is_maximal}
 use Rattle.re_boxes.specs.Grown.{IsGrown, added}
 use Rattle.re_strength.proofs.RowsOfSets.{AreSets-filled}
+use Rattle.re_strength.specs.Ordering.{is_row_before}
 use Rattle.re_table.proofs.Goodness.{Has-has_config, IsGood-is_good, filled-is_full, has_config-Has, is_good-IsGood}
 use Rattle.re_table.proofs.MaxRows.{IsMaximal-max_rows, max_rows-IsMaximal, rising-max_rows}
 use Rattle.re_table.specs.Constraints.{Constraint, Has, has_config}
@@ -32,7 +33,7 @@ use Rattle.re_maps.proofs.VerdictLaws.{label-none}
 use Rattle.re_witness.proofs.Found.{found_passes, none_all}
 use Rattle.re_witness.proofs.Giving.{from-none, from-some, gives-at_last, gives-or, held-at, map-none, map-some, unordered-rising, unordered-some}
 use Rattle.re_witness.specs.BadChoice.{first_bad, is_bad}
-use Rattle.re_witness.specs.Finding.{bad_row, can_add, extended, extended_at, first_from, first_unordered, is_before, is_listed, missing_row, row_witness}
+use Rattle.re_witness.specs.Finding.{bad_row, can_add, extended, extended_at, first_from, first_unordered, is_listed, missing_row, row_witness}
 use Rattle.re_witness.specs.Laws.{Gives, RowWitnessLaw}
 use Rattle.re_witness.specs.Witnesses.{ShowsRows}
 use Rattle.re_witness.specs.declared.witness.Witness.{Witness}
@@ -125,13 +126,13 @@ module _ (passive : Constraint) (n : ℕ) (rows : List (List (List ℕ)))
   less-is Equal e = absurd (true≢false (sym e))
   less-is Greater e = absurd (true≢false (sym e))
 
-  order_here : (k : ℕ) → first_unordered is_before 0 rows ≡ Some k → ShowsRows passive n rows (RowOrder k)
+  order_here : (k : ℕ) → first_unordered is_row_before 0 rows ≡ Some k → ShowsRows passive n rows (RowOrder k)
   order_here k e =
-      let (i, is, row, other, at, next, fails) = unordered-some is_before 0 rows k e in
+      let (i, is, row, other, at, next, fails) = unordered-some is_row_before 0 rows k e in
       let same : i ≡ k = omega (arith, is) in
       subst (λ m. ShowsRows passive n rows (RowOrder m)) same (row, other, at, next, λ less. true≢false (sym (ap is_lt less) ∙ fails))
 
-  rising : (xs : List (List (List ℕ))) → IsRising (λ row other. is_before row other ≡ true) xs → IsRising RowBefore xs
+  rising : (xs : List (List (List ℕ))) → IsRising (λ row other. is_row_before row other ≡ true) xs → IsRising RowBefore xs
   rising [] h = tt
   rising (x ∷ []) h = tt
   rising (x ∷ y ∷ xs) h = (less-is (row_cmp x y) h.0, rising (y ∷ xs) h.1)
@@ -164,10 +165,10 @@ module _ (passive : Constraint) (n : ℕ) (rows : List (List (List ℕ)))
           subst (Contains rows) (sym same) there
 
   -- where nothing is found, these are the maximal rows
-  all_there : first_from (bad_row passive) 0 rows ≡ None → first_from (extended passive n) 0 rows ≡ None → first_unordered is_before 0 rows ≡ None → missing_row passive n rows ≡ None → rows ≡ max_rows passive n
+  all_there : first_from (bad_row passive) 0 rows ≡ None → first_from (extended passive n) 0 rows ≡ None → first_unordered is_row_before 0 rows ≡ None → missing_row passive n rows ≡ None → rows ≡ max_rows passive n
   all_there fine whole order none =
       same_members RowBefore (λ q r s. IsBefore-trans (map number q) (map number r) (map number s)) (λ r. IsBefore-apart (map number r))
-      rows (max_rows passive n) (rising rows (unordered-rising is_before 0 rows order)) (rising-max_rows passive n)
+      rows (max_rows passive n) (rising rows (unordered-rising is_row_before 0 rows order)) (rising-max_rows passive n)
       (λ row i. IsMaximal-max_rows passive n row (maximal fine whole row (In-Contains row rows i)))
       (λ row i. Contains-In row rows (listed none row i))
 
@@ -175,10 +176,10 @@ module _ (passive : Constraint) (n : ℕ) (rows : List (List (List ℕ)))
   rows_shown isnt =
       gives-or (first_from (bad_row passive) 0 rows) _ (ShowsRows passive n rows) bad_here (λ fine.
       gives-or (first_from (extended passive n) 0 rows) _ (ShowsRows passive n rows) added_here (λ whole.
-      gives-or (option_map RowOrder (first_unordered is_before 0 rows)) _ (ShowsRows passive n rows)
-      (λ w e. let (k, found, same) = map-some RowOrder (first_unordered is_before 0 rows) w e in subst (ShowsRows passive n rows) same (order_here k found))
+      gives-or (option_map RowOrder (first_unordered is_row_before 0 rows)) _ (ShowsRows passive n rows)
+      (λ w e. let (k, found, same) = map-some RowOrder (first_unordered is_row_before 0 rows) w e in subst (ShowsRows passive n rows) same (order_here k found))
       (λ order.
-      gives-at_last (missing_row passive n rows) (ShowsRows passive n rows) missing_here (λ none. isnt (all_there fine whole (map-none RowOrder (first_unordered is_before 0 rows) order) none)))))
+      gives-at_last (missing_row passive n rows) (ShowsRows passive n rows) missing_here (λ none. isnt (all_there fine whole (map-none RowOrder (first_unordered is_row_before 0 rows) order) none)))))
 
 pub row_witness_law : RowWitnessLaw
 row_witness_law passive n rows are isnt = rows_shown passive n rows are isnt

@@ -12,6 +12,7 @@ use Rattle.re_config.specs.declared.TheConstants.{MAX_ROWS}
 use Rattle.re_table.specs.Constraints.{Constraint, has_config}
 use Rattle.re_table.specs.GoodRows.{is_good, max_rows}
 use Rattle.re_boxes.specs.Grown.{added}
+use Rattle.re_strength.specs.Ordering.{is_row_before}
 use Rattle.re_problem.specs.NamedProblems.{NamedProblem, unnamed}
 use Rattle.re_problem.specs.Problems.{Problem}
 use Rattle.re_problem.specs.Steps.{LowerMap, SetEntry, entry_sets, label_of, set_for}
@@ -65,9 +66,6 @@ extended_at passive n k row place set = option_map (Extends k place) (first_labe
 abbrev pub extended : Constraint → ℕ → ℕ → List (List ℕ) → Option Witness
 extended passive n k row = first_from (extended_at passive n k row) 0 row
 
-abbrev pub is_before : List (List ℕ) → List (List ℕ) → Bool
-is_before row other = is_lt (row_cmp row other)
-
 abbrev pub is_listed : List (List (List ℕ)) → List (List ℕ) → Bool
 is_listed rows row = list_any (λ other. is_eq (row_cmp row other)) rows
 
@@ -82,7 +80,7 @@ abbrev pub row_witness : Constraint → ℕ → List (List (List ℕ)) → Optio
 row_witness passive n rows =
     option_or (first_from (bad_row passive) 0 rows)
     (option_or (first_from (extended passive n) 0 rows)
-    (option_or (option_map RowOrder (first_unordered is_before 0 rows))
+    (option_or (option_map RowOrder (first_unordered is_row_before 0 rows))
     (missing_row passive n rows)))
 
 -- ---- L3: the sets of the entries

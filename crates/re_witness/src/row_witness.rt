@@ -1,9 +1,10 @@
 //! What shows that rows aren't the maximal rows.
 ghost use Rattle.re_labels.specs.Sets.{IsLabelSet};
 ghost use Rattle.re_maps.specs.Verdicts.{first_label};
+ghost use Rattle.re_strength.specs.Ordering.{is_row_before};
 ghost use Rattle.re_table.specs.Constraints.{IsConstraint};
 ghost use Rattle.re_table.specs.GoodRows.{max_rows};
-ghost use Rattle.re_witness.specs.Finding.{bad_row, can_add, extended, extended_at, first_from, first_unordered, is_before, is_listed, missing_row, row_witness};
+ghost use Rattle.re_witness.specs.Finding.{bad_row, can_add, extended, extended_at, first_from, first_unordered, is_listed, missing_row, row_witness};
 ghost use Rattle.std.specs.List.{AllByRecursion};
 ghost use Rattle.std.specs.Prelude.{◌≡◌, ◌≤◌, ◌<◌, ◌+◌, ◌^◌, IfOk, find, length, not};
 
@@ -113,7 +114,7 @@ fn extended_row(passive: &Constraint, labels: u8, rows: &[Row], number: usize) -
 
 // Whether the row comes before the other one.
 fn is_before(row: &Row, other: &Row) -> bool
-    ensures { result ≡ is_before row.now other.now }
+    ensures { result ≡ is_row_before row.now other.now }
 {
     row_order(row, other) == Ordering::Less
 }
@@ -121,7 +122,7 @@ fn is_before(row: &Row, other: &Row) -> bool
 // The first row, numbered from here on, that isn't before the one behind it.
 fn unordered_row(rows: &[Row], number: usize) -> Option<usize>
     requires { number + length rows.now < 2 ^ 64 }
-    ensures { result ≡ first_unordered is_before number rows.now }
+    ensures { result ≡ first_unordered is_row_before number rows.now }
 {
     let [row, others @ ..] = rows else {
         return None;

@@ -5,8 +5,8 @@
     docs/believe.py --check    says whether docs/DEFINITIONS.md has exactly them between its two marks
     docs/believe.py --write    writes them there
     docs/believe.py --names    prints the definitions of each group by name, with the lines that each has
-    docs/believe.py --missing  prints the definitions that a contract of a public call names and that have no line in docs/DEFINITIONS.md;
-                               the statement of a law has that of its call
+    docs/believe.py --table CRATE ..   prints the definitions of the crates as Markdown tables: each with the line that stands above it
+    docs/believe.py --missing  prints the definitions that a contract of a public call names and that no line in words stands above
 
 A group begins with the definitions that some clauses name, and takes in each definition that stands in the text of one that it has: definition
 by definition, not whole modules. What an earlier group has isn't counted again. Lines are those of the definitions, without comments and empty
@@ -41,7 +41,7 @@ GROUPS = [
     (
         "What the bytes mean",
         "what the clauses of `re_check::check_stream` and of `re_cli::run` add for the word `check`: the text of a certificate, words, "
-        "status and line. The outcomes of the other words are left out. These are \"Texts\" and \"What the public calls say\" below.",
+        "status and line. The outcomes of the other words are left out. [FORMATS.md](FORMATS.md) says it in words.",
         [
             ("re_check", "check_stream", None),
             ("re_cli", "run", ["answer", "bad_words", "no", "read_fault", "read_within", "write_fault", "partly", "not_put", "done_means", "line_means", "emptied", "not_read"]),
@@ -62,6 +62,12 @@ GROUPS = [
             ("re_check", "upper_law", None),
         ],
         [word for word in OTHER_WORDS if word != "running_outcome"],
+    ),
+    (
+        "With unique identifiers",
+        "what `re_given_bounds::unique_identifiers_law` adds: views that show input labels, identifiers, local algorithms.",
+        [("re_given_bounds", "unique_identifiers_law", None)],
+        [],
     ),
 ]
 
@@ -378,14 +384,39 @@ def page_text():
     return before, inside, after
 
 
+def words_above(crate, name):
+    """Each definition of a module of specs with the comment lines right above it, as one line."""
+    above, found = [], {}
+    for line in read(os.path.join(TOP, "crates", crate, "specs", name + ".antt")).splitlines():
+        if line.startswith("--"):
+            above.append(line.removeprefix("--").strip())
+            continue
+        head = re.match(r"(?:(?:abbrev|unfoldable|record|data|pub)\s+)+([^\W\d][\w']*)", line)
+        if head:
+            found[head.group(1)] = " ".join(above)
+        if head or not line.strip():
+            above = []
+    return found
+
+
+def table(crates):
+    for crate in crates:
+        print(f"## `{crate}`\n\n| Name | Meaning | Specs |\n|---|---|---|")
+        for known, name in MODULES:
+            if known == crate:
+                for word, meaning in words_above(crate, name).items():
+                    if meaning:
+                        print(f"| `{word}` | {meaning} | {name} |")
+        print()
+
+
 def missing():
-    listed = set(WORD.findall(" ".join(re.findall(r"`([^`]*)`", read(PAGE)))))
     by_name = {}
     for crate in dict.fromkeys(crate for crate, _ in MODULES):
         for public, owner, it in calls_of(crate):
             if public:
                 for key, definition in it.named().items():
-                    if definition.name not in listed and not (definition.name.endswith("Law") and it.name in listed):
+                    if not words_above(*key[:2]).get(definition.name):
                         place = f"{it.crate}::{owner + '::' if owner else ''}{it.name}"
                         by_name.setdefault(key, (definition, []))[1].append(place)
     return by_name
@@ -399,11 +430,13 @@ def main(words):
             print(f"{title}: {len(found)} definitions, {size(found.values())} lines")
             for (crate, module), definitions in by_module(found):
                 print(f"    {crate} {module}: " + ", ".join(f"{it.name} {len(it.lines)}" for it in definitions))
+    elif words[0] == "--table":
+        table(words[1:])
     elif words == ["--missing"]:
         found = missing()
         for (crate, module, name), (_, places) in sorted(found.items(), key=lambda item: (ORDER[item[0][:2]], item[0])):
             print(f"{crate} {module} {name}: " + ", ".join(dict.fromkeys(places)))
-        print(f"{len(found)} definitions without a line")
+        print(f"{len(found)} definitions without a line in words")
     elif words == ["--check"]:
         if page_text()[1].strip() != markdown().strip():
             sys.exit("docs/DEFINITIONS.md has other lists than docs/believe.py prints: run docs/believe.py --write")

@@ -1,10 +1,10 @@
 #!/bin/sh
-# Writes the rows of what the pages show, README.md, the tutorial and the gallery, at the end of crates/worked_rows/stdin.
+# Writes the rows of what the pages show, README.md, the tutorial and the gallery, into crates/rows/data/pages.txt.
 # And the rows that damage the files of the examples, at the end of crates/fault_rows/stdin.
 #
 #     examples/rows.sh
 #
-# Run it whenever a page or a file that it reads has changed, and write what it says, the numbers of rows, into the two files stdout.
+# Run it whenever a page, a file that it reads or a file of rows has changed: it writes the numbers of rows into the two files stdout.
 # It needs no built program.
 # Taken are the lines `$ re WORDS < FILE` and `$ re WORDS < FILE | re WORDS` of the blocks ```console, also without a file, with `explore` in
 # place of any `re`. Lines with other programs are run by session.sh alone. The exit code follows from the first line of the answer.
@@ -72,19 +72,23 @@ rows_of() {
     ' "$@"
 }
 
-rows=crates/worked_rows/stdin
-made='# == What the pages show: made by examples/rows.sh.'
 written=$(mktemp)
 trap 'rm -f "$written"' EXIT
-awk -v made="$made" '$0 == made { exit } { print }' "$rows" > "$written"
+
+# Says how many rows the files have, and writes it into the stdout of their crate.
+count_rows() {
+    crate=$1
+    shift
+    echo "rows as they should be: $(cat "$@" | grep -c '^[=~!]')" | tee "crates/$crate/stdout"
+}
+
 {
-    echo "$made"
+    echo '# == What the pages show: made by examples/rows.sh.'
     echo
     rows_of README.md docs/TUTORIAL.md docs/TUTORIAL-tables.md
     rows_of examples/gallery/README.md
-} >> "$written"
-cp "$written" "$rows"
-echo "crates/worked_rows/stdout: rows as they should be: $(grep -c '^[=~!]' "$rows")"
+} > crates/rows/data/pages.txt
+count_rows rows $(sed 's|^|crates/rows/data/|' crates/rows/args)
 
 # The files, each with the words that read it, and with how many places apart it is damaged: at each place where it is short.
 # The drawing of a tree is for readers and left out.
@@ -95,7 +99,7 @@ examples_of() {
             if (text ~ /^<== certificate [12] upper/ && text !~ /== step.*== step/) return "check extract"
             if (text ~ /^<== certificate/) return "check"
             if (text ~ /^<== from/) return "relax rename"
-            if (text ~ /<== to/) return ""
+            if (text ~ /<== (to|graph)/) return ""
             if (text ~ /== next/) return "slower"
             if (text ~ /^<== problem/) return "table faster"
             return "read"
@@ -135,4 +139,4 @@ awk -v made="$made" '$0 == made { exit } { print }' "$rows" > "$written"
     examples_of examples
 } >> "$written"
 cp "$written" "$rows"
-echo "crates/fault_rows/stdout: rows as they should be: $(grep -c '^[=~!]' "$rows")"
+count_rows fault_rows "$rows"

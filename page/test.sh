@@ -3,10 +3,11 @@
 #
 #     page/test.sh [PART..]
 #
-# PART is file, program, texts, chains, page, access, damage or large; none: all of them. firefox is a further one, for a machine with
+# PART is file, program, cli, texts, chains, page, access, damage or large; none: all of them. firefox is a further one, for a machine with
 # Debian's firefox-esr. The programs are $RE and $EXPLORE, or those that
 # `page/build.sh` leaves in page/out, or those that `rt run` leaves in crates/re/out and crates/explore/out. PICTURES=folder keeps the pictures of README. DAMAGED and CHAINS are how many
-# certificates are damaged and chains made. PAUSE is the longest pause in ms that `large` lets pass.
+# certificates are damaged and chains made. PAUSE is the longest pause in ms that `large` lets pass. JOBS is how
+# many rows `cli` runs at once, and with EACH=n it and `program` take each n-th row alone.
 set -uo pipefail
 cd "$(dirname "$0")"
 for name in re explore; do
@@ -20,22 +21,20 @@ for tool in node chromium; do
     command -v $tool > /dev/null || { echo "test.sh: Debian's package of $tool is needed" >&2; exit 1; }
 done
 
-[ $# -gt 0 ] || set -- file program texts chains page access damage large
+[ $# -gt 0 ] || set -- file program cli texts chains page access damage large
 passed=0 failed=0
 for part in "$@"; do
-    case $part in
-        file) test=bundle.test.mjs more=() ;;
-        chains) test=chains.test.mjs more=("${CHAINS:-60}") ;;
-        damage) test=damage.test.mjs more=("${DAMAGED:-100}") ;;
-        *) test=$part.test.mjs more=() ;;
-    esac
-    flags=()
-    [ "$part" != firefox ] || flags=(--experimental-websocket)
-    said=$(node "${flags[@]}" "test/$test" "${more[@]}" 2>&1)
-    line=$(grep -E "^$part: [0-9]+ passed, [0-9]+ failed" <<< "$said" | tail -1)
-    if [[ $line =~ ^$part:\ ([0-9]+)\ passed,\ ([0-9]+)\ failed ]]; then
+    test=$part
+    [ "$part" != file ] || test=bundle
+    flags=(--test-reporter=tap)
+    [ "$part" != firefox ] || flags+=(--experimental-websocket)
+    said=$(node "${flags[@]}" "test/$test.test.mjs" 2>&1) || true
+    if [[ $said =~ [$'\n']'# pass '([0-9]+).*'# fail '([0-9]+) ]] && [ $((BASH_REMATCH[1] + BASH_REMATCH[2])) -gt 0 ]; then
         passed=$((passed + BASH_REMATCH[1])) failed=$((failed + BASH_REMATCH[2]))
-        [ "${BASH_REMATCH[2]}" = 0 ] || grep '^FAILED' <<< "$said"
+        line="$part: ${BASH_REMATCH[1]} passed, ${BASH_REMATCH[2]} failed"
+        # What is told of tests that passed, and all of those that failed.
+        [ "${BASH_REMATCH[2]}" = 0 ] || awk '/^ *(not )?ok /{ shown = /not ok/ } shown' <<< "$said"
+        sed -n 's/^# \([^:]* \(rows\|pause\|accepted\|refused\|proof\|input\)\)/'"$part"': \1/p' <<< "$said"
         echo "$line"
     else
         failed=$((failed + 1))

@@ -20,7 +20,8 @@ export class CardList {
 
     rowsOf(card, depth, on) {
         const {cards, facts} = this.workbench, name = this.workbench.nameOf(card), children = cards.children(card.id);
-        const row = this.row(on.has(card.id) ? 'li.on' : 'li', card.id, name, plural(facts.of(card.problem).problem.labels.length, 'label'));
+        const row =
+            this.row(on.has(card.id) ? 'li.on' : 'li', card.id, name, plural(facts.of(card.problem).problem.labels.length, 'label'));
         row.style.paddingLeft = `${6 + depth * 14}px`;
         row.firstChild.title = name;
         if (card.id === cards.current) row.firstChild.setAttribute('aria-current', 'true');
@@ -34,6 +35,8 @@ export class CardList {
     }
 
     row(kind, id, name, size) {
-        return element(kind, {}, element('button.link', {type: 'button', onclick: () => this.workbench.go(id)}, element('span', {}, name), element('small', {}, size)));
+        return element(kind, {},
+            element('button.link', {type: 'button', onclick: () => this.workbench.go(id)}, element('span', {}, name),
+                element('small', {}, size)));
     }
 }

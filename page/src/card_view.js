@@ -5,6 +5,7 @@ import {CLAUSES} from './certificates.js';
 import {blockOf, SIDES} from './problems.js';
 import {cardActions, selectionActions} from './card_actions.js';
 import {DiagramView} from './diagram_view.js';
+import {fitNode} from './given_view.js';
 import {LabelsView} from './labels_view.js';
 import {lineParts, LinesView} from './lines_view.js';
 
@@ -23,11 +24,17 @@ export class CardView {
     build() {
         const {card, facts: {problem}} = this, {engine} = this.workbench, onDraw = () => this.showSelected();
         this.lines = Object.fromEntries(SIDES.map(side => [side, new LinesView(engine, `${side} constraint`, onDraw)]));
-        this.diagrams = Object.fromEntries(SIDES.map(side => [side, new DiagramView(engine, this.facts, side, () => this.fileName, onDraw)]));
+        this.diagrams =
+            Object.fromEntries(SIDES.map(side => [side, new DiagramView(engine, this.facts, side, () => this.fileName, onDraw)]));
         this.labels = new LabelsView(problem.labels, label => this.selected.includes(label), onDraw);
         this.fault = element('div.fault', {role: 'alert', hidden: true});
         this.selection = element('div.selection', {hidden: true, role: 'group', 'aria-label': 'selected labels'});
         this.remarks = element('div.remarks', {'aria-live': 'polite'});
+        this.tried = element('details.written', {hidden: true}, element('summary', {}),
+            element('div.tried', {}, element('table', {}, element('tbody', {}))));
+        this.actions = element('div.actions', {});
+        this.fit = element('div', {hidden: true});
+        this.catalogue = element('div', {hidden: true});
         this.branches = element('div.branches', {});
         this.comment = element('p.comment', {hidden: true});
         this.back = element('p.back', {hidden: true});
@@ -35,8 +42,9 @@ export class CardView {
             element('summary', {}, 'The step as the certificate has it'), element('div.parts', {}));
         const constraints = element('div.constraints', {}, SIDES.map(side => this.constraint(side)));
         const pictures = element('div.diagrams', {}, SIDES.map(side => this.diagrams[side].node));
-        const body = element('div.body', {}, this.comment, element('div.problem', {}, constraints, pictures),
-            this.labels.node, this.written, this.back, this.selection, cardActions(this.workbench, card, this), this.remarks);
+        const body = element('div.body', {}, this.comment, element('div.problem', {}, constraints, pictures), this.labels.node,
+            this.catalogue, this.fit, this.written, this.back, this.selection, this.actions, this.remarks, this.tried);
+        this.workbench.tries.show(this);
         this.node = element('article.card', {tabIndex: -1, id: `card-${card.id}`}, this.head(), this.fault, body, this.branches);
     }
 
@@ -45,17 +53,20 @@ export class CardView {
         this.number = element('span.number', {});
         this.title = element('h3.title', {});
         this.zero = element('span.badge.waiting', {}, '0 rounds: …');
+        this.zeroGiven = element('span.badge.waiting', {hidden: true});
         this.toggle = button('', () => this.open(!this.isOpen), {class: 'toggle', 'aria-label': 'open or close the card'});
-        return element('header', {}, this.toggle, this.number, this.title, element('span.badges', {},
-            element('span.badge', {title: 'degrees: active, passive'}, `degrees ${problem.active.degree}, ${problem.passive.degree}`),
-            element('span.badge', {}, plural(problem.labels.length, 'label')), this.zero));
+        return element('header', {}, this.toggle, this.number, this.title,
+            element('span.badges', {},
+                element('span.badge', {title: 'degrees: active, passive'}, `degrees ${problem.active.degree}, ${problem.passive.degree}`),
+                element('span.badge', {}, plural(problem.labels.length, 'label')), this.zero, this.zeroGiven));
     }
 
     constraint(side) {
         const {degree, count} = this.facts.problem[side];
         return element('section', {'aria-label': `${side} constraint`},
             element('h4', {}, side === 'active' ? 'Active' : 'Passive',
-                element('small', {}, ` degree ${degree}, ${plural(count, 'configuration')}`)), this.lines[side].node);
+                element('small', {}, ` degree ${degree}, ${plural(count, 'configuration')}`)),
+            this.lines[side].node);
     }
 
     get fileName() { return `problem-${this.number.textContent.replace(/′/g, '-')}`; }
@@ -63,13 +74,18 @@ export class CardView {
     listen() {
         this.node.addEventListener('click', event => {
             const edge = event.target.closest?.('.edge');
-            if (edge) { this.select([edge.dataset.weak, edge.dataset.strong]); return; }
+            if (edge) {
+                this.select([edge.dataset.weak, edge.dataset.strong]);
+                return;
+            }
             const label = labelAt(event);
             if (label && !event.target.closest('.selection, .remarks') && getSelection().isCollapsed) this.pick(label);
         });
         this.node.addEventListener('pointerover', event => this.point(labelAt(event), event.target));
         this.node.addEventListener('pointerleave', () => this.point(null));
-        this.node.addEventListener('focusin', event => { if (event.target.matches(':focus-visible')) this.point(labelAt(event), event.target); });
+        this.node.addEventListener('focusin', event => {
+            if (event.target.matches(':focus-visible')) this.point(labelAt(event), event.target);
+        });
         this.node.addEventListener('focusout', () => this.point(null));
     }
 
@@ -80,16 +96,15 @@ export class CardView {
         if (label === this.marked) return;
         this.marked = label;
         for (const node of this.node.querySelectorAll('.marked')) node.classList.remove('marked');
-        if (label) for (const node of this.placesOf(label)) node.classList.add('marked');
+        if (label)
+            for (const node of this.placesOf(label)) node.classList.add('marked');
     }
 
     placesOf(label) { return this.node.querySelectorAll(`[data-label="${CSS.escape(label)}"]`); }
 
     // ---- Selected labels.
 
-    pick(label) {
-        this.select(this.selected.includes(label) ? this.selected.filter(other => other !== label) : [...this.selected, label]);
-    }
+    pick(label) { this.select(this.selected.includes(label) ? this.selected.filter(other => other !== label) : [...this.selected, label]); }
 
     select(labels) {
         this.selected = labels;
@@ -101,8 +116,10 @@ export class CardView {
     showSelected() {
         const {selected} = this;
         for (const node of this.node.querySelectorAll('.picked')) node.classList.remove('picked');
-        for (const label of selected) for (const node of this.placesOf(label)) node.classList.add('picked');
-        for (const chip of this.labels.node.querySelectorAll('.chip')) chip.setAttribute('aria-pressed', String(selected.includes(chip.getAttribute('data-label'))));
+        for (const label of selected)
+            for (const node of this.placesOf(label)) node.classList.add('picked');
+        for (const chip of this.labels.node.querySelectorAll('.chip'))
+            chip.setAttribute('aria-pressed', String(selected.includes(chip.getAttribute('data-label'))));
     }
 
     isStronger(side, weak, strong) { return this.diagrams[side].isStronger(weak, strong); }
@@ -116,14 +133,17 @@ export class CardView {
         this.workbench.watch(this);
     }
 
+    // Answers when all of it is there.
     comeNear() {
-        this.fillZero();
-        if (!this.isOpen || this.isFilled) return;
+        this.isNear = true;
+        const badges = [this.fillZero(), this.fillGiven()];
+        if (!this.isOpen || this.isFilled) return this.filled;
         this.isFilled = true;
         this.node.classList.add('filled');
         this.labels.draw();
-        this.fillLines();
-        for (const side of SIDES) this.diagrams[side].fill();
+        replace(this.actions, cardActions(this.workbench, this.card, this));
+        this.filled = Promise.all([...badges, this.fillLines(), this.fillCatalogue(), ...SIDES.map(side => this.diagrams[side].fill())]);
+        return this.filled;
     }
 
     async fillZero() {
@@ -133,8 +153,36 @@ export class CardView {
             const {isSolvable, config} = await this.facts.zero();
             this.zero.className = `badge ${isSolvable ? 'yes' : 'no'}`;
             replace(this.zero, isSolvable ? ['0 rounds: yes, ', code(...lineParts(config))] : '0 rounds: no');
-            this.zero.title = isSolvable ? 'solvable without communication: each active node outputs this configuration' : 'not solvable without communication';
+            this.zero.title =
+                isSolvable ? 'solvable without communication: each active node outputs this' : 'not solvable without communication';
         } catch (error) { this.zero.textContent = `0 rounds: ${error.message}`; }
+    }
+
+    // Whether it is solvable in 0 rounds given the input of the chain, with the labels that each input label becomes.
+    async fillGiven() {
+        const {path, card, workbench: {given}} = this, input = given.of(path),
+                                      key = input && `${path.slice(0, this.at + 1).filter(isStep).length % 2} ${input.problem}`;
+        if (!this.isNear || key === this.fitKey) return;
+        this.fitKey = key;
+        this.zeroGiven.hidden = !input;
+        this.fit.hidden = true;
+        if (!input) return;
+        this.zeroGiven.className = 'badge waiting';
+        replace(this.zeroGiven, '0 rounds given: …');
+        const {isSolvable, map, line} =
+            await given.fit(path, card).catch(error => ({line: error.message, map: []})) || {line: 'not asked', map: []};
+        if (key !== this.fitKey) return;
+        this.zeroGiven.className = isSolvable ? 'badge yes' : 'badge no';
+        replace(this.zeroGiven, `0 rounds given: ${isSolvable ? 'yes' : line}`);
+        this.zeroGiven.title = 'explore fit: whether it is solvable without communication given the input of the chain';
+        this.fit.hidden = !map.length;
+        if (map.length) replace(this.fit, fitNode(map));
+    }
+
+    async fillCatalogue() {
+        const node = await this.workbench.catalogue.node(this.card, this).catch(() => null);
+        this.catalogue.hidden = !node;
+        replace(this.catalogue, node);
     }
 
     async fillLines() {
@@ -153,11 +201,18 @@ export class CardView {
     // Rows and map of the step that leads to this card, out of the certificate that was judged.
     async fillWritten() {
         if (!this.written.open) return;
-        const {engine, claim} = this.workbench, {verdict} = claim, number = stagesOf(this.path).findIndex(stage => stage.includes(this.card));
-        const step = verdict?.certificate ? await engine.work('stepLines', verdict.certificate, number, MOST_WRITTEN_LINES).catch(() => null) : null;
+        const {engine, claim} = this.workbench, {verdict} = claim,
+                       number = stagesOf(this.path).findIndex(stage => stage.includes(this.card));
+        const step =
+            verdict?.certificate ? await engine.work('stepLines', verdict.certificate, number, MOST_WRITTEN_LINES).catch(() => null) : null;
         if (verdict !== claim.verdict) return;
-        const part = ({count, lines}, title) => count ? element('div', {}, element('h4', {}, title), element('pre', {tabIndex: 0}, lines.join('\n') + (count > lines.length ? '\n…' : ''))) : null;
-        replace(this.written.lastChild, step ? [part(step.rows, plural(step.rows.count, 'row')), part(step.map, `${plural(step.map.count, 'line')} of the map`)] : hint('Not judged yet.'));
+        const part = ({count, lines}, title) => count
+            ? element('div', {}, element('h4', {}, title),
+                  element('pre', {tabIndex: 0}, lines.join('\n') + (count > lines.length ? '\n…' : '')))
+            : null;
+        replace(this.written.lastChild,
+            step ? [part(step.rows, plural(step.rows.count, 'row')), part(step.map, `${plural(step.map.count, 'line')} of the map`)]
+                 : hint('Not judged yet.'));
     }
 
     // ---- Where the card stands: its path, and what comes behind it.
@@ -187,6 +242,7 @@ export class CardView {
         this.comment.textContent = card.note || '';
         this.refuse(null);
         this.showBranches(isLast);
+        this.fillGiven();
     }
 
     // The card that a refused verdict names; answers the place for more words on why.
@@ -209,7 +265,8 @@ export class CardView {
     // ---- Notes below the problem.
 
     note(...content) {
-        const note = element('div.note', {}, ...content, button('×', () => note.remove(), {class: 'quiet close', 'aria-label': 'close the note'}));
+        const note =
+            element('div.note', {}, ...content, button('×', () => note.remove(), {class: 'quiet close', 'aria-label': 'close the note'}));
         this.remarks.prepend(note);
         return note;
     }
@@ -219,5 +276,8 @@ export class CardView {
             element('pre', {tabIndex: 0}, text.trim() || '(none)'), ...more);
     }
 
-    complain(text) { this.note(faulty(text)); say(text, true); }
+    complain(text) {
+        this.note(faulty(text));
+        say(text, true);
+    }
 }

@@ -92,13 +92,16 @@ export class Cards {
         this.change(() => {
             const {parent} = this.get(id), gone = new Set([id]);
             // Cards stand behind their parents in the list.
-            for (const card of this.cards) if (gone.has(card.parent)) gone.add(card.id);
+            for (const card of this.cards)
+                if (gone.has(card.parent)) gone.add(card.id);
             this.cards = this.cards.filter(card => !gone.has(card.id));
             if (gone.has(this.current)) this.current = parent ?? this.cards.at(-1)?.id ?? null;
         });
     }
 
     amend(id, values) {
-        this.change(() => { this.cards = this.cards.map(card => card.id === id ? {...card, ...values} : card); });
+        this.change(() => {
+            this.cards = this.cards.map(card => card.id === id ? {...card, ...values} : card);
+        });
     }
 }

@@ -20,8 +20,14 @@ const filled = section => section.lines.map(line => line.trim()).filter(Boolean)
 // {version, kind, back, first, steps: [{problem, rows, map}], pairs}, of a text in which `re check` finds no fault.
 export function readCertificate(text) {
     const sections = sectionsOf(text), [head] = sections;
-    const bound = {version: Number(head.rest[0]), kind: head.rest[1], back: head.rest[2] === undefined ? null : Number(head.rest[2]),
-        first: head.lines.join('\n'), steps: [], pairs: []};
+    const bound = {
+        version: Number(head.rest[0]),
+        kind: head.rest[1],
+        back: head.rest[2] === undefined ? null : Number(head.rest[2]),
+        first: head.lines.join('\n'),
+        steps: [],
+        pairs: []
+    };
     for (const section of sections.slice(1)) {
         if (section.word === 'step') bound.steps.push({problem: section.lines.join('\n'), rows: [], map: []});
         if (section.word === 'rows') bound.steps.at(-1).rows = filled(section);
@@ -67,15 +73,24 @@ export function imagesOf({rows, entries}) {
 }
 
 // The entries of the map of a lower step by sets: [set, label]; of an upper step: [label, set].
-export const lowerEntries = lines => lines.map(line => { const [set, label] = itemsOf(line) || []; return [set?.labels || [], label?.labels[0] || '?']; });
-export const upperEntries = lines => lines.map(line => { const [label, set] = itemsOf(line) || []; return [label?.labels[0] || '?', set?.labels || []]; });
+export const lowerEntries = lines => lines.map(line => {
+    const [set, label] = itemsOf(line) || [];
+    return [set?.labels || [], label?.labels[0] || '?'];
+});
+export const upperEntries = lines => lines.map(line => {
+    const [label, set] = itemsOf(line) || [];
+    return [label?.labels[0] || '?', set?.labels || []];
+});
 export const imageLines = lines => lines.map(line => labelsIn(line));
 
 // What `re step 1` prints: the meanings of the labels, and the derived problem.
 export function readStep(text) {
     // Without maximal rows there are no labels, and the text begins with the empty line.
     const end = text.startsWith('\n') ? -1 : text.indexOf('\n\n');
-    const meanings = end < 0 ? [] : filledLines(text.slice(0, end)).map(line => { const [label, set] = line.split(' = '); return [labelsIn(label)[0], labelsIn(set)]; });
+    const meanings = end < 0 ? [] : filledLines(text.slice(0, end)).map(line => {
+        const [label, set] = line.split(' = ');
+        return [labelsIn(label)[0], labelsIn(set)];
+    });
     return {meanings, problem: text.slice(end < 0 ? 1 : end + 2)};
 }
 
@@ -94,15 +109,24 @@ export const CLAUSES = {
     U3: 'the sets of each active configuration of the next problem are a good row of the passive constraint before: every choice from them is passive',
     U4: 'from the sets of each passive configuration of the next problem some choice is active before',
     END: 'the last problem has no zero-round fit, or in an upper bound it has one',
-    BACK: 'the first labels of the renaming are exactly those of the last problem, each once and ascending; it is one to one, and makes the last problem the one to which it goes back',
+    BACK:
+        'the first labels of the renaming are exactly those of the last problem, each once and ascending; it is one to one, and makes the last problem the one to which it goes back',
 };
 
 // The line of `check`: {line, accepted, refused, step, clause}.
 export function readVerdict(text) {
     const refused = /^refused: (?:step (\d+), )?clause (\w+)/.exec(text);
-    return {line: text.trim(), accepted: text.startsWith('accepted: '), refused: Boolean(refused),
-        step: refused?.[1] ? Number(refused[1]) : null, clause: refused?.[2] || null};
+    return {
+        line: text.trim(),
+        accepted: text.startsWith('accepted: '),
+        refused: Boolean(refused),
+        step: refused?.[1] ? Number(refused[1]) : null,
+        clause: refused?.[2] || null
+    };
 }
 
 // The number of the line that a fault `input: line l: ..` names, or null.
-export const faultLine = text => { const found = /^(?:input|limit): line (\d+)/.exec(text); return found ? Number(found[1]) : null; };
+export const faultLine = text => {
+    const found = /^(?:input|limit): line (\d+)/.exec(text);
+    return found ? Number(found[1]) : null;
+};

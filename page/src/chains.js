@@ -21,8 +21,17 @@ export function numberOf(path, card) {
     return at + (place > 3 ? `′${place}` : '′'.repeat(place));
 }
 
+const LONGEST_NAME = 48;
+
+// The first line of a problem, as its author wrote it, cut where it is long.
+function firstLineOf({written, problem}) {
+    const line = written?.active[0] ?? problem.slice(0, problem.indexOf('\n'));
+    return line.length > LONGEST_NAME ? `${line.slice(0, LONGEST_NAME)}…` : line;
+}
+
+// A first problem has the name that it was given, else its first line.
 export function titleOf(card) {
-    if (card.kind === 'first') return card.title || 'first problem';
+    if (card.kind === 'first') return card.title || firstLineOf(card);
     if (card.kind === 'step') return 'derived problem';
     if (card.kind === 'given') return `${card.side} step${card.isByRows ? ' by rows' : ''}${card.title ? `, ${card.title}` : ''}`;
     return card.title || 'changed problem';
@@ -30,10 +39,9 @@ export function titleOf(card) {
 
 // The kinds of bounds that a chain can be written as.
 export function kindsOf(path) {
-    const serves = kind => path.every(card =>
-        card.kind === 'first' && (!card.side || card.side === kind) || card.kind === 'step'
-        || card.kind === 'given' && card.side === kind
-        || card.kind === 'change' && (kind === 'lower' ? card.relax || card.images : card.restrict));
+    const serves = kind => path.every(card => card.kind === 'first' && (!card.side || card.side === kind) || card.kind === 'step' ||
+            card.kind === 'given' && card.side === kind ||
+            card.kind === 'change' && (kind === 'lower' ? card.relax || card.images : card.restrict));
     return ['lower', 'upper'].filter(serves);
 }
 
@@ -80,8 +88,12 @@ export function upperStep([base, ...changes]) {
 export function certificateOf(path, kind, written) {
     const stages = stagesOf(path), last = stages.map(stage => stage.at(-1)), {back} = path.at(-1);
     return writeCertificate({
-        kind, back: back?.number, pairs: back?.pairs, first: written(last[0]),
-        steps: stages.slice(1).map((stage, i) => ({problem: written(last[i + 1]), ...(kind === 'upper' ? upperStep(stage) : lowerStep(stage))})),
+        kind,
+        back: back?.number,
+        pairs: back?.pairs,
+        first: written(last[0]),
+        steps: stages.slice(1).map(
+            (stage, i) => ({problem: written(last[i + 1]), ...(kind === 'upper' ? upperStep(stage) : lowerStep(stage))})),
     });
 }
 
@@ -96,10 +108,12 @@ function setsBefore(card, labels) {
     let pairs;
     if (card.kind === 'step') pairs = card.meanings;
     else if (card.side === 'upper') pairs = upperEntries(card.map);
-    else if (card.isByRows) pairs = imageLines(card.map).flatMap((image, i) => image.map((to, place) => [to, placesOf(card.rows[i] || '')[place] || []]));
+    else if (card.isByRows)
+        pairs = imageLines(card.map).flatMap((image, i) => image.map((to, place) => [to, placesOf(card.rows[i] || '')[place] || []]));
     else pairs = lowerEntries(card.map).map(([set, to]) => [to, set]);
     const sets = new Map();
-    for (const [to, set] of pairs) if (labels.includes(to)) sets.set(setKey(set), set);
+    for (const [to, set] of pairs)
+        if (labels.includes(to)) sets.set(setKey(set), set);
     return [...sets.values()];
 }
 

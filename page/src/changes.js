@@ -24,26 +24,37 @@ export class Changes {
     async canonical(view, text, title) {
         const answer = text && await this.workbench.ask(view, ['read'], text, title);
         if (!answer) return null;
-        if (answer.status !== 0) { view.complain(answer.text.trim()); return null; }
+        if (answer.status !== 0) {
+            view.complain(answer.text.trim());
+            return null;
+        }
         return answer.text;
     }
 
     // Asked again while they run, these make one card.
     step(card, view) { return this.once(view, 'step', () => this.takeStep(card, view)); }
     merge(card, view, labels, to) { return this.once(view, `merge ${labels} ${to}`, () => this.makeMerge(card, view, labels, to)); }
-    addArrow(card, view, side, weak, strong) { return this.once(view, `arrow ${side} ${weak} ${strong}`, () => this.makeArrow(card, view, side, weak, strong)); }
+    addArrow(card, view, side, weak, strong) {
+        return this.once(view, `arrow ${side} ${weak} ${strong}`, () => this.makeArrow(card, view, side, weak, strong));
+    }
     leaveOut(card, view, labels) { return this.once(view, `leave out ${labels}`, () => this.makeWithout(card, view, labels)); }
-    mergeEqual(card, view) { return this.once(view, 'merge equal', () => this.simplify(card, view, 'merge', 'equal labels merged', 'no two labels are equally strong on both sides')); }
+    mergeEqual(card, view) {
+        return this.once(view, 'merge equal',
+            () => this.simplify(card, view, 'merge', 'equal labels merged', 'no two labels are equally strong on both sides'));
+    }
     trim(card, view) { return this.once(view, 'trim', () => this.simplify(card, view, 'trim', 'trimmed', 'no label covers another one')); }
 
     async once(view, what, run) {
         if (view.running.has(what)) return;
         view.running.add(what);
-        try { await run(); } finally { view.running.delete(what); }
+        try {
+            await run();
+        } finally { view.running.delete(what); }
     }
 
     async takeStep(card, view) {
-        const {workbench} = this, answer = await workbench.ask(view, ['step', '1'], card.problem, `step of problem ${view.number.textContent}`);
+        const {workbench} = this,
+              answer = await workbench.ask(view, ['step', '1'], card.problem, `step of problem ${view.number.textContent}`);
         if (!answer) return;
         const {meanings, problem} = answer.status === 0 ? readStep(answer.text) : {problem: ''};
         if (answer.status !== 0 || problem.length > MOST_BYTES) {
@@ -53,7 +64,10 @@ export class Changes {
         }
         const rows = await workbench.ask(view, ['universal'], card.problem, 'universal rows');
         if (!rows) return;
-        if (rows.status !== 0) { view.complain(rows.text.trim()); return; }
+        if (rows.status !== 0) {
+            view.complain(rows.text.trim());
+            return;
+        }
         await workbench.append(card, {kind: 'step', problem, meanings, rows: filledLines(rows.text)});
     }
 
@@ -70,9 +84,13 @@ export class Changes {
     async relaxTo(card, problem, pairs, title, written) {
         const {workbench} = this, view = workbench.view(card);
         const textOf = (text, lines) => lines ? problemText(view.facts.problem, blockOf(lines.active), blockOf(lines.passive)) : text;
-        const answer = await workbench.ask(view, ['relax'], mapInput(textOf(card.problem, card.written), textOf(problem, written), pairLines(pairs)), title);
+        const answer = await workbench.ask(
+            view, ['relax'], mapInput(textOf(card.problem, card.written), textOf(problem, written), pairLines(pairs)), title);
         if (!answer) return null;
-        if (answer.text.trim() !== 'yes') { view.complain(`re relax: ${answer.text.trim()}`); return null; }
+        if (answer.text.trim() !== 'yes') {
+            view.complain(`re relax: ${answer.text.trim()}`);
+            return null;
+        }
         return workbench.append(card, {kind: 'change', title, problem, relax: Object.fromEntries(pairs), written});
     }
 
@@ -81,15 +99,38 @@ export class Changes {
         const title = `merged ${labels.filter(label => label !== to).join(', ')} into ${to}`;
         // A large problem is merged as it was written.
         const written = view.facts.isLarge && card.written ? mappedLines(card.written, pairs) : undefined;
-        const made = written ? problemText(view.facts.problem, blockOf(written.active), blockOf(written.passive))
-            : await this.workbench.work(view, title, 'mapped', card.problem, pairs);
+        const byLines = () => problemText(view.facts.problem, blockOf(written.active), blockOf(written.passive));
+        const made = written ? byLines() : await this.workbench.work(view, title, 'mapped', card.problem, pairs);
         const text = await this.canonical(view, made, title);
         if (text) await this.relaxTo(card, text, pairs, title, written);
     }
 
+    // Whether `explore merge` takes a chain without steps, asked on a small problem.
+    async canMergeFirst() {
+        const {engine, words} = this.workbench;
+        return words.has('merge') &&
+            (await engine.ask('explore', ['merge', 'A', 'B'], 'A B\n\nA B\n', {quiet: true})).text.startsWith('==');
+    }
+
+    // A merge in the first problem, with the step behind it.
+    mergeFirst(card, view, from, to) {
+        const {searches} = this.workbench, what = `merge ${from} ${to}`;
+        return this.once(view, what, () => searches.inTask(card, view, what, async task => {
+            const answer = await task.ask('explore', ['merge', from, to], card.problem);
+            await searches.tried(view, task, what, answer);
+            if (!answer.text.startsWith('==')) return null;
+            return {
+                what,
+                certificate: answer.text,
+                cards: await searches.cardsOf(answer.text, {title: `${from} merged into ${to} before it`})
+            };
+        }));
+    }
+
     async makeArrow(card, view, side, weak, strong) {
         const title = `${side}: ${strong} may replace ${weak}`;
-        const text = await this.canonical(view, await this.workbench.work(view, title, 'withArrow', card.problem, side, weak, strong), title);
+        const text =
+            await this.canonical(view, await this.workbench.work(view, title, 'withArrow', card.problem, side, weak, strong), title);
         if (text) await this.relaxTo(card, text, view.facts.problem.labels.map(label => [label, label]), title);
     }
 
@@ -107,8 +148,14 @@ export class Changes {
     async simplify(card, view, word, title, nothing) {
         const {workbench} = this, answer = await workbench.ask(view, [word], card.problem);
         if (!answer) return;
-        if (answer.status !== 0) { view.complain(answer.text.trim()); return; }
-        if (answer.text === card.problem) { view.note(hint(`re ${word}: ${nothing}.`)); return; }
+        if (answer.status !== 0) {
+            view.complain(answer.text.trim());
+            return;
+        }
+        if (answer.text === card.problem) {
+            view.note(hint(`re ${word}: ${nothing}.`));
+            return;
+        }
         await Promise.all(SIDES.map(side => view.diagrams[side].learn()));
         const {labels} = view.facts.problem, left = (await workbench.facts.learn(answer.text)).problem.labels;
         const covers = (label, by) => SIDES.every(side => view.isStronger(side, label, by));
@@ -128,9 +175,17 @@ export class Changes {
         if (!text) return;
         const answer = await workbench.ask(view, ['rename'], mapInput(card.problem, text, pairLines(pairs)));
         if (!answer) return;
-        if (answer.text.trim() !== 'yes') { view.complain(`re rename: ${answer.text.trim()}`); return; }
+        if (answer.text.trim() !== 'yes') {
+            view.complain(`re rename: ${answer.text.trim()}`);
+            return;
+        }
         const moved = pairs.filter(([from, to]) => from !== to).map(pair => pair.join('→'));
-        await workbench.append(card, {kind: 'change', title: `renamed ${moved.slice(0, 5).join(' ')}${moved.length > 5 ? ' …' : ''}`, problem: text,
-            relax: Object.fromEntries(pairs), restrict: Object.fromEntries(pairs.map(([from, to]) => [to, [from]]))});
+        await workbench.append(card, {
+            kind: 'change',
+            title: `renamed ${moved.slice(0, 5).join(' ')}${moved.length > 5 ? ' …' : ''}`,
+            problem: text,
+            relax: Object.fromEntries(pairs),
+            restrict: Object.fromEntries(pairs.map(([from, to]) => [to, [from]]))
+        });
     }
 }

@@ -2,7 +2,8 @@
 import {button, code, download, element, hint, plural, replace} from './dom.js';
 import {drawDiagram, pictureFile, sizedNodes} from './pictures.js';
 
-const MOST_DRAWN = 60;
+// Pictures of more classes are drawn where they are asked for.
+const MOST_DRAWN = 20;
 
 export class DiagramView {
     // `name()` is that of a file, `onDraw()` is told when labels were drawn.
@@ -18,7 +19,9 @@ export class DiagramView {
 
     async fill() {
         if (!this.facts.isLarge) await this.ask();
-        else replace(this.content, button('Ask for the diagram', () => this.ask(), {title: 'the problem has many configurations, so this takes a while'}));
+        else
+            replace(this.content,
+                button('Ask for the diagram', () => this.ask(), {title: 'the problem has many configurations, so this takes a while'}));
     }
 
     async ask() {
@@ -37,7 +40,8 @@ export class DiagramView {
         for (const [weak, strong] of edges) next.get(weak).push(strong);
         for (const labels of classes) {
             const reached = new Set([labels[0]]);
-            for (const at of reached) for (const up of next.get(at)) reached.add(up);
+            for (const at of reached)
+                for (const up of next.get(at)) reached.add(up);
             const all = new Set([...reached].flatMap(at => classOf.get(at)));
             for (const label of labels) this.above.set(label, all);
         }
@@ -61,7 +65,8 @@ export class DiagramView {
     async draw({classes, edges}) {
         const {tied, free} = sizedNodes(classes, edges);
         const placed = await this.engine.work('layout', tied, edges);
-        const title = `${this.side} diagram: ${classes.map(labels => labels.join(' ')).join('; ')}; ${edges.map(edge => edge.join(' to ')).join('; ') || 'no arrows'}`;
+        const title = `${this.side} diagram: ${classes.map(labels => labels.join(' ')).join('; ')}; ${
+            edges.map(edge => edge.join(' to ')).join('; ') || 'no arrows'}`;
         const picture = drawDiagram(placed, free, title);
         replace(this.content, picture);
         this.content.tabIndex = 0;
@@ -69,7 +74,8 @@ export class DiagramView {
         this.content.setAttribute('aria-label', `${this.side} diagram, a picture`);
         const save = () => download(`${this.name()}-${this.side}.svg`, pictureFile(picture), 'image/svg+xml');
         replace(this.caption, `${this.side} diagram`,
-            button('SVG', save, {class: 'link save', title: 'download the picture', 'aria-label': `download the ${this.side} diagram as SVG`}));
+            button('SVG', save,
+                {class: 'link save', title: 'download the picture', 'aria-label': `download the ${this.side} diagram as SVG`}));
         this.onDraw();
     }
 }

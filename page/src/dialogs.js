@@ -9,9 +9,13 @@ const LARGEST_FILE = 64000000;
 
 export function openDialog(title, ...content) {
     const dialog = element('dialog', {'aria-label': title},
-        element('header', {}, element('h2', {}, title), button('×', () => dialog.close(), {class: 'quiet close', 'aria-label': 'close'})), ...content);
+        element('header', {}, element('h2', {}, title), button('×', () => dialog.close(), {class: 'quiet close', 'aria-label': 'close'})),
+        ...content);
     // Messages are seen above the dialog that is open.
-    dialog.addEventListener('close', () => { document.body.append($('#message')); dialog.remove(); });
+    dialog.addEventListener('close', () => {
+        document.body.append($('#message'));
+        dialog.remove();
+    });
     document.body.append(dialog);
     dialog.showModal();
     dialog.append($('#message'));
@@ -29,53 +33,99 @@ export const openHelpDialog = () => openWideDialog('Help', $('#help').content.cl
 export function openNoteDialog(note, onKeep) {
     const area = element('textarea', {rows: 5, 'aria-label': 'note'});
     area.value = note || '';
-    const keep = () => { dialog.close(); onKeep(area.value.trim()); };
+    const keep = () => {
+        dialog.close();
+        onKeep(area.value.trim());
+    };
     const dialog = openDialog('Note on the card', area, element('footer', {}, button('Keep', keep, {class: 'primary'})));
 }
 
+// The name of a problem; none: its first line.
+export function openNameDialog(name, onKeep) {
+    const field = element('input', {type: 'text', value: name, maxLength: 80, 'aria-label': 'name'});
+    const keep = event => {
+        event.preventDefault();
+        dialog.close();
+        onKeep(field.value.trim());
+    };
+    const dialog = openDialog('Name of the problem',
+        element('form', {onsubmit: keep}, field, element('footer', {}, element('button.primary', {type: 'submit'}, 'Keep'))));
+    field.select();
+}
+
 export function openCertificateDialog(verdict, bench) {
-    if (!verdict?.certificate) { say(verdict ? 'This chain is neither a lower nor an upper bound.' : 'There is no certificate yet.'); return; }
-    const {certificate, line, accepted, kind} = verdict, file = kind === 'fixed' ? 'fixed-point' : `${kind}-bound`, isLong = certificate.length > MOST_SHOWN_OF_CERTIFICATE;
+    if (!verdict?.certificate) {
+        say(verdict ? 'This chain is neither a lower nor an upper bound.' : 'There is no certificate yet.');
+        return;
+    }
+    const {certificate, line, accepted, kind} = verdict, file = kind === 'fixed' ? 'fixed-point' : `${kind}-bound`,
+                                        isLong = certificate.length > MOST_SHOWN_OF_CERTIFICATE;
     const text = element('textarea.code', {readOnly: true, rows: 20, 'aria-label': 'certificate'});
     text.value = cut(certificate, MOST_SHOWN_OF_CERTIFICATE);
     const dialog = openDialog('Certificate',
         element('p', {}, element('span', {class: accepted ? 'good line' : 'faulty line'}, line),
             hint(` is what re check prints of this text, here and on the command line: re check < ${file}.txt`)),
-        text, isLong ? element('p', {}, hint(`The first ${MOST_SHOWN_OF_CERTIFICATE.toLocaleString('en')} of ${plural(certificate.length, 'character')}; Copy and Download give all.`)) : null,
+        text,
+        isLong ? element('p', {},
+                     hint(`The first ${MOST_SHOWN_OF_CERTIFICATE.toLocaleString('en')} of ${
+                         plural(certificate.length, 'character')}; Copy and Download give all.`))
+               : null,
         element('footer', {}, button('Copy', event => copy(certificate, event.currentTarget), {class: 'primary', autofocus: true}),
-            button('Download', () => download(`${file}.txt`, certificate)),
-            button('Change it', () => { dialog.close(); openTextDialog(bench, certificate); }, {title: 'edit the text and open it as a new chain'})));
+            button('Download', () => download(`${file}.txt`, certificate)), button('Change it', () => {
+                dialog.close();
+                openTextDialog(bench, certificate);
+            }, {title: 'edit the text and open it as a new chain'})));
 }
 
 // A certificate, a problem or a session, pasted or from a file: {dialog, open}.
 export function openTextDialog(bench, text = '') {
     // A text that is too long to be shown is held beside the area.
-    let held = null;
+    let held = null, name;
     const state = element('div.state', {role: 'status'});
     const hold = large => {
         held = large;
         area.value = '';
-        const letGo = () => { held = null; replace(state); area.text.focus(); };
-        replace(state, hint(`${plural(large.length, 'character')} are held, too many to be shown. `), button('Let them go', letGo, {class: 'link'}));
+        const letGo = () => {
+            held = null;
+            replace(state);
+            area.text.focus();
+        };
+        replace(state, hint(`${plural(large.length, 'character')} are held, too many to be shown. `),
+            button('Let them go', letGo, {class: 'link'}));
     };
     const placeholder = '== certificate 1 lower\n…\n\nA certificate, a problem, or a saved session.';
     const area = new NumberedArea({label: 'text to open', placeholder, fewest: 18, most: 18, onLarge: hold});
-    const set = given => { if (given.length > LONGEST_SHOWN) hold(given); else { held = null; area.value = given; } };
+    const set = given => {
+        if (given.length > LONGEST_SHOWN) hold(given);
+        else {
+            held = null;
+            area.value = given;
+        }
+    };
     const open = async () => {
-        const isHeld = held !== null, fault = await bench.sessions.openText(isHeld ? held : area.value);
-        if (!fault) { dialog.close(); return; }
+        const isHeld = held !== null, fault = await bench.sessions.openText(isHeld ? held : area.value, name);
+        if (!fault) {
+            dialog.close();
+            return;
+        }
         if (!isHeld) area.number(fault.line || 0);
         replace(state, faulty(fault.fault));
     };
     const take = async file => {
         if (!file) return;
-        if (file.size > LARGEST_FILE) { replace(state, faulty(`${file.name} is larger than any text of this page.`)); return; }
+        if (file.size > LARGEST_FILE) {
+            replace(state, faulty(`${file.name} is larger than any text of this page.`));
+            return;
+        }
         set(await file.text());
+        name = file.name.replace(/\.[A-Za-z0-9]+$/, '');
         await open();
+        name = undefined;
     };
     const file = element('input', {type: 'file', 'aria-label': 'file', onchange: () => take(file.files[0])});
     const dialog = openWideDialog('Open', element('div.tall', {}, area.node), state,
-        element('footer', {}, button('Open', open, {class: 'primary'}), file, hint('Certificates are checked and shown as a chain of cards.')));
+        element(
+            'footer', {}, button('Open', open, {class: 'primary'}), file, hint('Certificates are checked and shown as a chain of cards.')));
     set(text);
     area.text.focus();
     return {dialog, open, take};

@@ -65,10 +65,14 @@ export function say(text, isFault = false) {
     box.textContent = text;
     box.className = isFault ? 'shown fault' : 'shown';
     clearTimeout(messageTimer);
-    messageTimer = setTimeout(() => { box.className = ''; }, isFault ? 8000 : 3000);
+    messageTimer = setTimeout(() => {
+        box.className = '';
+    }, isFault ? 8000 : 3000);
 }
 
 const withCommas = new Intl.NumberFormat('en');
 export const plural = (n, one, many = one + 's') => `${withCommas.format(n)} ${n === 1 ? one : many}`;
-export const seconds = ms => ms < 10000 ? `${(ms / 1000).toFixed(1)} s` : ms < 60000 ? `${Math.round(ms / 1000)} s` : `${Math.floor(ms / 60000)} min ${Math.round(ms / 1000) % 60} s`;
+export const seconds = ms => ms < 10000 ? `${(ms / 1000).toFixed(1)} s`
+    : ms < 60000 ? `${Math.round(ms / 1000)} s`
+                 : `${Math.floor(ms / 60000)} min ${Math.round(ms / 1000) % 60} s`;
 export const cut = (text, most) => text.length > most ? text.slice(0, most) + '…' : text;

@@ -2,6 +2,7 @@
 import {button, element, faulty, hint, replace} from './dom.js';
 import {Editor} from './editor.js';
 import {openWideDialog} from './dialogs.js';
+import {chainBefore, startBridge} from './bridges.js';
 import {stagesOf} from './chains.js';
 import {describe, sideText} from './problems.js';
 import {faultLine, mapInput, pairLines} from './certificates.js';
@@ -10,16 +11,24 @@ import {writtenText} from './judge.js';
 
 const MODES = {
     relax: {name: 'Relaxation, by labels', help: 'For lower bounds. One line for each label: the label and the label it becomes.'},
-    rows: {name: 'Relaxation, by rows', help: 'For lower bounds. One line for each active configuration: it, then | and its image, place by place.'},
-    restrict: {name: 'Restriction', help: 'For upper bounds. One line for each label of the new problem: the label and the set of labels of this problem it stands for.'},
+    rows: {
+        name: 'Relaxation, by rows',
+        help: 'For lower bounds. One line for each active configuration: it, then | and its image, place by place.'
+    },
+    restrict: {
+        name: 'Restriction',
+        help: 'For upper bounds. One line for each label of the new problem: the label and the set of labels of this problem it stands for.'
+    },
 };
 
 // A first guess of the map from the lines that stand there; `to` are the labels of the new problem.
 function guessedMap(mode, problem, canonical, to, lines) {
     if (mode === 'rows') return filledLines(sideText(canonical, 'active')).map(line => `${line} | ${line}`);
-    if (mode === 'restrict') return (to || problem.labels).map(label => `${label} ${problem.labels.includes(label) ? setText([label]) : '[]'}`);
+    if (mode === 'restrict')
+        return (to || problem.labels).map(label => `${label} ${problem.labels.includes(label) ? setText([label]) : '[]'}`);
     const has = label => !to || to.includes(label), known = new Map(lines.map(labelsIn).filter(pair => pair.length === 2));
-    return problem.labels.map(label => `${label} ${known.has(label) && has(known.get(label)) ? known.get(label) : has(label) ? label : to[0]}`);
+    const image = label => [known.get(label), label].find(other => other !== undefined && has(other)) ?? to[0];
+    return problem.labels.map(label => `${label} ${image(label)}`);
 }
 
 // The map as a card keeps it, or null where it has no such form.
@@ -39,7 +48,10 @@ function readMap(mode, lines, degree) {
 }
 
 export async function openEditDialog(bench, card, view) {
-    if (view.facts.isLarge) { view.complain('The problem is too large to be edited: merge labels first.'); return; }
+    if (view.facts.isLarge) {
+        view.complain('The problem is too large to be edited: merge labels first.');
+        return;
+    }
     const dialog = new EditDialog(bench, card, view);
     await dialog.editor.setText(await writtenText(bench.facts, card));
 }
@@ -47,25 +59,40 @@ export async function openEditDialog(bench, card, view) {
 class EditDialog {
     constructor(bench, card, view) {
         Object.assign(this, {bench, card, view, mode: 'relax', isTouched: false, problem: view.facts.problem});
-        this.map = element('textarea', {rows: 8, spellcheck: false, 'aria-label': 'map', oninput: () => { this.isTouched = true; this.judge(); }});
+        this.map = element('textarea', {
+            rows: 8,
+            spellcheck: false,
+            'aria-label': 'map',
+            oninput: () => {
+                this.isTouched = true;
+                this.judge();
+            }
+        });
         this.help = element('span', {});
         this.state = element('div.state', {role: 'status'});
         this.editor = new Editor(bench.engine, {onRead: () => this.isTouched ? this.judge() : this.suggest()});
         // Where `explore` has the word, it looks for a whole step from the problem before; else the page looks for a map of labels.
-        this.before = bench.words.has('bridge') ? bench.explorations.before(card) : null;
-        this.find = this.before ? button('Find a step', () => this.findStep(), {title: 'look for a step from the problem before this one to the new problem, by any map'})
-            : button('Find a map', () => this.findMap(), {title: 'look for a map of labels that makes the new problem a relaxation of this one'});
+        this.before = bench.words.has('bridge') ? chainBefore(bench, card) : null;
+        const find = this.before
+            ? ['Find a step', () => this.findStep(), 'look for a step from the problem before this one to the new problem, by any map']
+            : ['Find a map', () => this.findMap(), 'look for a map of labels that makes the new problem a relaxation of this one'];
+        this.find = button(find[0], find[1], {title: find[2]});
         this.apply = button('Make the card', () => this.make(), {class: 'primary', disabled: true});
         this.dialog = openWideDialog(`Edit problem ${view.number.textContent}`,
             element('div.columns', {}, this.editor.node,
-                element('div.map', {}, element('div.group', {role: 'radiogroup', 'aria-label': 'kind of edit'}, this.radios()), hint(this.help), this.map)),
+                element('div.map', {}, element('div.group', {role: 'radiogroup', 'aria-label': 'kind of edit'}, this.radios()),
+                    hint(this.help), this.map)),
             this.state, element('footer', {}, this.apply, this.find));
     }
 
     radios() {
         const isBehindStep = this.bench.cards.path(this.card.id).at(-1).kind === 'step';
-        return Object.entries(MODES).filter(([mode]) => mode !== 'rows' || isBehindStep).map(([mode, {name}]) => element('label.radio', {},
-            element('input', {type: 'radio', name: 'mode', value: mode, checked: mode === this.mode, onchange: () => this.choose(mode)}), name));
+        return Object.entries(MODES)
+            .filter(([mode]) => mode !== 'rows' || isBehindStep)
+            .map(([mode, {name}]) => element('label.radio', {},
+                     element('input',
+                         {type: 'radio', name: 'mode', value: mode, checked: mode === this.mode, onchange: () => this.choose(mode)}),
+                     name));
     }
 
     choose(mode) {
@@ -86,9 +113,19 @@ class EditDialog {
         const turn = this.turn = {}, {mode, editor, lines} = this;
         this.apply.disabled = true;
         this.find.hidden = mode !== 'relax';
-        if (!editor.problem) { replace(this.state, hint('The new problem has a fault.')); return; }
-        if (!readMap(mode, lines, this.problem.active.degree)) { replace(this.state, faulty('The map has a line of another form.')); return; }
-        if (mode !== 'relax') { replace(this.state, hint('re check judges the map with the step, on the card.')); this.apply.disabled = false; return; }
+        if (!editor.problem) {
+            replace(this.state, hint('The new problem has a fault.'));
+            return;
+        }
+        if (!readMap(mode, lines, this.problem.active.degree)) {
+            replace(this.state, faulty('The map has a line of another form.'));
+            return;
+        }
+        if (mode !== 'relax') {
+            replace(this.state, hint('re check judges the map with the step, on the card.'));
+            this.apply.disabled = false;
+            return;
+        }
         const text = mapInput(this.card.problem, editor.problem, lines);
         const answer = await this.bench.engine.ask('re', ['relax'], text, {quiet: true}).catch(error => ({text: error.message}));
         if (turn !== this.turn) return;
@@ -100,9 +137,13 @@ class EditDialog {
 
     async findMap() {
         if (!await this.editor.read()) return;
-        const job = this.bench.engine.startWork('findRelaxation', [this.card.problem, this.editor.problem, 2000000], {title: 'find a map', quiet: false});
+        const job = this.bench.engine.startWork(
+            'findRelaxation', [this.card.problem, this.editor.problem, 2000000], {title: 'find a map', quiet: false});
         const pairs = await this.looked('looking for a map… ', job).catch(() => null);
-        if (!pairs) { replace(this.state, faulty('No map of labels was found.')); return; }
+        if (!pairs) {
+            replace(this.state, faulty('No map of labels was found.'));
+            return;
+        }
         this.isTouched = true;
         this.map.value = pairLines(pairs).join('\n');
         this.judge();
@@ -119,9 +160,14 @@ class EditDialog {
     async findStep() {
         if (!await this.editor.read()) return;
         const {bench, before, editor: {problem, written}} = this;
-        const answer = await this.looked('looking for a step… ', await bench.explorations.bridge(before, problem)).catch(error => ({text: error.message}));
-        if (!answer.text.startsWith('==')) { replace(this.state, faulty(`explore bridge: ${answer.text.trim()}`)); return; }
-        const cards = await bench.searches.cardsOf(answer.text, {title: 'edited', skipped: stagesOf(before).length - 1, written: () => written});
+        const answer =
+            await this.looked('looking for a step… ', await startBridge(bench, before, problem)).catch(error => ({text: error.message}));
+        if (!answer.text.startsWith('==')) {
+            replace(this.state, faulty(`explore bridge: ${answer.text.trim()}`));
+            return;
+        }
+        const cards =
+            await bench.searches.cardsOf(answer.text, {title: 'edited', skipped: stagesOf(before).length - 1, written: () => written});
         this.dialog.close();
         await bench.append(before.at(-1), ...cards);
     }
@@ -130,10 +176,14 @@ class EditDialog {
         // What was typed last may not be read yet.
         if (!await this.editor.read()) return;
         const {mode, bench, card, editor} = this, map = readMap(mode, this.lines, this.problem.active.degree);
-        if (!map) { this.judge(); return; }
+        if (!map) {
+            this.judge();
+            return;
+        }
         const {problem, written} = {problem: editor.problem, written: editor.written};
         this.dialog.close();
         if (mode === 'relax') await bench.changes.relaxTo(card, problem, this.lines.map(labelsIn), 'relaxed', written);
-        else await bench.append(card, {kind: 'change', title: mode === 'rows' ? 'relaxed by rows' : 'restricted', problem, written, ...map});
+        else
+            await bench.append(card, {kind: 'change', title: mode === 'rows' ? 'relaxed by rows' : 'restricted', problem, written, ...map});
     }
 }

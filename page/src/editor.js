@@ -11,14 +11,13 @@ export class Editor {
     // `onRead(canonical, written)` is told of each problem that is read (null: none), `onOther(text)` of a pasted text that is no problem to edit.
     constructor(engine, {onRead = () => {}, onOther = null} = {}) {
         Object.assign(this, {engine, onRead, onOther, problem: null});
-        const area = (label, placeholder) => new NumberedArea({label, placeholder, onInput: changed => this.changed(changed), onLarge: onOther});
+        const area = (label, placeholder) =>
+            new NumberedArea({label, placeholder, onInput: changed => this.changed(changed), onLarge: onOther});
         this.active = area('active constraint', 'M^3\nP O^2');
         this.passive = area('passive constraint', 'M [PO]\nO^2');
         this.state = element('div.state', {role: 'status'});
-        this.node = element('div.editor', {},
-            element('label', {}, element('span', {}, 'Active constraint'), this.active.node),
-            element('label', {}, element('span', {}, 'Passive constraint'), this.passive.node),
-            this.state);
+        this.node = element('div.editor', {}, element('label', {}, element('span', {}, 'Active constraint'), this.active.node),
+            element('label', {}, element('span', {}, 'Passive constraint'), this.passive.node), this.state);
     }
 
     get text() { return `${this.active.value}\n\n${this.passive.value}\n`; }
@@ -33,7 +32,10 @@ export class Editor {
 
     // A whole problem text: its blocks go to the two areas.
     setText(text) {
-        if (text.length > LONGEST_SHOWN) { say('The problem is too large for the editor.', true); return null; }
+        if (text.length > LONGEST_SHOWN) {
+            say('The problem is too large for the editor.', true);
+            return null;
+        }
         const lines = text.replace(/\r/g, '').split('\n'), begin = lines.findIndex(line => line.trim());
         let end = lines.findIndex((line, i) => i > begin && !line.trim());
         if (end < 0) end = lines.length;
@@ -43,9 +45,16 @@ export class Editor {
     changed(area) {
         const {value} = area;
         this.reading = null;
-        if (this.onOther && isCertificate(value)) { area.value = ''; this.onOther(value); return; }
+        if (this.onOther && isCertificate(value)) {
+            area.value = '';
+            this.onOther(value);
+            return;
+        }
         // What is pasted with its empty line is cut there.
-        if (area === this.active && !this.passive.value.trim() && /\S[^\n]*\n\s*\n\s*\S/.test(value)) { this.setText(value); return; }
+        if (area === this.active && !this.passive.value.trim() && /\S[^\n]*\n\s*\n\s*\S/.test(value)) {
+            this.setText(value);
+            return;
+        }
         clearTimeout(this.timer);
         this.timer = setTimeout(() => this.read(), DELAY);
     }
@@ -62,21 +71,34 @@ export class Editor {
         this.passive.number();
         this.problem = null;
         this.job?.stop();
-        if (!text.trim()) { replace(this.state, hint('One configuration a line: labels, groups [AB], powers A^2.')); this.onRead(null); return null; }
+        if (!text.trim()) {
+            replace(this.state, hint('One configuration a line: labels, groups [AB], powers A^2.'));
+            this.onRead(null);
+            return null;
+        }
         this.job = this.engine.start('re', ['read'], text, {quiet: true});
         const answer = await this.job.answer.catch(() => null);
         if (text !== this.text) return null;
         // Stopped, or its worker ended: it may be asked again.
-        if (!answer) { this.reading = null; return null; }
-        if (answer.status !== 0) { this.complain(answer.text.trim()); this.onRead(null); return null; }
+        if (!answer) {
+            this.reading = null;
+            return null;
+        }
+        if (answer.status !== 0) {
+            this.complain(answer.text.trim());
+            this.onRead(null);
+            return null;
+        }
         return this.accept(text, answer.text);
     }
 
     async accept(text, canonical) {
-        const {labels, active, passive} = canonical.length > LONGEST_SHOWN ? await this.engine.work('describe', canonical) : describe(canonical);
+        const {labels, active, passive} =
+            canonical.length > LONGEST_SHOWN ? await this.engine.work('describe', canonical) : describe(canonical);
         if (text !== this.text) return null;
         this.problem = canonical;
-        replace(this.state, element('span.good', {}, 'Read: '), `${active.count} active and ${plural(passive.count, 'passive configuration')}, ${plural(labels.length, 'label')}.`);
+        replace(this.state, element('span.good', {}, 'Read: '),
+            `${active.count} active and ${plural(passive.count, 'passive configuration')}, ${plural(labels.length, 'label')}.`);
         const lines = area => filledLines(area.value).filter(line => !line.startsWith('%'));
         this.written = {active: lines(this.active), passive: lines(this.passive)};
         this.onRead(canonical, this.written);
@@ -84,7 +106,8 @@ export class Editor {
     }
 
     complain(answer) {
-        const line = faultLine(answer), first = this.active.count, inPassive = line && Math.max(1, Math.min(line - first - 1, this.passive.count));
+        const line = faultLine(answer), first = this.active.count,
+              inPassive = line && Math.max(1, Math.min(line - first - 1, this.passive.count));
         if (line && line <= first) this.active.number(line);
         else if (line) this.passive.number(inPassive);
         const where = !line ? '' : line <= first ? ` (active, line ${line})` : ` (passive, line ${inPassive})`;
@@ -96,15 +119,19 @@ export class Editor {
         const old = [this.active.value, this.passive.value], fixed = old.map(bracketed);
         if (!fixed[0] && !fixed[1]) return null;
         const changed = fixed.flatMap((text, i) => text ? text.split('\n').filter((line, k) => line !== old[i].split('\n')[k]) : []);
-        return element('div', {}, button(`Bracket the choices: ${changed[0].trim()}`, () => this.set(fixed[0] || old[0], fixed[1] || old[1]), {class: 'primary'}));
+        return element('div', {},
+            button(
+                `Bracket the choices: ${changed[0].trim()}`, () => this.set(fixed[0] || old[0], fixed[1] || old[1]), {class: 'primary'}));
     }
 }
 
 function advice(answer) {
-    const found = Object.entries({
-        'a block is missing': 'Write both constraints.',
-        degree: 'All lines of a constraint have one degree, from 2 to 6.',
-        'a third block': 'No empty line may stand within a constraint.',
-    }).find(([fault]) => answer.includes(fault));
+    const found = Object
+                      .entries({
+                          'a block is missing': 'Write both constraints.',
+                          degree: 'All lines of a constraint have one degree, from 2 to 6.',
+                          'a third block': 'No empty line may stand within a constraint.',
+                      })
+                      .find(([fault]) => answer.includes(fault));
     return found ? element('div.hint', {}, found[1]) : null;
 }

@@ -14,24 +14,27 @@ export class Engine {
         this.idle = [];
         this.running = new Set();
         this.waiting = [];
+        // Tasks of several jobs: they show themselves, and their jobs don't.
+        this.tasks = new Set();
         this.answers = new Map();
         this.kept = 0;
     }
 
     // A run of a program: a job {title, started, isOver, answer, stop()}, its answer a promise of {status, text}.
-    // Quiet jobs are those that the page starts by itself; `limit` stops a job after so many milliseconds.
-    start(program, words, input = '', {title = words.join(' '), quiet = false, limit = 0} = {}) {
+    // Quiet jobs are those that the page starts by itself; `limit` stops a job after so many milliseconds;
+    // `isPart` says that a task shows it.
+    start(program, words, input = '', {title = words.join(' '), quiet = false, limit = 0, isPart = false} = {}) {
         const key = input.length > LARGEST_KEPT ? null : `${program} ${words.join(' ')}\n${input}`;
         const known = key && this.answers.get(key);
         if (known) return {title, started: 0, isOver: true, answer: Promise.resolve(known), stop() {}};
-        return this.enqueue({request: {program, words, input}, key, title, quiet, limit});
+        return this.enqueue({request: {program, words, input}, key, title, quiet, limit, isPart});
     }
 
     ask(program, words, input, options) { return this.start(program, words, input, options).answer; }
 
     // Work of the page's own by its name in worker.js, its answer a promise of what the function answers.
-    startWork(work, args, {title = work, quiet = true, limit = 0} = {}) {
-        return this.enqueue({request: {work, args}, key: null, title, quiet, limit});
+    startWork(work, args, {title = work, quiet = true, limit = 0, isPart = false} = {}) {
+        return this.enqueue({request: {work, args}, key: null, title, quiet, limit, isPart});
     }
 
     work(work, ...args) { return this.startWork(work, args).answer; }
@@ -55,7 +58,10 @@ export class Engine {
             job.started = performance.now();
             this.running.add(job);
             job.worker.onmessage = ({data}) => this.take(job, data);
-            job.worker.onerror = event => { event.preventDefault?.(); this.lose(job.worker, event.message); };
+            job.worker.onerror = event => {
+                event.preventDefault?.();
+                this.lose(job.worker, event.message);
+            };
             job.worker.postMessage(job.request);
             if (job.limit) job.timer = setTimeout(() => this.stop(job), job.limit);
         }
@@ -65,19 +71,28 @@ export class Engine {
         const worker = new Worker(this.workerUrl), lifeline = `worker ${Math.random()}`;
         const sent = part => Object.fromEntries(Object.entries(this.programs).map(([name, program]) => [name, program[part]]));
         // A browser that can't hand over a module gets the bytes again.
-        try { worker.postMessage({programs: sent('module'), lifeline}); } catch { worker.postMessage({programs: sent('bytes'), lifeline}); }
+        try {
+            worker.postMessage({programs: sent('module'), lifeline});
+        } catch { worker.postMessage({programs: sent('bytes'), lifeline}); }
         // The worker holds a lock as long as it lives; who waits for it is told when the worker is gone.
-        worker.addEventListener('message', ({data}) => { if (data.holds) navigator.locks.request(lifeline, () => this.lose(worker)).catch(() => {}); });
+        worker.addEventListener('message', ({data}) => {
+            if (data.holds) navigator.locks.request(lifeline, () => this.lose(worker)).catch(() => {});
+        });
         return worker;
     }
 
     take(job, {holds, failure, value, ...answer}) {
         if (holds) return;
-        if (failure) this.end(job, () => job.reject(new Error(job.request.program ? `the program broke off (${failure})` : failure)), false);
+        if (failure)
+            this.end(job, () => job.reject(new Error(job.request.program ? `the program broke off (${failure})` : failure)), false);
         // Nothing is written where memory ends.
         else if (answer.status === NO_MEMORY) this.end(job, () => job.reject(new Error('exit code 7: there is not enough memory')));
         else if (job.request.work) this.end(job, () => job.resolve(value));
-        else this.end(job, () => { this.keep(job.key, answer); job.resolve(answer); });
+        else
+            this.end(job, () => {
+                this.keep(job.key, answer);
+                job.resolve(answer);
+            });
     }
 
     // A worker that the browser ended: its job is told, and the next one gets a new worker.

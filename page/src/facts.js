@@ -7,7 +7,10 @@ import {filledLines, labelsIn} from './texts.js';
 const MANY = 20000, MOST_GROUPED = 200000, GROUPING_LIMIT = 10000, ROWS_LIMIT = 3000;
 
 export class Facts {
-    constructor(engine) { this.engine = engine; this.known = new Map(); }
+    constructor(engine) {
+        this.engine = engine;
+        this.known = new Map();
+    }
 
     // What is known of a problem, once its labels and numbers are counted.
     async learn(text) {
@@ -56,7 +59,8 @@ class ProblemFacts {
         return this.once(`drawn ${side}`, async () => {
             const {status, text} = await this.ask('diagram', side), classes = [], edges = [];
             if (status !== 0) throw new Error(text.trim());
-            for (const line of filledLines(text)) (line.startsWith('class ') ? classes : edges).push(labelsIn(line.slice(line.indexOf(' ') + 1)));
+            for (const line of filledLines(text))
+                (line.startsWith('class ') ? classes : edges).push(labelsIn(line.slice(line.indexOf(' ') + 1)));
             return {classes, edges};
         });
     }
@@ -70,7 +74,9 @@ class ProblemFacts {
     // The same in groups, by the simple rule.
     async grouped() {
         if (this.count > MOST_GROUPED) return this.plain();
-        return this.once('grouped', async () => this.sameProblem(await this.engine.startWork('grouped', [this.text], {limit: GROUPING_LIMIT, title: 'groups'}).answer));
+        return this.once('grouped',
+            async () =>
+                this.sameProblem(await this.engine.startWork('grouped', [this.text], {limit: GROUPING_LIMIT, title: 'groups'}).answer));
     }
 
     // The same in fewer lines: the maximal rows of a side spell exactly its configurations, and a few of them are often enough.
@@ -87,8 +93,10 @@ class ProblemFacts {
     }
 
     async fewRows(side) {
-        const {status, text} = await this.engine.ask('re', ['universal'], textWithRowsOf(this.text, side), {quiet: true, limit: ROWS_LIMIT, title: 'groups'});
-        return status === 0 ? this.engine.startWork('coveringLines', [this.text, side, text], {limit: ROWS_LIMIT, title: 'groups'}).answer : null;
+        const {status, text} =
+            await this.engine.ask('re', ['universal'], textWithRowsOf(this.text, side), {quiet: true, limit: ROWS_LIMIT, title: 'groups'});
+        if (status !== 0) return null;
+        return this.engine.startWork('coveringLines', [this.text, side, text], {limit: ROWS_LIMIT, title: 'groups'}).answer;
     }
 
     // What certificates and copies hold: short texts, without a long wait.

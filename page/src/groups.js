@@ -52,7 +52,7 @@ export function coveringLines(text, side, rowsText, mostSpelled = 400000) {
 }
 
 function bestRow(rows, left) {
-    for (let best = null; ;) {
+    for (let best = null;;) {
         const next = rows.reduce((a, b) => b.isChosen || a && a.gain >= b.gain ? a : b, null);
         if (!next || !next.gain) return null;
         if (next === best) return best;

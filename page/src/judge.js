@@ -35,7 +35,8 @@ export async function judge(check, facts, path) {
         verdicts.push(verdict);
     }
     // A chain that is of both kinds is refused at END alone, so it is never refused twice.
-    return verdicts.find(verdict => verdict.step || !verdict.refused) || verdicts[0] || {kind: null, certificate: '', line: '', accepted: false, refused: false};
+    return verdicts.find(verdict => verdict.step || !verdict.refused) || verdicts[0] ||
+        {kind: null, certificate: '', line: '', accepted: false, refused: false};
 }
 
 // The lines by which `explore why` shows that a clause fails; `explain(text)` answers what it prints of a certificate: the line of
@@ -60,6 +61,7 @@ export async function relation(engine, facts, path) {
         [from, to] = [last, first];
         map = new Map(labelsOf(last).map(label => [label, changes.reduceRight((at, {restrict}) => restrict[at]?.[0] ?? at, label)]));
     }
-    const {text} = await engine.ask('re', ['relax'], mapInput(from.problem, to.problem, [...map].map(pair => pair.join(' '))), {quiet: true});
+    const {text} =
+        await engine.ask('re', ['relax'], mapInput(from.problem, to.problem, [...map].map(pair => pair.join(' '))), {quiet: true});
     return {from, to, isYes: text.trim() === 'yes', line: text.trim()};
 }

@@ -3,11 +3,17 @@ import {openHelpDialog, openTextDialog} from './dialogs.js';
 
 export function listenToKeys(bench) {
     document.addEventListener('keydown', event => {
+        if ((event.ctrlKey || event.metaKey) && event.key.toLowerCase() === 'p' && !event.shiftKey && bench.cards.path().length) {
+            event.preventDefault();
+            bench.report.print();
+            return;
+        }
         if (event.target.closest('input, textarea, select, dialog') || event.altKey) return;
         if (event.ctrlKey || event.metaKey) {
             if (event.key.toLowerCase() !== 'z') return;
             event.preventDefault();
-            if (event.shiftKey) bench.cards.redo(); else bench.cards.undo();
+            if (event.shiftKey) bench.cards.redo();
+            else bench.cards.undo();
             return;
         }
         const act = pageKeys(bench)[event.key] || cardKeys(bench)?.[event.key];
@@ -30,11 +36,17 @@ function cardKeys(bench) {
         node.scrollIntoView({block: 'start'});
     };
     return {
-        j: () => move(1), k: () => move(-1),
-        s: () => changes.step(card, view), u: () => changes.universal(card, view), t: () => changes.tryMerges(card, view),
-        r: () => changes.rename(card, view), e: () => changes.edit(card, view),
+        j: () => move(1),
+        k: () => move(-1),
+        s: () => changes.step(card, view),
+        u: () => changes.universal(card, view),
+        t: () => changes.tryMerges(card, view),
+        r: () => changes.rename(card, view),
+        e: () => changes.edit(card, view),
         c: () => bench.copyProblem(card, view.node),
-        m: () => { if (view.selected.length > 1) changes.merge(card, view, view.selected, view.selected.at(-1)); },
+        m: () => {
+            if (view.selected.length > 1) changes.merge(card, view, view.selected, view.selected.at(-1));
+        },
         Escape: () => view.select([]),
     };
 }

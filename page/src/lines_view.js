@@ -1,7 +1,8 @@
 // The configurations of one side: the first few, and behind a button all of them, of which only those in view are drawn.
 import {button, element, plural, replace} from './dom.js';
 
-const FEW = 14, ROOM = 3000, DIRECT = 200, DIRECT_ROOM = 20000, ROW = 22, SHOWN = 18, TALLEST = 8000000;
+// Up to so many lines are shown at once; of more the first few, and a button for the rest.
+const MOST_AT_ONCE = 22, FEW = 14, ROOM = 3000, DIRECT = 200, DIRECT_ROOM = 20000, ROW = 22, SHOWN = 18, TALLEST = 8000000;
 
 // A line of a problem, its labels marked so that they can be pointed at.
 export function lineParts(line) {
@@ -36,10 +37,16 @@ export class LinesView {
     show({text, count}, nothing) {
         if (this.text === text) return;
         Object.assign(this, {text, count});
-        if (!count) { replace(this.node, element('div.line.empty', {}, nothing)); return; }
+        if (!count) {
+            replace(this.node, element('div.line.empty', {}, nothing));
+            return;
+        }
         // Groups that come in later leave open what was opened.
-        if (this.isWhole) { this.showAll(); return; }
-        const lines = firstLines(text, FEW, ROOM), rest = count - lines.length;
+        if (this.isWhole) {
+            this.showAll();
+            return;
+        }
+        const lines = firstLines(text, count > MOST_AT_ONCE ? FEW : MOST_AT_ONCE, ROOM), rest = count - lines.length;
         replace(this.node, lines.map(lineNode), rest > 0 ? button(plural(rest, 'more line'), () => this.showAll(), {class: 'link'}) : null);
         this.onDraw();
     }

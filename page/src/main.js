@@ -5,6 +5,7 @@ import {Editor} from './editor.js';
 import {listenToKeys} from './keys.js';
 import {openHelpDialog, openTextDialog} from './dialogs.js';
 import {watchJobs} from './jobs_view.js';
+import {listenToDrops, listenToPastes} from './paste.js';
 import {wordsOfExplore} from './words.js';
 import {Workbench} from './workbench.js';
 
@@ -25,15 +26,20 @@ function startEditor(bench) {
     let title = '', titled = '';
     const openCard = async () => {
         if (!await editor.read()) return;
-        await bench.append(null, {kind: 'first', problem: editor.problem, written: editor.written, title: editor.text === titled ? title : undefined});
+        await bench.append(
+            null, {kind: 'first', problem: editor.problem, written: editor.written, title: editor.text === titled ? title : undefined});
     };
     const open = button('Open as a card', openCard, {class: 'primary', disabled: true, title: 'Ctrl+Enter'});
     const editor = bench.editor = new Editor(bench.engine, {
-        onRead: problem => { open.disabled = !problem; },
+        onRead: problem => {
+            open.disabled = !problem;
+        },
         onOther: text => openTextDialog(bench, text).open(),
     });
     $('#editor').append(editor.node, element('div.group', {}, open));
-    editor.node.addEventListener('keydown', event => { if (event.key === 'Enter' && (event.ctrlKey || event.metaKey)) openCard(); });
+    editor.node.addEventListener('keydown', event => {
+        if (event.key === 'Enter' && (event.ctrlKey || event.metaKey)) openCard();
+    });
     return async (text, newTitle) => {
         await editor.setText(text);
         [title, titled] = [newTitle, editor.text];
@@ -61,9 +67,13 @@ function startFamilies(bench, setText) {
 function startExamples(bench, setText) {
     const examples = JSON.parse($('#examples').textContent), list = $('#gallery');
     for (const [group, texts] of Object.entries(examples)) {
-        list.append(element('optgroup', {label: group}, Object.keys(texts).map(name => element('option', {value: `${group}\n${name}`}, name))));
+        list.append(
+            element('optgroup', {label: group}, Object.keys(texts).map(name => element('option', {value: `${group}\n${name}`}, name))));
     }
-    const openAsCards = async (text, name) => { const fault = await bench.sessions.openText(text, name); if (fault) say(fault.fault, true); };
+    const openAsCards = async (text, name) => {
+        const fault = await bench.sessions.openText(text, name);
+        if (fault) say(fault.fault, true);
+    };
     list.addEventListener('change', async () => {
         const [group, name] = list.value.split('\n'), text = examples[group]?.[name];
         list.value = '';
@@ -81,32 +91,36 @@ function startExamples(bench, setText) {
 function startBars(bench) {
     const openAll = isOpen => bench.cards.path().forEach(card => bench.view(card).open(isOpen));
     const act = {
-        '#undo': () => bench.cards.undo(), '#redo': () => bench.cards.redo(), '#open': () => openTextDialog(bench), '#save': () => bench.sessions.saveFile(),
-        '#help-button': openHelpDialog, '#theme': changeTheme, '#report': () => bench.report(), '#certificate': () => bench.certificate(), '#algorithm': () => bench.tree(),
-        '#open-all': () => openAll(true), '#close-all': () => openAll(false),
+        '#undo': () => bench.cards.undo(),
+        '#redo': () => bench.cards.redo(),
+        '#open': () => openTextDialog(bench),
+        '#save': () => bench.sessions.saveFile(),
+        '#help-button': openHelpDialog,
+        '#theme': changeTheme,
+        '#report': () => bench.report.open(!bench.report.isOpen),
+        '#certificate': () => bench.certificate(),
+        '#algorithm': () => bench.tree(),
+        '#open-all': () => openAll(true),
+        '#close-all': () => openAll(false),
     };
     for (const [id, run] of Object.entries(act)) $(id).addEventListener('click', () => run());
 }
 
 function changeTheme() {
-    const {dataset} = document.documentElement, isDark = dataset.theme ? dataset.theme === 'dark' : matchMedia('(prefers-color-scheme: dark)').matches;
+    const {dataset} = document.documentElement,
+          isDark = dataset.theme ? dataset.theme === 'dark' : matchMedia('(prefers-color-scheme: dark)').matches;
     dataset.theme = isDark ? 'light' : 'dark';
 }
 
-// Files that are dropped on the page.
-function listenToDrops(bench) {
-    document.addEventListener('dragover', event => event.preventDefault());
-    document.addEventListener('drop', event => {
-        const [file] = event.dataTransfer.files;
-        if (!file) return;
-        event.preventDefault();
-        document.querySelector('dialog[open]')?.close();
-        openTextDialog(bench).take(file);
-    });
+// How tall the line at the bottom is: what stands above it keeps clear of it.
+function watchFoot() {
+    const foot = $('#claim');
+    new ResizeObserver(() => document.documentElement.style.setProperty('--foot', `${foot.offsetHeight}px`)).observe(foot);
 }
 
 async function start() {
-    const engine = new Engine(await readPrograms(), $('#worker').textContent), words = await wordsOfExplore(engine).catch(() => new Set()), bench = new Workbench(engine, words);
+    const engine = new Engine(await readPrograms(), $('#worker').textContent), words = await wordsOfExplore(engine).catch(() => new Set()),
+          bench = new Workbench(engine, words);
     // For the tests, and whoever looks into the page.
     Object.assign(window, {bench, engine});
     const setText = startEditor(bench);
@@ -115,7 +129,9 @@ async function start() {
     startBars(bench);
     watchJobs(engine);
     listenToKeys(bench);
+    listenToPastes(bench);
     listenToDrops(bench);
+    watchFoot();
     window.addEventListener('hashchange', () => bench.sessions.load());
     if (!await bench.sessions.load()) bench.show();
     document.body.classList.add('ready');

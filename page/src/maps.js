@@ -3,20 +3,25 @@ import {configsOf, describe, SIDES} from './problems.js';
 
 const MOST_CONFIGURATIONS = 50000;
 
-const read = text => { const {labels, active, passive} = describe(text); return {labels, active, passive, text}; };
+const read = text => {
+    const {labels, active, passive} = describe(text);
+    return {labels, active, passive, text};
+};
 const countOf = ({active, passive}) => active.count + passive.count;
 const withConfigs = problem => ({...problem, configs: SIDES.map(side => configsOf(problem.text, side))});
 
 // How often a label occurs on either side, by multiplicity.
 function occurrences(configs, label) {
-    return configs.map(side => {
-        const counts = {};
-        for (const config of side) {
-            const n = config.filter(other => other === label).length;
-            if (n) counts[n] = (counts[n] || 0) + 1;
-        }
-        return JSON.stringify(counts);
-    }).join(' ');
+    return configs
+        .map(side => {
+            const counts = {};
+            for (const config of side) {
+                const n = config.filter(other => other === label).length;
+                if (n) counts[n] = (counts[n] || 0) + 1;
+            }
+            return JSON.stringify(counts);
+        })
+        .join(' ');
 }
 
 const keyOf = numbers => numbers.sort((a, b) => a - b).join(' ');
@@ -32,7 +37,10 @@ function searchOrder(from, choicesOf) {
         for (const label of from.labels) {
             if (placed.has(label)) continue;
             const completed = holds.get(label).filter(i => lacking[i] === 1).length + 1 / (1 + choicesOf(label).length);
-            if (completed > most) { best = label; most = completed; }
+            if (completed > most) {
+                best = label;
+                most = completed;
+            }
         }
         order.push(best);
         placed.add(best);
@@ -89,6 +97,7 @@ export function findRenaming(fromText, toText, most = 200000) {
 // A map that makes the second problem a relaxation of the first, as pairs in order.
 export function findRelaxation(fromText, toText, most = 200000) {
     const from = read(fromText), to = read(toText);
-    if (!sameDegrees(from, to) || countOf(from) > MOST_CONFIGURATIONS || countOf(to) > MOST_CONFIGURATIONS || !to.labels.length) return null;
+    if (!sameDegrees(from, to) || countOf(from) > MOST_CONFIGURATIONS || countOf(to) > MOST_CONFIGURATIONS || !to.labels.length)
+        return null;
     return search(withConfigs(from), withConfigs(to), () => to.labels, false, most);
 }

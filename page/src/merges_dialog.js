@@ -7,7 +7,8 @@ import {mapInput, pairLines, readStep} from './certificates.js';
 const MOST_SHOWN = 200, SHOW_EACH = 5;
 
 // Those first that come back to an earlier problem, then those that stay unsolvable the longest, with few labels.
-const rank = row => [row.back ? 0 : 1, row.isSolvable ? 1 : 0, row.next?.isSolvable ? 1 : 0, row.next?.labels ?? 999, row.labels, row.configs];
+const rank =
+    row => [row.back ? 0 : 1, row.isSolvable ? 1 : 0, row.next?.isSolvable ? 1 : 0, row.next?.labels ?? 999, row.labels, row.configs];
 function compare(a, b) {
     const [x, y] = [rank(a), rank(b)], at = x.findIndex((value, i) => value !== y[i]);
     return at < 0 ? 0 : x[at] - y[at];
@@ -27,12 +28,17 @@ class MergesDialog {
         this.ahead = element('input', {type: 'checkbox', checked: labels.length <= 12});
         this.stopButton = button('Stop', () => this.stop());
         this.dialog = openWideDialog(`Merges of two labels of problem ${view.number.textContent}`,
-            element('div.group', {}, button('Try all', () => this.tryAll(), {class: 'primary'}), element('label', {}, this.ahead, 'and a step behind each')), this.state,
+            element('div.group', {}, button('Try all', () => this.tryAll(), {class: 'primary'}),
+                element('label', {}, this.ahead, 'and a step behind each')),
+            this.state,
             element('div.tried', {tabIndex: 0, role: 'group', 'aria-label': 'merges that were tried'}, element('table', {}, this.table)));
         this.dialog.addEventListener('close', () => this.stop());
     }
 
-    stop() { this.isStopped = true; this.job?.stop(); }
+    stop() {
+        this.isStopped = true;
+        this.job?.stop();
+    }
 
     ask(words, text) {
         this.job = this.bench.engine.start('re', words, text, {title: `try merges: ${words.join(' ')}`});
@@ -56,7 +62,9 @@ class MergesDialog {
                 this.rows.push(await this.tried(x, y));
                 if (i % SHOW_EACH === SHOW_EACH - 1) this.show();
             }
-        } catch (error) { if (!this.isStopped) this.table.append(element('tr', {}, element('td', {}, hint(error.message)))); }
+        } catch (error) {
+            if (!this.isStopped) this.table.append(element('tr', {}, element('td', {}, hint(error.message))));
+        }
         if (turn !== this.turn) return;
         this.show();
         const good = this.rows.filter(row => !row.isSolvable).length;
@@ -75,10 +83,12 @@ class MergesDialog {
     // What is left when y becomes x.
     async tried(x, y) {
         const merged = await this.work('mapped', this.card.problem, [[y, x]]), {text} = await this.ask(['read'], merged);
-        const {labels, active, passive} = await this.work('describe', text), row = {x, y, labels: labels.length, configs: active.count + passive.count};
+        const {labels, active, passive} = await this.work('describe', text),
+                               row = {x, y, labels: labels.length, configs: active.count + passive.count};
         row.isSolvable = await this.isSolvable(text);
         if (row.isSolvable) return row;
-        for (const other of this.earlier) if (!row.back && await this.isRenamed(text, other.problem)) row.back = other;
+        for (const other of this.earlier)
+            if (!row.back && await this.isRenamed(text, other.problem)) row.back = other;
         if (!this.ahead.checked) return row;
         const step = await this.ask(['step', '1'], text);
         if (step.status !== 0) return {...row, next: {limit: step.text.trim()}};
@@ -89,10 +99,12 @@ class MergesDialog {
     show() { replace(this.table, this.rows.sort(compare).slice(0, MOST_SHOWN).map(row => this.rowNode(row))); }
 
     rowNode({x, y, back, isSolvable, labels, configs, next}) {
-        const merge = () => { this.dialog.close(); this.bench.changes.merge(this.card, this.view, [x, y], x); };
+        const merge = () => {
+            this.dialog.close();
+            this.bench.changes.merge(this.card, this.view, [x, y], x);
+        };
         const zero = isFit => `0 rounds: ${isFit ? 'yes' : 'no'}`;
-        return element('tr', {class: isSolvable ? 'soft' : ''},
-            element('td', {}, button(`Merge ${y} into ${x}`, merge)),
+        return element('tr', {class: isSolvable ? 'soft' : ''}, element('td', {}, button(`Merge ${y} into ${x}`, merge)),
             element('td', {}, back ? element('span.good', {}, `is problem ${numberOf(this.path, back)} again`) : zero(isSolvable)),
             element('td', {}, `${plural(labels, 'label')}, ${plural(configs, 'configuration')}`),
             element('td', {}, !next ? '' : next.limit || `then ${plural(next.labels, 'label')}, ${zero(next.isSolvable)}`));

@@ -10,22 +10,39 @@ export class NumberedArea {
     constructor({label, placeholder, fewest = 3, most = 12, onInput = () => {}, onLarge = null}) {
         Object.assign(this, {fewest, most, onInput});
         this.gutter = element('pre.gutter', {'aria-hidden': 'true'});
-        this.text = element('textarea', {spellcheck: false, rows: fewest, placeholder, 'aria-label': label, autocomplete: 'off', autocapitalize: 'off', oninput: () => this.changed()});
-        this.text.addEventListener('scroll', () => { this.gutter.scrollTop = this.text.scrollTop; });
-        if (onLarge) this.text.addEventListener('paste', event => {
-            const pasted = event.clipboardData?.getData('text') || '';
-            if (pasted.length <= LONGEST_SHOWN) return;
-            event.preventDefault();
-            onLarge(pasted);
+        this.text = element('textarea', {
+            spellcheck: false,
+            rows: fewest,
+            placeholder,
+            'aria-label': label,
+            autocomplete: 'off',
+            autocapitalize: 'off',
+            oninput: () => this.changed()
         });
+        this.text.addEventListener('scroll', () => {
+            this.gutter.scrollTop = this.text.scrollTop;
+        });
+        if (onLarge)
+            this.text.addEventListener('paste', event => {
+                const pasted = event.clipboardData?.getData('text') || '';
+                if (pasted.length <= LONGEST_SHOWN) return;
+                event.preventDefault();
+                onLarge(pasted);
+            });
         this.node = element('div.area', {}, this.gutter, this.text);
         this.number();
     }
 
     get value() { return this.text.value; }
-    set value(text) { this.text.value = text; this.number(); }
+    set value(text) {
+        this.text.value = text;
+        this.number();
+    }
 
-    changed() { this.number(); this.onInput(this); }
+    changed() {
+        this.number();
+        this.onInput(this);
+    }
 
     get count() {
         let count = 1;

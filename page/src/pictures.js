@@ -27,7 +27,8 @@ export function drawDiagram(placed, free, title) {
     // Large pictures are drawn smaller, as long as they can be read.
     const scale = Math.max(.62, Math.min(1, 470 / height, 560 / width));
     const size = {width: (width * scale).toFixed(0), height: (height * scale).toFixed(0)};
-    const picture = svg('svg', {class: 'diagram', viewBox: `0 0 ${width.toFixed(0)} ${height}`, ...size, role: 'img'}, svg('title', {}, title));
+    const picture =
+        svg('svg', {class: 'diagram', viewBox: `0 0 ${width.toFixed(0)} ${height}`, ...size, role: 'img'}, svg('title', {}, title));
     picture.append(...lines.map(arrowNode), ...nodes.map(classNode));
     return picture;
 }
@@ -37,13 +38,14 @@ function arrowNode({edge: [weak, strong], points}) {
     way[0] = [way[0][0], way[0][1] - 13];
     way[end] = [way[end][0], way[end][1] + 14];
     const d = smoothPath(way);
-    return svg('g', {class: 'edge', 'data-weak': weak, 'data-strong': strong},
-        svg('title', {}, `${strong} may take the place of ${weak}`), svg('path', {class: 'near', d}), svg('path', {class: 'line', d}), arrowHead(way[end], way[end - 1]));
+    return svg('g', {class: 'edge', 'data-weak': weak, 'data-strong': strong}, svg('title', {}, `${strong} may take the place of ${weak}`),
+        svg('path', {class: 'near', d}), svg('path', {class: 'line', d}), arrowHead(way[end], way[end - 1]));
 }
 
 function classNode({x, y, width, labels, shown}) {
     const text = svg('text', {x, y: y + 5, 'text-anchor': 'middle'});
-    if (labels.join(' ') === shown) labels.forEach((label, i) => text.append(...(i ? [' '] : []), svg('tspan', {'data-label': label}, label)));
+    if (labels.join(' ') === shown)
+        labels.forEach((label, i) => text.append(...(i ? [' '] : []), svg('tspan', {'data-label': label}, label)));
     else text.append(shown, svg('title', {}, labels.join(' ')));
     const group = svg('g', {class: 'node'}, svg('rect', {x: x - width / 2, y: y - 13, width, height: 26, rx: 7}), text);
     if (labels.length === 1) group.setAttribute('data-label', labels[0]);
@@ -56,7 +58,8 @@ function beside(placed, others) {
     const rows = Math.max(1, Math.min(others.length, Math.round(placed.height / 40) || Math.ceil(Math.sqrt(others.length / 2))));
     const columns = Math.ceil(others.length / rows), widest = Math.max(...others.map(node => node.width)) + 10;
     const left = placed.width ? placed.width + 8 : 0;
-    const nodes = others.map((node, i) => ({...node, x: left + 6 + widest * (i % columns) + widest / 2, y: 22 + 36 * Math.floor(i / columns)}));
+    const nodes =
+        others.map((node, i) => ({...node, x: left + 6 + widest * (i % columns) + widest / 2, y: 22 + 36 * Math.floor(i / columns)}));
     const height = Math.max(placed.height, 36 * Math.ceil(others.length / columns) + 8);
     return {width: left + widest * columns + 12, height, nodes: [...placed.nodes, ...nodes], lines: placed.lines};
 }
@@ -66,7 +69,8 @@ function smoothPath(points) {
     const text = point => point.map(n => n.toFixed(1)).join(' '), at = i => points[Math.max(0, Math.min(points.length - 1, i))];
     const towards = (i, from, to, part) => at(i).map((n, axis) => n + (at(to)[axis] - at(from)[axis]) * part);
     let d = `M ${text(points[0])}`;
-    for (let i = 0; i + 1 < points.length; i++) d += ` C ${text(towards(i, i - 1, i + 1, 1 / 6))} ${text(towards(i + 1, i, i + 2, -1 / 6))} ${text(at(i + 1))}`;
+    for (let i = 0; i + 1 < points.length; i++)
+        d += ` C ${text(towards(i, i - 1, i + 1, 1 / 6))} ${text(towards(i + 1, i, i + 2, -1 / 6))} ${text(at(i + 1))}`;
     return d;
 }
 

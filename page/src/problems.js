@@ -15,7 +15,8 @@ const degreeIn = line => line.split(' ').reduce((sum, word) => sum + (Number(wor
 export function describe(text) {
     const labels = new Set();
     const [active, passive] = blocksAt(text).map(([start, end]) => {
-        const lineEnd = text.indexOf('\n', start), first = text.slice(start, lineEnd < 0 ? end : Math.min(lineEnd, end)), none = /^%(\d+)$/.exec(first);
+        const lineEnd = text.indexOf('\n', start), first = text.slice(start, lineEnd < 0 ? end : Math.min(lineEnd, end)),
+              none = /^%(\d+)$/.exec(first);
         if (none) return {degree: Number(none[1]), count: 0};
         let count = 1, word = start;
         for (let at = start; at <= end; at++) {
@@ -63,19 +64,24 @@ export const problemText = ({active, passive}, activeBlock, passiveBlock) =>
     `${activeBlock.text || `%${active.degree}`}\n\n${passiveBlock.text || `%${passive.degree}`}\n`;
 
 // The problem with active and passive exchanged, so that words about the passive side speak of the active one.
-export const exchanged = text => { const [[a, b], [c, d]] = blocksAt(text); return `${text.slice(c, d)}\n\n${text.slice(a, b)}\n`; };
+export const exchanged = text => {
+    const [[a, b], [c, d]] = blocksAt(text);
+    return `${text.slice(c, d)}\n\n${text.slice(a, b)}\n`;
+};
 
 const remade = (text, linesOf) => problemText(describe(text), ...SIDES.map(side => blockOf(linesOf(side))));
 
 // The problem with each label replaced by its image; `re read` puts it in order.
 export function mapped(text, pairs) {
     const image = new Map(pairs);
-    return remade(text, side => [...new Set(configsOf(text, side).map(config => configText(config.map(label => image.get(label) ?? label))))]);
+    return remade(
+        text, side => [...new Set(configsOf(text, side).map(config => configText(config.map(label => image.get(label) ?? label))))]);
 }
 
 // The same of lines as they were written, groups and all.
 export function mappedLines(written, pairs) {
-    const image = new Map(pairs), mappedLine = line => rowText(placesOf(line).map(set => sortedSet(set.map(label => image.get(label) ?? label))));
+    const image = new Map(pairs),
+          mappedLine = line => rowText(placesOf(line).map(set => sortedSet(set.map(label => image.get(label) ?? label))));
     return Object.fromEntries(SIDES.map(side => [side, [...new Set(written[side].map(mappedLine))]]));
 }
 
@@ -94,7 +100,10 @@ export function withArrow(text, which, weak, strong) {
             const config = waiting.pop(), at = config.indexOf(weak);
             if (at < 0) continue;
             const next = config.map((label, i) => i === at ? strong : label);
-            if (!known.has(configText(next))) { known.add(configText(next)); waiting.push(next); }
+            if (!known.has(configText(next))) {
+                known.add(configText(next));
+                waiting.push(next);
+            }
         }
         return [...known];
     });

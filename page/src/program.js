@@ -1,22 +1,14 @@
 // Runs a program that was compiled to WebAssembly: one instance for each run.
 
-// {status, text}: the exit code, and what was written, of `name words..` with `input` on standard input.
-export function runProgram(module, name, words, input) {
-    const encoder = new TextEncoder(), taken = encoder.encode(input), given = [];
-    const texts = [name, ...words].map(word => encoder.encode(word));
-    let at = 0, memory = null;
+// The exit code of `name words..`, the words as bytes. `read(bytes)` puts the next bytes of standard input there and answers how many,
+// `write(bytes)` takes what is written; both answer -1 where they fail. The bytes are the program's own, so they are read at once.
+export function runOver({read, write}, module, name, words) {
+    const texts = [new TextEncoder().encode(name), ...words];
+    let memory = null;
     const bytesAt = (pointer, size) => new Uint8Array(memory.buffer, Number(pointer), Number(size));
     const host = {
-        read(_file, pointer, size) {
-            const count = Math.min(Number(size), taken.length - at);
-            bytesAt(pointer, count).set(taken.subarray(at, at + count));
-            at += count;
-            return BigInt(count);
-        },
-        write(_file, pointer, size) {
-            given.push(bytesAt(pointer, size).slice());
-            return size;
-        },
+        read: (_file, pointer, size) => BigInt(read(bytesAt(pointer, size))),
+        write: (_file, pointer, size) => BigInt(write(bytesAt(pointer, size))),
         argument(place, pointer, size) {
             const text = texts[Number(place)];
             if (!text) return -1n;
@@ -27,6 +19,23 @@ export function runProgram(module, name, words, input) {
     };
     const {exports} = new WebAssembly.Instance(module, {host});
     memory = exports.memory;
-    const status = exports.__original_main(), decoder = new TextDecoder();
+    return exports.__original_main();
+}
+
+// {status, text}: the exit code, and what was written, of `name words..` with the text `input` on standard input.
+export function runProgram(module, name, words, input) {
+    const encoder = new TextEncoder(), taken = encoder.encode(input), given = [], decoder = new TextDecoder();
+    let at = 0;
+    const read = bytes => {
+        const part = taken.subarray(at, at + bytes.length);
+        bytes.set(part);
+        at += part.length;
+        return part.length;
+    };
+    const write = bytes => {
+        given.push(bytes.slice());
+        return bytes.length;
+    };
+    const status = runOver({read, write}, module, name, words.map(word => encoder.encode(word)));
     return {status, text: given.map(part => decoder.decode(part, {stream: true})).join('') + decoder.decode()};
 }

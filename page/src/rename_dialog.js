@@ -28,23 +28,43 @@ function faultOf(names) {
 
 export function openRenameDialog(bench, card, view) {
     const {labels} = view.facts.problem, path = bench.cards.path(card.id), state = element('div.state', {role: 'status'});
-    const inputs = labels.map(label => element('input',
-        {type: 'text', value: nameOf(label), maxLength: 16, spellcheck: false, 'aria-label': `new name of ${label}`, oninput: () => judge()}));
+    const inputs = labels.map(label => element('input', {
+        type: 'text',
+        value: nameOf(label),
+        maxLength: 16,
+        spellcheck: false,
+        'aria-label': `new name of ${label}`,
+        oninput: () => judge()
+    }));
     const meaning = label => path[0] === card ? '' : cut(meaningOf(path, path.length - 1, label), 60);
-    const rows = labels.map((label, i) => element('label.rename', {}, code(label), inputs[i], element('span.code.hint', {}, meaning(label))));
+    const rows =
+        labels.map((label, i) => element('label.rename', {}, code(label), inputs[i], element('span.code.hint', {}, meaning(label))));
     const names = () => inputs.map(input => input.value.trim());
-    const fill = given => { inputs.forEach((input, i) => { input.value = given[i]; }); judge(); };
+    const fill = given => {
+        inputs.forEach((input, i) => {
+            input.value = given[i];
+        });
+        judge();
+    };
     const judge = () => {
         const fault = faultOf(names());
         replace(state, fault ? faulty(fault) : '');
         apply.disabled = Boolean(fault);
     };
-    const rename = () => { dialog.close(); bench.changes.renamed(card, view, names().map((name, i) => [labels[i], labelNamed(name)])); };
+    const rename = () => {
+        dialog.close();
+        bench.changes.renamed(card, view, names().map((name, i) => [labels[i], labelNamed(name)]));
+    };
     const apply = button('Rename', rename, {class: 'primary'});
-    const submit = event => { event.preventDefault(); if (!apply.disabled) rename(); };
+    const submit = event => {
+        event.preventDefault();
+        if (!apply.disabled) rename();
+    };
     const dialog = openDialog('Rename labels',
-        element('div.group', {}, button('Name by sets', () => fill(namesBySets(labels, path)), {title: 'each label is named by what it stands for'}),
+        element('div.group', {},
+            button('Name by sets', () => fill(namesBySets(labels, path)), {title: 'each label is named by what it stands for'}),
             button('A, B, C…', () => fill(lettersFor(labels)))),
-        element('form.renames', {onsubmit: submit}, rows, element('button', {type: 'submit', hidden: true})), state, element('footer', {}, apply));
+        element('form.renames', {onsubmit: submit}, rows, element('button', {type: 'submit', hidden: true})), state,
+        element('footer', {}, apply));
     inputs[0]?.select();
 }

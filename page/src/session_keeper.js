@@ -1,9 +1,10 @@
 // Texts that come in (problems, certificates, sessions), and the session that goes out: in the address, or as a file.
 import {$, button, download, element, faulty, replace, say} from './dom.js';
 import {faultLine} from './certificates.js';
+import {titleOf} from './chains.js';
 import {isSession} from './sessions.js';
 import {blockOf, problemText} from './problems.js';
-import {blocksOf} from './texts.js';
+import {blocksOf, fileNameOf} from './texts.js';
 
 // An address holds so many characters of a packed session; what is larger isn't packed at all.
 const MOST_PACKED = 1000000, MOST_TEXT = 8000000, MOST_WRITTEN = 300;
@@ -40,12 +41,13 @@ export class Sessions {
         return null;
     }
 
-    async openCertificate(text, title = 'certificate') {
+    async openCertificate(text, title) {
         const {engine, workbench} = this, alone = await engine.work('certificateAlone', text);
         const {status, text: answer} = await engine.ask('re', ['check'], alone);
         if (status > 1) return {fault: answer.trim(), line: faultLine(answer)};
         const {kind, first} = await engine.work('readCertificate', alone), problem = await engine.ask('re', ['read'], first, {quiet: true});
-        await workbench.append(null, {kind: 'first', problem: problem.text, written: writtenOf(first), title, side: kind === 'upper' ? 'upper' : 'lower'},
+        await workbench.append(null,
+            {kind: 'first', problem: problem.text, written: writtenOf(first), title, side: kind === 'upper' ? 'upper' : 'lower'},
             ...await workbench.searches.cardsOf(alone, {written: writtenOf}));
         return null;
     }
@@ -60,8 +62,11 @@ export class Sessions {
     async examine(cards) {
         const read = async text => (await this.engine.ask('re', ['read'], text, {quiet: true})).text;
         await Promise.all(cards.map(async (card, i) => {
-            if (await read(card.problem) !== card.problem) throw new Error(`card ${i + 1} of the session: its problem is no canonical text`);
+            if (await read(card.problem) !== card.problem)
+                throw new Error(`card ${i + 1} of the session: its problem is no canonical text`);
             const {problem} = await this.workbench.facts.learn(card.problem);
+            if (card.given && await read(card.given.problem) !== card.given.problem)
+                throw new Error(`card ${i + 1} of the session: what is given is no canonical text`);
             const {written} = card;
             if (written && await read(problemText(problem, blockOf(written.active), blockOf(written.passive))) !== card.problem) {
                 throw new Error(`card ${i + 1} of the session: what was written is another problem`);
@@ -81,7 +86,15 @@ export class Sessions {
         }
         const size = cards.reduce((sum, card) => sum + card.problem.length, 0);
         let packed = '', fault = 'it is too large';
-        if (size < MOST_TEXT) await this.engine.work('packSession', this.workbench.cards.state).then(text => { packed = text; }, error => { fault = error.message; });
+        if (size < MOST_TEXT)
+            await this.engine.work('packSession', this.workbench.cards.state)
+                .then(
+                    text => {
+                        packed = text;
+                    },
+                    error => {
+                        fault = error.message;
+                    });
         if (turn !== this.turn) return;
         this.noteSaved(packed.length > 0 && packed.length <= MOST_PACKED);
         if (!this.isSaved) {
@@ -98,7 +111,9 @@ export class Sessions {
 
     async saveFile() {
         const {turn} = this;
-        download('re-session.json', await this.engine.work('sessionText', this.workbench.cards.state), 'application/json');
+        const {cards} = this.workbench, [first] = cards.path();
+        download(`${first ? fileNameOf(titleOf(first)) : 're-session'}.json`, await this.engine.work('sessionText', cards.state),
+            'application/json');
         if (turn === this.turn) this.noteSaved(true);
     }
 
@@ -128,8 +143,10 @@ export class Sessions {
     // Nothing is lost: the address stays, and what it holds can be kept as a file.
     tellUnread(fault, text) {
         say(fault, true);
-        replace($('#unread'), faulty(fault), ' ', button('Keep what it holds as a file', () => download('session-that-was-not-read.txt', text)), ' ',
-            button('×', () => { $('#unread').hidden = true; }, {class: 'quiet close', 'aria-label': 'close'}), element('div.hint', {}, 'The address stays in the history of the browser.'));
+        replace($('#unread'), faulty(fault), ' ',
+            button('Keep what it holds as a file', () => download('session-that-was-not-read.txt', text)), ' ', button('×', () => {
+                $('#unread').hidden = true;
+            }, {class: 'quiet close', 'aria-label': 'close'}), element('div.hint', {}, 'The address stays in the history of the browser.'));
         $('#unread').hidden = false;
     }
 }

@@ -16,27 +16,33 @@ const isImages = value => isList(value, pair => isList(pair, isLabels) && pair.l
 const isMap = (value, holds) => isRecord(value) && Object.entries(value).every(([label, image]) => isLabel(label) && holds(image));
 const maybe = (value, holds) => value === undefined || holds(value);
 
+const isGiven = value => isRecord(value) && isText(value.kind) && isText(value.problem) && maybe(value.count, Number.isInteger);
+
 const PARTS = {
-    first: card => maybe(card.side, side => ['lower', 'upper'].includes(side)),
+    first: card => maybe(card.side, side => ['lower', 'upper'].includes(side)) && maybe(card.given, isGiven),
     step: card => isMeanings(card.meanings) && isList(card.rows, isText),
-    given: card => ['lower', 'upper'].includes(card.side) && isList(card.rows, isText) && isList(card.map, isText) && maybe(card.isByRows, value => typeof value === 'boolean'),
-    change: card => maybe(card.relax, value => isMap(value, isLabel)) && maybe(card.restrict, value => isMap(value, isLabels)) && maybe(card.images, isImages)
-        && Boolean(card.relax || card.restrict || card.images),
+    given: card => ['lower', 'upper'].includes(card.side) && isList(card.rows, isText) && isList(card.map, isText) &&
+        maybe(card.isByRows, value => typeof value === 'boolean'),
+    change: card => maybe(card.relax, value => isMap(value, isLabel)) && maybe(card.restrict, value => isMap(value, isLabels)) &&
+        maybe(card.images, isImages) && Boolean(card.relax || card.restrict || card.images),
 };
 
 const isWritten = value => isRecord(value) && isList(value.active, isText) && isList(value.passive, isText);
 const isBack = value => isRecord(value) && Number.isInteger(value.number) && isPairs(value.pairs);
 
 function isCard(card) {
-    return isRecord(card) && Number.isInteger(card.id) && card.id > 0 && Object.hasOwn(PARTS, card.kind) && isText(card.problem)
-        && maybe(card.title, isText) && maybe(card.note, isText) && maybe(card.written, isWritten) && maybe(card.back, isBack) && PARTS[card.kind](card);
+    return isRecord(card) && Number.isInteger(card.id) && card.id > 0 && Object.hasOwn(PARTS, card.kind) && isText(card.problem) &&
+        maybe(card.title, isText) && maybe(card.note, isText) && maybe(card.written, isWritten) && maybe(card.back, isBack) &&
+        PARTS[card.kind](card);
 }
 
 // {cards, current}, each card in its form and behind its parent; throws where the text is no session of this page.
 // What the cards say of their problems isn't judged here.
 export function readSession(text) {
     let state;
-    try { state = JSON.parse(text); } catch { throw new Error('not a saved session: its text is damaged'); }
+    try {
+        state = JSON.parse(text);
+    } catch { throw new Error('not a saved session: its text is damaged'); }
     if (!isRecord(state) || !isText(state.format) || !state.format.startsWith('re-workbench-')) throw new Error('not a saved session');
     if (state.format !== FORMAT) throw new Error(`a session of another version of this page (${state.format}; this one reads ${FORMAT})`);
     if (!Array.isArray(state.cards)) throw new Error('not a saved session: it has no cards');
@@ -59,5 +65,7 @@ const toBase64 = bytes => {
 };
 const fromBase64 = text => Uint8Array.from(atob(text.replace(/-/g, '+').replace(/_/g, '/')), c => c.charCodeAt(0));
 
-export const packSession = async state => toBase64(await through(new TextEncoder().encode(sessionText(state)), new CompressionStream('deflate-raw')));
-export const unpackSession = async packed => new TextDecoder().decode(await through(fromBase64(packed), new DecompressionStream('deflate-raw')));
+export const packSession = async state =>
+    toBase64(await through(new TextEncoder().encode(sessionText(state)), new CompressionStream('deflate-raw')));
+export const unpackSession = async packed =>
+    new TextDecoder().decode(await through(fromBase64(packed), new DecompressionStream('deflate-raw')));

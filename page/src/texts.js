@@ -12,7 +12,10 @@ export const labelNamed = name => /^[A-Za-z0-9]$/.test(name) ? name : `(${name})
 export const nameOf = label => label.replace(/[()]/g, '');
 export const isName = text => /^[A-Za-z0-9_]{1,16}$/.test(text);
 export const isLabel = text => typeof text === 'string' && /^(?:[A-Za-z0-9]|\([A-Za-z0-9_]{1,16}\))$/.test(text);
-export const byName = (a, b) => { const [x, y] = [nameOf(a), nameOf(b)]; return x < y ? -1 : x > y ? 1 : 0; };
+export const byName = (a, b) => {
+    const [x, y] = [nameOf(a), nameOf(b)];
+    return x < y ? -1 : x > y ? 1 : 0;
+};
 
 // Sets of labels, in the order of the names.
 export const sortedSet = labels => [...new Set(labels)].sort(byName);
@@ -26,7 +29,10 @@ export function wordsOf(line) {
     for (const c of line) {
         if (c === '[') inside = true;
         if (c === ']') inside = false;
-        if (!inside && /[ \t\r]/.test(c)) { if (word) words.push(word); word = ''; } else word += c;
+        if (!inside && /[ \t\r]/.test(c)) {
+            if (word) words.push(word);
+            word = '';
+        } else word += c;
     }
     if (word) words.push(word);
     return words;
@@ -50,7 +56,8 @@ export const placesOf = line => (itemsOf(line) || []).flatMap(item => Array(item
 export function withPowers(items) {
     const parts = [];
     for (let i = 0, n; i < items.length; i += n) {
-        for (n = 1; items[i + n] === items[i]; n++);
+        for (n = 1; items[i + n] === items[i]; n++)
+            ;
         parts.push(n > 1 ? `${items[i]}^${n}` : items[i]);
     }
     return parts.join(' ');
@@ -61,6 +68,9 @@ export const configText = labels => withPowers([...labels].sort(byName));
 
 // A row of sets.
 export const rowText = row => withPowers(row.map(set => set.length === 1 ? set[0] : setText(set)));
+
+// The name of a file for something of this name: letters and digits, with a dash between.
+export const fileNameOf = name => name.toLowerCase().replace(/[^a-z0-9]+/g, '-').replace(/^-+|-+$/g, '').slice(0, 60) || 'problem';
 
 // Lines that aren't empty, trimmed.
 export const filledLines = text => text.split('\n').map(line => line.trim()).filter(Boolean);
@@ -95,7 +105,8 @@ export function bracketed(text) {
 // The lines of a problem for a paper.
 export function latexOf({active, passive}) {
     const label = text => `\\mathsf{${nameOf(text).replace(/_/g, '\\_')}}`;
-    const item = ({labels, power, isGroup}) => (isGroup ? `[${labels.map(label).join('')}]` : label(labels[0])) + (power > 1 ? `^{${power}}` : '');
+    const item = ({labels, power, isGroup}) =>
+        (isGroup ? `[${labels.map(label).join('')}]` : label(labels[0])) + (power > 1 ? `^{${power}}` : '');
     const side = lines => lines.length ? lines.map(line => itemsOf(line).map(item).join('\\,')).join(' \\\\\n') : '\\emptyset';
     return `\\begin{aligned}\n${side(active)}\n\\end{aligned}\n\\qquad\n\\begin{aligned}\n${side(passive)}\n\\end{aligned}\n`;
 }

@@ -5,7 +5,10 @@ const MOST_NODES = 2000;
 // Numbers from a seed, the same ones each time.
 export function randomFrom(seed) {
     let state = seed;
-    return () => { state = state * 1664525 + 1013904223 >>> 0; return state / 4294967296; };
+    return () => {
+        state = state * 1664525 + 1013904223 >>> 0;
+        return state / 4294967296;
+    };
 }
 
 function shuffledPorts(degree, random) {
@@ -37,9 +40,11 @@ export function treeAround({active, passive}, radius, random) {
 // All messages, round by round: lines `node port round`.
 export function deliveriesOf(nodes, rounds) {
     const ports = nodes.map(node => node.parent === null ? [] : [node.own]);
-    for (const node of nodes) if (node.parent !== null) ports[node.parent].push(node.port);
+    for (const node of nodes)
+        if (node.parent !== null) ports[node.parent].push(node.port);
     const lines = [];
-    for (let round = 0; round < rounds; round++) ports.forEach((list, v) => [...list].sort((a, b) => a - b).forEach(port => lines.push(`${v} ${port} ${round}`)));
+    for (let round = 0; round < rounds; round++)
+        ports.forEach((list, v) => [...list].sort((a, b) => a - b).forEach(port => lines.push(`${v} ${port} ${round}`)));
     return lines;
 }
 
@@ -57,9 +62,13 @@ export const readRun = text => text.trim().split('\n').map(line => {
 // Where the nodes stand when the tree is drawn in rings: [{x, y}].
 export function ringPlaces(nodes) {
     const children = nodes.map(() => []), leaves = nodes.map(() => 1), places = [];
-    nodes.forEach((node, v) => { if (node.parent !== null) children[node.parent].push(v); });
-    for (let v = nodes.length - 1; v >= 0; v--) if (children[v].length) leaves[v] = children[v].reduce((sum, child) => sum + leaves[child], 0);
-    const deepest = nodes.reduce((most, {depth}) => Math.max(most, depth), 1), ring = Math.max(78, 16 * leaves[0] / (2 * Math.PI) / deepest);
+    nodes.forEach((node, v) => {
+        if (node.parent !== null) children[node.parent].push(v);
+    });
+    for (let v = nodes.length - 1; v >= 0; v--)
+        if (children[v].length) leaves[v] = children[v].reduce((sum, child) => sum + leaves[child], 0);
+    const deepest = nodes.reduce((most, {depth}) => Math.max(most, depth), 1),
+          ring = Math.max(78, 16 * leaves[0] / (2 * Math.PI) / deepest);
     const place = (v, from, to) => {
         const angle = (from + to) / 2, radius = nodes[v].depth * ring;
         places[v] = {x: radius * Math.cos(angle), y: radius * Math.sin(angle)};

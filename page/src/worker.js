@@ -5,10 +5,29 @@ import {coveringLines, grouped} from './groups.js';
 import {findRelaxation, findRenaming} from './maps.js';
 import {layout} from './layout.js';
 import {packSession, readSession, sessionText, unpackSession} from './sessions.js';
+import {catalogueLine} from './catalogue.js';
 import {certificateAlone, readCertificate, stepLines} from './certificates.js';
 
-const WORK = {describe, lineStarts, mapped, without, withArrow, grouped, coveringLines, findRelaxation, findRenaming, layout,
-    packSession, readSession, sessionText, unpackSession, certificateAlone, readCertificate, stepLines};
+const WORK = {
+    describe,
+    lineStarts,
+    mapped,
+    without,
+    withArrow,
+    grouped,
+    coveringLines,
+    findRelaxation,
+    findRenaming,
+    layout,
+    packSession,
+    readSession,
+    sessionText,
+    unpackSession,
+    certificateAlone,
+    readCertificate,
+    stepLines,
+    catalogueLine
+};
 const modules = new Map();
 // Settled once this worker is ready for jobs.
 let ready = Promise.resolve();
@@ -16,7 +35,11 @@ let ready = Promise.resolve();
 // Holds a lock as long as this worker lives, where the browser has locks for this page, so that the page is told when it is gone.
 function hold(name) {
     return new Promise(resolve => {
-        const held = () => { self.postMessage({holds: name}); resolve(); return new Promise(() => {}); };
+        const held = () => {
+            self.postMessage({holds: name});
+            resolve();
+            return new Promise(() => {});
+        };
         if (self.navigator?.locks) navigator.locks.request(name, held).catch(resolve);
         else resolve();
     });
@@ -29,10 +52,13 @@ async function answer({program, words, input, work, args}) {
 
 self.onmessage = async ({data}) => {
     if (data.programs) {
-        for (const [name, program] of Object.entries(data.programs)) modules.set(name, program instanceof WebAssembly.Module ? program : new WebAssembly.Module(program));
+        for (const [name, program] of Object.entries(data.programs))
+            modules.set(name, program instanceof WebAssembly.Module ? program : new WebAssembly.Module(program));
         ready = hold(data.lifeline);
         return;
     }
     await ready;
-    try { self.postMessage(await answer(data)); } catch (error) { self.postMessage({failure: error.message || String(error)}); }
+    try {
+        self.postMessage(await answer(data));
+    } catch (error) { self.postMessage({failure: error.message || String(error)}); }
 };

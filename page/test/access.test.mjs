@@ -1,20 +1,36 @@
 // Names of controls, contrast, and the keyboard alone.
 import {openBrowser, wait} from './browser.mjs';
+import {checked} from './checks.mjs';
 import {answer, example} from './place.mjs';
-import {Tally} from './tally.mjs';
-import {cardsAre, drawn, User} from './user.mjs';
-
-const tally = new Tally('access');
+import {cardsAre, drawn, MIS, User} from './user.mjs';
 
 // Runs in the page: what is at fault in what is shown now.
 function faultsShown() {
     const numbers = text => (text.match(/[\d.]+/g) || []).map(Number);
-    const over = (top, under) => { const a = top[3] ?? 1; return [0, 1, 2].map(i => top[i] * a + under[i] * (1 - a)); };
-    const light = c => { const [r, g, b] = c.map(v => { v /= 255; return v <= .03928 ? v / 12.92 : ((v + .055) / 1.055) ** 2.4; }); return .2126 * r + .7152 * g + .0722 * b; };
-    const contrast = (a, b) => { const [x, y] = [light(a), light(b)].sort((p, q) => q - p); return (x + .05) / (y + .05); };
+    const over = (top, under) => {
+        const a = top[3] ?? 1;
+        return [0, 1, 2].map(i => top[i] * a + under[i] * (1 - a));
+    };
+    const light = c => {
+        const [r, g, b] = c.map(v => {
+            v /= 255;
+            return v <= .03928 ? v / 12.92 : ((v + .055) / 1.055) ** 2.4;
+        });
+        return .2126 * r + .7152 * g + .0722 * b;
+    };
+    const contrast = (a, b) => {
+        const [x, y] = [light(a), light(b)].sort((p, q) => q - p);
+        return (x + .05) / (y + .05);
+    };
     const ground = node => {
         const stack = [];
-        for (let n = node; n; n = n.parentElement) { const c = numbers(getComputedStyle(n).backgroundColor); if ((c[3] ?? 1) > 0) { stack.push(c); if ((c[3] ?? 1) === 1) break; } }
+        for (let n = node; n; n = n.parentElement) {
+            const c = numbers(getComputedStyle(n).backgroundColor);
+            if ((c[3] ?? 1) > 0) {
+                stack.push(c);
+                if ((c[3] ?? 1) === 1) break;
+            }
+        }
         return stack.reverse().reduce((under, c) => over(c, under), [255, 255, 255]);
     };
     const isShown = node => node.getClientRects().length && getComputedStyle(node).visibility === 'visible';
@@ -25,7 +41,9 @@ function faultsShown() {
         if (!name.trim()) say(node, 'no name');
         if (node.tabIndex > 0) say(node, 'its own place in the order');
     }
-    for (const node of document.querySelectorAll('input:not([type=checkbox]):not([type=radio]):not([type=file]), select, button:not(.link):not(.quiet):not(.toggle):not(.primary)')) {
+    for (
+        const node of document.querySelectorAll(
+            'input:not([type=checkbox]):not([type=radio]):not([type=file]), select, button:not(.link):not(.quiet):not(.toggle):not(.primary)')) {
         if (!isShown(node) || node.disabled || node.closest('.area, .menu > div')) continue;
         const edge = numbers(getComputedStyle(node).borderTopColor), ratio = contrast(over(edge, ground(node)), ground(node.parentElement));
         if (ratio < 3) say(node, `edge ${ratio.toFixed(2)}`);
@@ -42,15 +60,23 @@ function faultsShown() {
     }
     const ids = [...document.querySelectorAll('[id]')].map(node => node.id);
     ids.filter((id, i) => ids.indexOf(id) !== i).forEach(id => faults.add(`twice: ${id}`));
-    for (const image of document.querySelectorAll('svg[role=img]')) if (!image.querySelector('title')?.textContent) say(image, 'no title');
+    for (const image of document.querySelectorAll('svg[role=img]'))
+        if (!image.querySelector('title')?.textContent) say(image, 'no title');
     if (!document.documentElement.lang || !document.title) faults.add('no language or title');
     return [...faults];
 }
 
-async function look(page, user, theme) {
-    const faults = async where => tally.equal(`${theme}, ${where}`, await page.value(`(${faultsShown})()`), []);
+async function look(page, user, checks, theme) {
+    const faults = async where => checks.equal(`${theme}, ${where}`, await page.value(`(${faultsShown})()`), []);
     await page.go();
     await faults('the empty page');
+    await user.openProblem(...MIS);
+    await user.search('lower', 8, 2);
+    await page.until(`!document.querySelector('#jobs').hidden`);
+    await faults('what runs');
+    await page.click('#jobs button', 'Stop');
+    await page.click('.card.last .written summary', 'Tried');
+    await faults('what was tried');
     await user.openText(example('colouring-refused.txt'));
     await page.until(`document.querySelector('.card.failing .fault div div') && ${drawn}`);
     await user.select('A');
@@ -61,6 +87,14 @@ async function look(page, user, theme) {
     await page.until(`document.querySelector('.card.last .note')`);
     await page.click('.card.last .menu summary');
     await faults('a note, a menu');
+    await page.key('Escape');
+    await page.choose('#given-kind', 'a colouring');
+    await page.until(`document.querySelector('#given-line .line')`);
+    await faults('what is given');
+    await page.click('#report');
+    await page.until(`document.querySelector('#report-box h3')`);
+    await faults('the report');
+    await page.click('#report-box .close');
     for (const [key, what] of [['e', 'edit'], ['r', 'rename'], ['t', 'merges'], ['x', 'certificate'], ['o', 'open'], ['?', 'help']]) {
         await page.value(`document.querySelector('.card.last').focus()`);
         await page.key(key);
@@ -81,22 +115,26 @@ async function look(page, user, theme) {
     await faults('a fault in the editor');
 }
 
-for (const dark of [false, true]) {
-    const page = await openBrowser({dark});
-    await tally.run(dark ? 'dark' : 'light', () => look(page, new User(page, tally), dark ? 'dark' : 'light'));
-    tally.equal('no fault in the console', page.faults(), []);
+for (const theme of ['light', 'dark']) {
+    const page = await openBrowser({dark: theme === 'dark'});
+    await checked(theme, async checks => {
+        await look(page, new User(page, checks), checks, theme);
+        checks.equal('no fault in the console', page.faults(), []);
+    });
     await page.close();
 }
 
 // The keyboard alone: Tab goes to what is asked for, and no mouse moves.
-async function keyboard(page) {
+async function keyboard(page, checks) {
     const at = `(document.activeElement.getAttribute('aria-label') || document.activeElement.textContent).trim()`;
     const tabTo = async (name, within = 'body') => {
         for (let i = 0; i < 120; i++) {
             await page.key('Tab');
-            if (await page.value(`${at} === ${JSON.stringify(name)} && Boolean(document.activeElement.closest(${JSON.stringify(within)}))`)) {
-                const seen = await page.value(`(() => { const box = document.activeElement.getBoundingClientRect(); return document.activeElement.matches(':focus-visible') && box.top >= 0 && box.bottom <= innerHeight; })()`);
-                if (!seen) tally.check(`${name} is seen when it has the focus`, seen);
+            if (await page.value(
+                    `${at} === ${JSON.stringify(name)} && Boolean(document.activeElement.closest(${JSON.stringify(within)}))`)) {
+                const seen = await page.value(
+                    `(() => { const box = document.activeElement.getBoundingClientRect(); return document.activeElement.matches(':focus-visible') && box.top >= 0 && box.bottom <= innerHeight; })()`);
+                if (!seen) checks.check(`${name} is seen when it has the focus`, seen);
                 return;
             }
         }
@@ -106,51 +144,55 @@ async function keyboard(page) {
     await tabTo('active constraint');
     await page.write('M^3\nP O^2');
     await page.key('Tab');
-    tally.equal('the passive one is next', await page.value(at), 'passive constraint');
+    checks.equal('the passive one is next', await page.value(at), 'passive constraint');
     await page.write('M [PO]\nO^2');
     await page.key('Enter', {modifiers: 2});
     await page.until(`${cardsAre(1)} && ${drawn}`);
-    tally.check('the card has the focus', await page.value(`document.activeElement.matches('.card')`));
+    checks.check('the card has the focus', await page.value(`document.activeElement.matches('.card')`));
     await tabTo('Step', '.card.last');
     await page.key('Enter');
     await page.until(`${cardsAre(2)} && ${drawn}`);
     await tabTo('A', '.card.last');
     await page.key(' ');
     await tabTo('C', '.card.last');
-    tally.check('a label with the focus is explained', (await page.until(`!document.querySelector('#tip').hidden && document.querySelector('#tip').textContent`)).includes('[MO]'));
+    checks.check('a label with the focus is explained',
+        (await page.until(`!document.querySelector('#tip').hidden && document.querySelector('#tip').textContent`)).includes('[MO]'));
     await page.key(' ');
     await tabTo('Merge into C', '.card.last');
     await page.key('Enter');
     await page.until(`${cardsAre(3)} && ${drawn}`);
     const line = await page.until(`document.querySelector('#verdict-line')?.textContent`);
-    tally.equal('the merge is judged', answer(['check'], await page.value('bench.claim.verdict.certificate')).trim(), line);
+    checks.equal('the merge is judged', answer(['check'], await page.value('bench.claim.verdict.certificate')).trim(), line);
     await page.key('z', {modifiers: 2});
     await page.until(cardsAre(2));
     await page.key('k');
     await page.key('k');
-    tally.check('k goes up', await page.value(`document.activeElement === document.querySelector('.card')`));
+    checks.check('k goes up', await page.value(`document.activeElement === document.querySelector('.card')`));
     await page.key('j');
     await tabTo('More', '.card.last');
     await page.key('Enter');
     await page.key('Tab');
-    tally.equal('into the menu', await page.value(at), 'Copy, one configuration a line');
+    checks.equal('into the menu', await page.value(at), 'Copy, one configuration a line');
     await page.key('Escape');
-    tally.equal('and out of it', await page.value(at), 'More');
+    checks.equal('and out of it', await page.value(at), 'More');
     await tabTo('Certificate');
     await page.key('Enter');
     await page.until('document.querySelector("dialog")');
-    tally.equal('in the window', await page.value(at), 'Copy');
+    checks.equal('in the window', await page.value(at), 'Copy');
     for (let i = 0; i < 8; i++) await page.key('Tab');
-    tally.check('the window keeps the focus', await page.value(`document.activeElement === document.body || Boolean(document.activeElement.closest('dialog'))`));
+    checks.check('the window keeps the focus',
+        await page.value(`document.activeElement === document.body || Boolean(document.activeElement.closest('dialog'))`));
     await page.key('Escape');
     await page.until('!document.querySelector("dialog")');
-    tally.equal('and gives it back', await page.value(at), 'Certificate');
+    checks.equal('and gives it back', await page.value(at), 'Certificate');
     await page.value(`document.querySelector('.card.last').focus()`);
-    await tabTo('K, the number of steps', '.card.last');
+    await tabTo('lower: K, the number of steps', '.card.last');
     await page.write('8');
     await page.key('Tab');
     await page.write('2');
-    await tabTo('lower', '.card.last');
+    await page.key('Tab', {modifiers: 8});
+    await page.key('Tab', {modifiers: 8});
+    checks.equal('its button stands before its numbers', await page.value(at), 'lower');
     await page.key('Enter');
     await page.until(`!document.querySelector('#jobs').hidden`);
     await tabTo('stop lower 8 2 from problem 1');
@@ -158,7 +200,8 @@ async function keyboard(page) {
     await page.until(`document.querySelector('#jobs').hidden`);
 }
 const page = await openBrowser();
-await tally.run('keyboard', () => keyboard(page));
-tally.equal('no fault in the console', page.faults(), []);
+await checked('the keyboard alone', async checks => {
+    await keyboard(page, checks);
+    checks.equal('no fault in the console', page.faults(), []);
+});
 await page.close();
-tally.end();

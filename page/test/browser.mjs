@@ -18,10 +18,14 @@ function connect(child) {
         rest += data.toString();
         for (let end; (end = rest.indexOf('\0')) >= 0; rest = rest.slice(end + 1)) {
             const message = JSON.parse(rest.slice(0, end));
-            if (!message.id) { events.push(message); continue; }
+            if (!message.id) {
+                events.push(message);
+                continue;
+            }
             const {resolve, reject} = waiting.get(message.id);
             waiting.delete(message.id);
-            if (message.error) reject(new Error(message.error.message)); else resolve(message.result);
+            if (message.error) reject(new Error(message.error.message));
+            else resolve(message.result);
         }
     });
     const send = (method, params = {}, sessionId) => new Promise((resolve, reject) => {
@@ -33,10 +37,15 @@ function connect(child) {
 
 export async function openBrowser({width = 1366, height = 768, dark = false} = {}) {
     const profile = mkdtempSync(join(tmpdir(), 'page-profile-'));
-    const child = spawn('chromium', ['--headless=new', '--no-sandbox', '--disable-gpu', '--remote-debugging-pipe', `--user-data-dir=${profile}`, `--window-size=${width},${height}`, '--hide-scrollbars', 'about:blank'],
+    const child = spawn('chromium',
+        [
+            '--headless=new', '--no-sandbox', '--disable-gpu', '--remote-debugging-pipe', `--user-data-dir=${profile}`,
+            `--window-size=${width},${height}`, '--hide-scrollbars', 'about:blank'
+        ],
         {stdio: ['ignore', 'ignore', 'ignore', 'pipe', 'pipe']});
     const {send, events} = connect(child), {targetInfos} = await send('Target.getTargets');
-    const {sessionId} = await send('Target.attachToTarget', {targetId: targetInfos.find(info => info.type === 'page').targetId, flatten: true});
+    const {sessionId} =
+        await send('Target.attachToTarget', {targetId: targetInfos.find(info => info.type === 'page').targetId, flatten: true});
     const ask = (method, params) => send(method, params, sessionId);
     for (const domain of ['Page', 'Runtime', 'Log', 'Network']) await ask(`${domain}.enable`);
     await ask('Emulation.setDeviceMetricsOverride', {width, height, deviceScaleFactor: 1, mobile: false});
@@ -49,7 +58,18 @@ export async function openBrowser({width = 1366, height = 768, dark = false} = {
 }
 
 // Keys that write nothing.
-const CODES = {Escape: 27, Enter: 13, Tab: 9, ' ': 32, ArrowDown: 40, ArrowUp: 38, ArrowLeft: 37, ArrowRight: 39};
+const CODES = {
+    Escape: 27,
+    Enter: 13,
+    Tab: 9,
+    ' ': 32,
+    ArrowDown: 40,
+    ArrowUp: 38,
+    ArrowLeft: 37,
+    ArrowRight: 39
+};
+
+const codeOf = key => key === ' ' ? 'Space' : /^[a-z]$/i.test(key) ? `Key${key.toUpperCase()}` : key;
 
 class Page {
     constructor(ask, events, close) { Object.assign(this, {ask, events, close}); }
@@ -69,7 +89,12 @@ class Page {
     // Waits until an expression holds, and answers its value.
     async until(expression, limit = PATIENCE) {
         for (const end = Date.now() + limit; Date.now() < end; await wait(40)) {
-            try { const value = await this.value(expression); if (value) return value; } catch (error) { if (!/navigat|context/i.test(error.message)) throw error; }
+            try {
+                const value = await this.value(expression);
+                if (value) return value;
+            } catch (error) {
+                if (!/navigat|context/i.test(error.message)) throw error;
+            }
         }
         throw new Error(`never: ${expression}`);
     }
@@ -77,13 +102,14 @@ class Page {
     // The middle of an element, once it rests there and nothing covers it; `says` picks among several by what they say.
     async place(selector, says = '') {
         const find = `(() => {
-            const node = [...document.querySelectorAll(${text(selector)})].find(node => node.textContent.includes(${text(says)}) && !node.disabled && node.getClientRects().length);
+            const node = [...document.querySelectorAll(${text(selector)})].find(node => node.textContent.includes(${
+            text(says)}) && !node.disabled && node.getClientRects().length);
             if (!node) return null;
             node.scrollIntoView({block: 'center', inline: 'nearest', behavior: 'instant'});
             const box = node.getBoundingClientRect(), at = {x: box.x + box.width / 2, y: box.y + box.height / 2}, top = document.elementFromPoint(at.x, at.y);
             return top && (node.contains(top) || top.contains(node) || node.parentNode.contains(top)) ? at : null;
         })()`;
-        for (let before = null, i = 0; ; before = await this.until(find), await wait(60)) {
+        for (let before = null, i = 0;; before = await this.until(find), await wait(60)) {
             const now = await this.until(find);
             if (before && now.x === before.x && now.y === before.y || ++i > 50) return now;
         }
@@ -106,36 +132,53 @@ class Page {
     }
 
     async fill(selector, written, at = 0) {
-        await this.value(`(() => { const node = document.querySelectorAll(${text(selector)})[${at}]; node.scrollIntoView({block: 'center', behavior: 'instant'}); node.focus(); })()`);
+        await this.value(`(() => { const node = document.querySelectorAll(${text(selector)})[${
+            at}]; node.scrollIntoView({block: 'center', behavior: 'instant'}); node.focus(); })()`);
         await this.write(written);
     }
 
     async key(key, {modifiers = 0, code = CODES[key]} = {}) {
         const shown = key === 'Enter' ? '\r' : key.length === 1 ? key : undefined;
         for (const type of ['keyDown', 'keyUp']) {
-            await this.ask('Input.dispatchKeyEvent', {type, key, modifiers, text: type === 'keyDown' && !modifiers ? shown : undefined,
-                code: /^[a-z]$/i.test(key) ? `Key${key.toUpperCase()}` : key === ' ' ? 'Space' : key, windowsVirtualKeyCode: code ?? key.toUpperCase().charCodeAt(0)});
+            await this.ask('Input.dispatchKeyEvent', {
+                type,
+                key,
+                modifiers,
+                text: type === 'keyDown' && !modifiers ? shown : undefined,
+                code: codeOf(key),
+                windowsVirtualKeyCode: code ?? key.toUpperCase().charCodeAt(0)
+            });
         }
     }
 
     // Chooses in a list by the text of an option.
     async choose(selector, option) {
-        await this.value(`(() => { const list = document.querySelector(${text(selector)}); list.focus(); list.value = [...list.options].find(option => option.textContent === ${text(option)}).value; list.dispatchEvent(new Event('change', {bubbles: true})); })()`);
+        await this.value(`(() => { const list = document.querySelector(${
+            text(selector)}); list.focus(); list.value = [...list.options].find(option => option.textContent === ${
+            text(option)}).value; list.dispatchEvent(new Event('change', {bubbles: true})); })()`);
     }
 
     async picture(file, clip) {
-        const {data} = await this.ask('Page.captureScreenshot', {format: 'png', captureBeyondViewport: false, ...clip && {clip: {...clip, scale: 1}}});
+        const {data} = await this.ask(
+            'Page.captureScreenshot', {format: 'png', captureBeyondViewport: false, ...clip && { clip: {...clip, scale: 1} }});
         writeFileSync(file, Buffer.from(data, 'base64'));
     }
 
     // What the console and the network say of faults.
     faults() {
         const isFault = {
-            'Runtime.exceptionThrown': () => true, 'Log.entryAdded': ({entry}) => entry.level === 'error', 'Runtime.consoleAPICalled': ({type}) => type === 'error',
+            'Runtime.exceptionThrown': () => true,
+            'Log.entryAdded': ({entry}) => entry.level === 'error',
+            'Runtime.consoleAPICalled': ({type}) => type === 'error',
         };
-        return this.events.filter(({method, params}) => isFault[method]?.(params)).map(({params}) => params.exceptionDetails?.exception?.description || params.entry?.text || JSON.stringify(params.args));
+        return this.events.filter(({method, params}) => isFault[method]?.(params))
+            .map(({params}) => params.exceptionDetails?.exception?.description || params.entry?.text || JSON.stringify(params.args));
     }
 
     // Addresses that were asked for, but for the page itself and what it makes.
-    requests() { return this.events.filter(({method}) => method === 'Network.requestWillBeSent').map(({params}) => params.request.url).filter(url => !/^(file:|blob:|data:|about:)/.test(url)); }
+    requests() {
+        return this.events.filter(({method}) => method === 'Network.requestWillBeSent')
+            .map(({params}) => params.request.url)
+            .filter(url => !/^(file:|blob:|data:|about:)/.test(url));
+    }
 }

@@ -5,11 +5,12 @@ import {rm} from 'fs/promises';
 import {tmpdir} from 'os';
 import {join} from 'path';
 import {wait} from './browser.mjs';
-import {answer, pageFile} from './place.mjs';
-import {Tally} from './tally.mjs';
+import {checked} from './checks.mjs';
+import {answer, example, natively, pageFile} from './place.mjs';
 
-const PORT = 9339, tally = new Tally('firefox'), profile = mkdtempSync(join(tmpdir(), 'page-firefox-'));
-const child = spawn('firefox-esr', ['--headless', `--remote-debugging-port=${PORT}`, '--profile', profile, '--no-remote'], {stdio: 'ignore', env: {...process.env, HOME: profile}});
+const PORT = 9339, profile = mkdtempSync(join(tmpdir(), 'page-firefox-'));
+const child = spawn('firefox-esr', ['--headless', `--remote-debugging-port=${PORT}`, '--profile', profile, '--no-remote'],
+    {stdio: 'ignore', env: {...process.env, HOME: profile}});
 
 async function connect() {
     for (let i = 0; i < 200; i++) {
@@ -27,7 +28,11 @@ async function connect() {
 async function drive(socket) {
     let count = 0;
     const waiting = new Map();
-    socket.onmessage = ({data}) => { const message = JSON.parse(data); waiting.get(message.id)?.(message); waiting.delete(message.id); };
+    socket.onmessage = ({data}) => {
+        const message = JSON.parse(data);
+        waiting.get(message.id)?.(message);
+        waiting.delete(message.id);
+    };
     const send = (method, params) => new Promise((resolve, reject) => {
         waiting.set(++count, message => message.type === 'error' ? reject(new Error(message.message)) : resolve(message.result));
         socket.send(JSON.stringify({id: count, method, params}));
@@ -40,44 +45,85 @@ async function drive(socket) {
         return found.result.value;
     };
     const until = async expression => {
-        for (let i = 0; i < 600; i++, await wait(100)) { const found = await value(expression).catch(() => null); if (found) return found; }
+        for (let i = 0; i < 600; i++, await wait(100)) {
+            const found = await value(expression).catch(() => null);
+            if (found) return found;
+        }
         throw new Error(`never: ${expression}`);
     };
-    return {value, until, go: url => send('browsingContext.navigate', {context, url, wait: 'complete'}), reload: () => send('browsingContext.reload', {context, wait: 'complete'})};
+    return {
+        value,
+        until,
+        go: url => send('browsingContext.navigate', {context, url, wait: 'complete'}),
+        reload: () => send('browsingContext.reload', {context, wait: 'complete'})
+    };
 }
 
 const ready = `document.body.classList.contains('ready')`, cardsAre = n => `document.querySelectorAll('.card').length === ${n}`;
 const click = selector => `document.querySelector('${selector}').click()`;
 
-async function session({value, until, go, reload}) {
+async function session(checks, {value, until, go, reload}) {
     await go(`file://${pageFile}`);
     await until(ready);
     await value(`bench.editor.set('M^3\\nP O^2', 'M [PO]\\nO^2')`);
     await until(`!document.querySelector('#editor > .group button').disabled`);
     await value(click('#editor > .group button'));
-    for (const n of [1, 2, 3]) { await until(cardsAre(n)); await value(click('.card.last .actions button')); }
+    for (const n of [1, 2, 3]) {
+        await until(`${cardsAre(n)} && Boolean(document.querySelector('.card.last .actions button'))`);
+        await value(click('.card.last .actions button'));
+    }
     const line = 'accepted: not solvable in 3 or fewer rounds';
-    await until(`document.querySelector('#verdict-line')?.textContent === '${line}' && document.querySelectorAll('.card.last svg.diagram').length === 2`);
-    tally.equal('native check', answer(['check'], await value('bench.claim.verdict.certificate')).trim(), line);
-    const search = () => value(`(() => { const [k, m] = document.querySelectorAll('.card.last .search input'); k.value = 8; m.value = 2; ${click('.card.last .search button')}; })()`);
+    await until(`document.querySelector('#verdict-line')?.textContent === '${
+        line}' && document.querySelectorAll('.card.last svg.diagram').length === 2`);
+    checks.equal('native check', answer(['check'], await value('bench.claim.verdict.certificate')).trim(), line);
+    const search = () => value(
+        `(() => { const [k, m] = document.querySelectorAll('.card.last .search input'); k.value = 8; m.value = 2; for (const input of [k, m]) input.dispatchEvent(new Event('input')); ${
+            click('.card.last .search button')}; })()`);
     await search();
     await until(`!document.querySelector('#jobs').hidden`);
     await value(click('#jobs button'));
-    tally.check('stopped', (await until(`document.querySelector('.card.last .note')?.textContent`)).includes('stopped'));
+    checks.check('stopped', (await until(`document.querySelector('.card.last .note')?.textContent`)).includes('stopped'));
     await search();
     await until(`[...engine.running].some(job => job.title.startsWith('lower 8 2') && performance.now() - job.started > 1000)`);
     await value(`[...engine.running].find(job => job.title.startsWith('lower 8 2')).worker.terminate()`);
-    tally.check('a worker that ends', (await until(`document.querySelectorAll('.card.last .note').length === 2 && document.querySelector('.card.last .note').textContent`)).includes('the browser ended its worker'));
+    checks.check('a worker that ends',
+        (await until(
+             `document.querySelectorAll('.card.last .note').length === 2 && document.querySelector('.card.last .note').textContent`))
+            .includes('the browser ended its worker'));
     await until('location.hash.length > 100');
     await reload();
-    tally.check('a reload', await until(`${ready} && ${cardsAre(4)}`));
+    checks.check('a reload', await until(`${ready} && ${cardsAre(4)}`));
+    await inAndOut(checks, {value, until});
+}
+
+// A text that is pasted, a file that is dropped, what is given, and the report.
+async function inAndOut(checks, {value, until}) {
+    const fixed = example('sinkless-fixed.txt'), never = 'accepted: not solvable in any number of rounds';
+    // Firefox makes no events that hold data, so it is given to plain ones.
+    const put = (event, holder, fill) => value(`(() => { const data = new DataTransfer(); ${fill};
+        const event = Object.defineProperty(new Event('${event}', {bubbles: true, cancelable: true}), '${holder}', {value: data});
+        document.querySelector('#chain').dispatchEvent(event); })()`);
+    await put('paste', 'clipboardData', `data.setData('text/plain', ${JSON.stringify(fixed)})`);
+    await until(`document.querySelector('#verdict-line')?.textContent === '${never}'`);
+    await put('drop', 'dataTransfer', `data.items.add(new File([${JSON.stringify(fixed)}], 'my bound.txt', {type: 'text/plain'}))`);
+    await until(`document.title === 'my bound – re workbench' && document.querySelector('#verdict-line')?.textContent === '${never}'`);
+    await value(
+        `(() => { const list = document.querySelector('#given-kind'); list.value = 'colouring'; list.dispatchEvent(new Event('change')); })()`);
+    const line = await until(`document.querySelector('#given-line .line')?.textContent`),
+          input = answer(['family', 'colouring', '3', '2', '4']);
+    checks.equal('what is given', line,
+        natively('explore', ['given'], `${await value('bench.claim.verdict.certificate')}== given\n${input}`).text.split('\n', 1)[0]);
+    await value(click('#report'));
+    checks.equal('the report', await until(`document.querySelector('#report-box pre')?.textContent`), never);
 }
 
 let socket = null;
-await tally.run('firefox', async () => { socket = await connect(); await session(await drive(socket)); });
+await checked('steps, a search that is stopped, a worker that ends, a reload', async checks => {
+    socket = await connect();
+    await session(checks, await drive(socket));
+});
 socket?.close();
 const ended = new Promise(resolve => child.on('exit', resolve));
 child.kill();
 await ended;
 await rm(profile, {recursive: true, force: true, maxRetries: 20, retryDelay: 100}).catch(() => {});
-tally.end();

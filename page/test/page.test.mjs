@@ -1,14 +1,22 @@
-// A user in a headless Chromium, with real clicks and keys. `ONLY=word` picks sessions. `PICTURES=folder` keeps the pictures for the pages.
+// A user in a headless Chromium, with real clicks and keys. `node --test-name-pattern=WORDS page.test.mjs` picks sessions.
+// `PICTURES=folder` keeps the pictures for the pages, and `SHOW=file` one of the page where a session failed.
 import {mkdirSync} from 'fs';
 import {join} from 'path';
 import {openBrowser, wait} from './browser.mjs';
-import {Tally} from './tally.mjs';
+import {checked} from './checks.mjs';
 import {User} from './user.mjs';
-import {tenSessions} from './ten_sessions.mjs';
-import {moreSessions} from './more_sessions.mjs';
-import {robustness} from './robustness.mjs';
+import {boundsSessions} from './user/bounds.mjs';
+import {changesSessions} from './user/changes.mjs';
+import {failuresSessions} from './user/failures.mjs';
+import {givenSessions} from './user/given.mjs';
+import {inAndOutSessions} from './user/in_and_out.mjs';
+import {placesSessions} from './user/places.mjs';
+import {problemsSessions} from './user/problems.mjs';
+import {searchingSessions} from './user/searching.mjs';
+import {sessionsSessions} from './user/sessions.mjs';
+import {settlingSessions} from './user/settling.mjs';
 
-const tally = new Tally('page'), page = await openBrowser({height: 900}), user = new User(page, tally);
+const page = await openBrowser({height: 900}), user = new User(page, null);
 const pictures = process.env.PICTURES;
 if (pictures) mkdirSync(pictures, {recursive: true});
 // A picture of some elements of the page, with a margin; none: of all that is seen.
@@ -18,27 +26,45 @@ const picture = async (name, ...selectors) => {
     await page.mouse('mouseMoved', {x: 2, y: 2});
     await page.value(`document.querySelector('#message').className = ''`);
     await wait(400);
-    if (!selectors.length) { await page.picture(join(pictures, `${name}.png`)); return; }
+    if (!selectors.length) {
+        await page.picture(join(pictures, `${name}.png`));
+        return;
+    }
     const box = await page.value(`(() => {
-        const boxes = ${JSON.stringify(selectors)}.flatMap(selector => [...document.querySelectorAll(selector)].map(node => node.getBoundingClientRect()));
+        const boxes = ${
+        JSON.stringify(selectors)}.flatMap(selector => [...document.querySelectorAll(selector)].map(node => node.getBoundingClientRect()));
         const [left, top] = [Math.min(...boxes.map(box => box.left)) - 8, Math.min(...boxes.map(box => box.top)) - 8];
         return {x: left + scrollX, y: top + scrollY, width: Math.max(...boxes.map(box => box.right)) + 8 - left, height: Math.max(...boxes.map(box => box.bottom)) + 8 - top};
     })()`);
     await page.picture(join(pictures, `${name}.png`), box);
 };
 
-const sessions = {...tenSessions, ...moreSessions, ...robustness};
-let ended = 0;
+const sessions = {
+    ...boundsSessions,
+    ...changesSessions,
+    ...failuresSessions,
+    ...givenSessions,
+    ...inAndOutSessions,
+    ...placesSessions,
+    ...problemsSessions,
+    ...searchingSessions,
+    ...sessionsSessions,
+    ...settlingSessions
+};
 for (const [name, session] of Object.entries(sessions)) {
-    if (process.env.ONLY && !name.includes(process.env.ONLY)) continue;
-    const {failed} = tally, started = Date.now();
-    await tally.run(name, async () => { await page.go(); await session(user, page, tally, picture); });
-    if (tally.failed > failed && process.env.SHOW) await page.picture(process.env.SHOW);
-    if (process.env.VERBOSE) console.log(`${tally.failed > failed ? 'FAILED' : 'ok'} ${name}, ${((Date.now() - started) / 1000).toFixed(1)} s`);
-    ended++;
+    await checked(name, async checks => {
+        user.checks = checks;
+        try {
+            await page.go();
+            await session(user, page, checks, picture);
+        } catch (error) {
+            if (process.env.SHOW) await page.picture(process.env.SHOW);
+            throw error;
+        }
+    });
 }
-tally.equal('no fault in the console', page.faults(), []);
-tally.equal('nothing was asked of the network', page.requests(), []);
-tally.note(`${ended} sessions`);
+await checked('no fault in the console, and nothing asked of the network', checks => {
+    checks.equal('faults', page.faults(), []);
+    checks.equal('requests', page.requests(), []);
+});
 await page.close();
-tally.end();

@@ -1,21 +1,19 @@
 // Where things stand: the page, the examples, the native program, and what the page holds.
 import {spawnSync} from 'child_process';
 import {readdirSync, readFileSync} from 'fs';
-import {dirname, join} from 'path';
-import {fileURLToPath} from 'url';
-import {inflateRawSync} from 'zlib';
+import {join} from 'path';
+import {html, pageFolder, programsIn, unpacked} from '../held.mjs';
 
-export const pageFolder = join(dirname(fileURLToPath(import.meta.url)), '..');
-export const pageFile = join(pageFolder, 'workbench.html');
+export {html, pageFile, pageFolder} from '../held.mjs';
 export const examples = join(pageFolder, '../examples');
 // The programs, built for this machine.
-const NATIVE = {re: process.env.RE || 're', explore: process.env.EXPLORE || 'explore'};
+export const NATIVE = {
+    re: process.env.RE || 're',
+    explore: process.env.EXPLORE || 'explore'
+};
 
-export const html = () => readFileSync(pageFile, 'utf8');
-const inside = id => new RegExp(`<script [^>]*id="${id}">([^]*?)</script>`).exec(html())[1];
-const programsHeld = () => JSON.parse(inside('programs'));
-export const namesOfPrograms = () => Object.keys(programsHeld());
-export const wasmOf = name => inflateRawSync(Buffer.from(programsHeld()[name], 'base64'));
+export const namesOfPrograms = () => Object.keys(programsIn(html()));
+export const wasmOf = name => unpacked(programsIn(html())[name]);
 
 // What a program of this machine answers: {status, text}.
 export function natively(program, words, input = '') {
@@ -33,5 +31,8 @@ export const namesIn = folder => readdirSync(join(examples, folder)).filter(name
 // Numbers from a seed, the same ones each time: random(n) is below n.
 export function randomFrom(seed) {
     let state = seed;
-    return n => { state = (state * 1103515245 + 12345) & 0x7fffffff; return (state >> 8) % n; };
+    return n => {
+        state = (state * 1103515245 + 12345) & 0x7fffffff;
+        return (state >> 8) % n;
+    };
 }

@@ -5,110 +5,274 @@ import * as groups from '../src/groups.js';
 import * as certificates from '../src/certificates.js';
 import * as chains from '../src/chains.js';
 import * as sessions from '../src/sessions.js';
+import {catalogueLine, catalogueText, tableName} from '../src/catalogue.js';
+import {graphPlaces, isGraphText, readGraph, readSolution} from '../src/graphs.js';
+import {inputCommand, readFit, readGiven} from '../src/inputs.js';
 import {findRelaxation, findRenaming} from '../src/maps.js';
+import {blocksOfReport, latexOfReport, partsOfText, roundsOfGraph} from '../src/reports.js';
+import {commandsIn, readSettled} from '../src/settled.js';
 import {wordsIn} from '../src/words.js';
 import {deliveriesOf, randomFrom, readRun, runInput, treeAround} from '../src/trees.js';
-import {answer, example, namesIn, re} from './place.mjs';
-import {Tally} from './tally.mjs';
+import {checked} from './checks.mjs';
+import {answer, example, namesIn, natively, re} from './place.mjs';
 
-const tally = new Tally('texts'), is = (what, found, wanted) => tally.equal(what, found, wanted);
+// The test that runs.
+let checks = null;
+const is = (what, found, wanted) => checks.equal(what, found, wanted), about = (name, run) => checked(name, now => {
+    checks = now;
+    return run();
+});
 const filled = text => texts.filledLines(text);
 
-is('brackets', texts.bracketed('M PO\nO O'), 'M [PO]\nO O');
-is('brackets of long names', texts.bracketed('(IN)O^2 [AB] A^3'), '[(IN)O]^2 [AB] A^3');
-is('no brackets to add', [texts.bracketed('M [PO]'), texts.bracketed('%3')], [null, null]);
-is('places', texts.placesOf('A [B(CD)]^2'), [['A'], ['B', '(CD)'], ['B', '(CD)']]);
-is('no items', texts.itemsOf('A PO'), null);
-is('labels', texts.labelsIn('(A) (AB) C'), ['A', '(AB)', 'C']);
-is('a configuration', texts.configText(['(a)', 'B', 'B', 'A'].map(texts.labelOf)), 'A B^2 a');
-is('LaTeX', texts.latexOf({active: ['A [B(c_d)]^2'], passive: []}).includes('\\mathsf{A}\\,[\\mathsf{B}\\mathsf{c\\_d}]^{2}'), true);
+await about('notation', () => {
+    is('brackets', texts.bracketed('M PO\nO O'), 'M [PO]\nO O');
+    is('brackets of long names', texts.bracketed('(IN)O^2 [AB] A^3'), '[(IN)O]^2 [AB] A^3');
+    is('no brackets to add', [texts.bracketed('M [PO]'), texts.bracketed('%3')], [null, null]);
+    is('places', texts.placesOf('A [B(CD)]^2'), [['A'], ['B', '(CD)'], ['B', '(CD)']]);
+    is('no items', texts.itemsOf('A PO'), null);
+    is('labels', texts.labelsIn('(A) (AB) C'), ['A', '(AB)', 'C']);
+    is('a configuration', texts.configText(['(a)', 'B', 'B', 'A'].map(texts.labelOf)), 'A B^2 a');
+    is('LaTeX', texts.latexOf({active: ['A [B(c_d)]^2'], passive: []}).includes('\\mathsf{A}\\,[\\mathsf{B}\\mathsf{c\\_d}]^{2}'), true);
+});
 
 // All problems of the examples and what the program derives of them.
-const firsts = [...namesIn('problems').filter(name => !name.startsWith('without')).map(name => `problems/${name}`), 'independent.txt', 'sinkless.txt'].map(name => answer(['read'], example(name)));
-const canonical = [...firsts, answer(['family', 'colouring', '3', '3', '3']), answer(['read'], 'A B\n\n%3\n'), answer(['read'], '%2\n\nA^3\n')];
-for (const first of firsts) for (const n of ['1', '2', '3']) { const {status, text} = re(['step', n], first); if (status === 0) canonical.push(certificates.readStep(text).problem); }
-
-for (const text of canonical) {
-    const {labels, active, passive} = problems.describe(text), [first, second] = text.split('\n\n');
-    const count = block => block.startsWith('%') ? 0 : filled(block).length;
-    is('numbers of configurations', [active.count, passive.count], [count(first), count(second)]);
-    is('labels of a problem', labels, texts.sortedSet(problems.SIDES.flatMap(side => problems.configsOf(text, side)).flat()));
-    is('degrees', problems.SIDES.map(side => problems.configsOf(text, side)[0]?.length ?? problems.describe(text)[side].degree), [active.degree, passive.degree]);
-    is('exchanged twice', problems.exchanged(problems.exchanged(text)), text);
-    is('sides', problems.problemText(problems.describe(text), ...problems.SIDES.map(side => problems.blockOf(filled(problems.sideText(text, side))))), text);
-    const starts = problems.lineStarts(text);
-    is('lines', [...starts.slice(0, -1)].map((start, i) => text.slice(start, starts[i + 1] - 1)), text.split('\n'));
-    // Groups spell the same problem, by either rule.
-    const {active: a, passive: p} = groups.grouped(text);
-    is('groups', answer(['read'], problems.problemText({active, passive}, a, p)), text);
-    for (const side of problems.SIDES) {
-        const rows = re(['universal'], groups.textWithRowsOf(text, side)), few = rows.status === 0 && rows.text.trim() ? groups.coveringLines(text, side, rows.text) : null;
-        if (few) is('a few rows', answer(['read'], problems.problemText({active, passive}, ...problems.SIDES.map(which => problems.blockOf(which === side ? few : filled(problems.sideText(text, which)))))), text);
+const firsts = [
+    ...namesIn('problems').filter(name => !name.startsWith('without')).map(name => `problems/${name}`), 'independent.txt', 'sinkless.txt'
+].map(name => answer(['read'], example(name)));
+const canonical =
+    [...firsts, answer(['family', 'colouring', '3', '3', '3']), answer(['read'], 'A B\n\n%3\n'), answer(['read'], '%2\n\nA^3\n')];
+for (const first of firsts)
+    for (const n of ['1', '2', '3']) {
+        const {status, text} = re(['step', n], first);
+        if (status === 0) canonical.push(certificates.readStep(text).problem);
     }
-}
-const lines = problems.mappedLines({active: ['A [BC]^2', 'B A^2'], passive: []}, [['A', 'B'], ['B', 'B'], ['C', 'C']]);
-is('a map of lines as written', lines, {active: ['B [BC]^2', 'B^3'], passive: []});
 
-// Certificates: what is read of a chain and written again is the same text.
-for (const name of namesIn('gallery')) {
-    const text = example(`gallery/${name}`), bound = certificates.readCertificate(text), side = bound.kind === 'upper' ? 'upper' : 'lower';
-    const path = [{kind: 'first', problem: bound.first, side}, ...bound.steps.map(step => ({kind: 'given', side, ...step, isByRows: bound.version === 2}))];
-    if (bound.kind === 'fixed') path.at(-1).back = {number: bound.back, pairs: bound.pairs};
-    is(`${name} comes back`, chains.certificateOf(path, bound.kind, card => card.problem), text);
-}
-is('a certificate before a tree', certificates.certificateAlone(example('orientation-run.txt')), example('orientation-upper.txt'));
-for (const name of ['sinkless-orientation-3', 'maximal-independent-set-3-lower', 'three-colouring-3']) {
-    const given = example(`gallery/${name}.txt`), bound = certificates.readCertificate(given);
-    const steps = bound.steps.map(step => ({problem: step.problem, rows: step.rows, images: certificates.imagesOf({rows: step.rows, entries: certificates.lowerEntries(step.map)})}));
-    const text = certificates.writeCertificate({...bound, steps});
-    is(`${name} by rows`, [text.startsWith('== certificate 2'), answer(['check'], text)], [true, answer(['check'], given)]);
-}
+await about('problems', () => {
+    for (const text of canonical) {
+        const {labels, active, passive} = problems.describe(text), [first, second] = text.split('\n\n');
+        const count = block => block.startsWith('%') ? 0 : filled(block).length;
+        is('numbers of configurations', [active.count, passive.count], [count(first), count(second)]);
+        is('labels of a problem', labels, texts.sortedSet(problems.SIDES.flatMap(side => problems.configsOf(text, side)).flat()));
+        is('degrees', problems.SIDES.map(side => problems.configsOf(text, side)[0]?.length ?? problems.describe(text)[side].degree),
+            [active.degree, passive.degree]);
+        is('exchanged twice', problems.exchanged(problems.exchanged(text)), text);
+        is('sides',
+            problems.problemText(
+                problems.describe(text), ...problems.SIDES.map(side => problems.blockOf(filled(problems.sideText(text, side))))),
+            text);
+        const starts = problems.lineStarts(text);
+        is('lines', [...starts.slice(0, -1)].map((start, i) => text.slice(start, starts[i + 1] - 1)), text.split('\n'));
+        // Groups spell the same problem, by either rule.
+        const {active: a, passive: p} = groups.grouped(text);
+        is('groups', answer(['read'], problems.problemText({active, passive}, a, p)), text);
+        for (const side of problems.SIDES) {
+            const rows = re(['universal'], groups.textWithRowsOf(text, side)),
+                  few = rows.status === 0 && rows.text.trim() ? groups.coveringLines(text, side, rows.text) : null;
+            if (few)
+                is('a few rows',
+                    answer(['read'],
+                        problems.problemText({active, passive},
+                            ...problems.SIDES.map(
+                                which => problems.blockOf(which === side ? few : filled(problems.sideText(text, which)))))),
+                    text);
+        }
+    }
+    const lines = problems.mappedLines({active: ['A [BC]^2', 'B A^2'], passive: []}, [['A', 'B'], ['B', 'B'], ['C', 'C']]);
+    is('a map of lines as written', lines, {active: ['B [BC]^2', 'B^3'], passive: []});
+});
 
-// Maps of labels that are found, judged by the program; changes are those that the program knows.
-for (const [i, text] of canonical.entries()) {
-    const {labels} = problems.describe(text), names = labels.map((_, k) => `(n${(k * 7 + 3) % labels.length})`);
-    if (new Set(names).size !== labels.length || labels.length > 20) continue;
-    const other = answer(['read'], problems.mapped(text, labels.map((label, k) => [label, names[k]]))), pairs = findRenaming(text, other);
-    is('a renaming', pairs && answer(['rename'], certificates.mapInput(text, other, certificates.pairLines(pairs))), 'yes\n');
-    if (labels.length < 2 || i > 20) continue;
-    // Merging two labels gives a relaxation, so a map is found.
-    const [x, y] = labels, merged = answer(['read'], problems.mapped(text, [[y, x]])), map = findRelaxation(text, merged);
-    is('a relaxation', map && answer(['relax'], certificates.mapInput(text, merged, certificates.pairLines(map))), 'yes\n');
-    const more = answer(['read'], problems.withArrow(text, 'passive', x, y));
-    is('an arrow relaxes', answer(['relax'], certificates.mapInput(text, more, labels.map(label => `${label} ${label}`))), 'yes\n');
-    is('an arrow is there', answer(['diagram', 'passive'], more).split('\n').some(line => line.startsWith('class') && line.split(' ').includes(x) && line.split(' ').includes(y)) || answer(['trim'], more) !== null, true);
-}
-is('no renaming', findRenaming(canonical[0], canonical[1]), null);
+await about('certificates', () => {
+    // Certificates: what is read of a chain and written again is the same text.
+    for (const name of namesIn('gallery')) {
+        const text = example(`gallery/${name}`), bound = certificates.readCertificate(text),
+              side = bound.kind === 'upper' ? 'upper' : 'lower';
+        const path = [
+            {kind: 'first', problem: bound.first, side},
+            ...bound.steps.map(step => ({kind: 'given', side, ...step, isByRows: bound.version === 2}))
+        ];
+        if (bound.kind === 'fixed') path.at(-1).back = {number: bound.back, pairs: bound.pairs};
+        is(`${name} comes back`, chains.certificateOf(path, bound.kind, card => card.problem), text);
+    }
+    is('a certificate before a tree', certificates.certificateAlone(example('orientation-run.txt')), example('orientation-upper.txt'));
+    for (const name of ['sinkless-orientation-3', 'maximal-independent-set-3-lower', 'three-colouring-3']) {
+        const given = example(`gallery/${name}.txt`), bound = certificates.readCertificate(given);
+        const steps = bound.steps.map(step => ({
+            problem: step.problem,
+            rows: step.rows,
+            images: certificates.imagesOf({rows: step.rows, entries: certificates.lowerEntries(step.map)})
+        }));
+        const text = certificates.writeCertificate({...bound, steps});
+        is(`${name} by rows`, [text.startsWith('== certificate 2'), answer(['check'], text)], [true, answer(['check'], given)]);
+    }
+});
 
-// A tree on which an upper bound runs.
-for (const name of ['orientation-3-upper', 'proposals-3-upper', 'maximal-matching-3-upper']) {
-    const text = example(`gallery/${name}.txt`), bound = certificates.readCertificate(text), first = answer(['read'], bound.first), {active, passive} = problems.describe(first);
-    const nodes = treeAround({active: active.degree, passive: passive.degree}, bound.steps.length + 1, randomFrom(1));
-    const standing = readRun(answer(['run'], runInput(text, nodes, deliveriesOf(nodes, bound.steps.length))));
-    const around = nodes.flatMap((node, v) => node.parent === 0 ? [standing[v].labels[node.own - 1]] : []);
-    is(`${name}: around the passive node`, filled(problems.sideText(first, 'passive')).includes(texts.configText(around)), true);
-}
+await about('maps of labels', () => {
+    // Maps of labels that are found, judged by the program; changes are those that the program knows.
+    for (const [i, text] of canonical.entries()) {
+        const {labels} = problems.describe(text), names = labels.map((_, k) => `(n${(k * 7 + 3) % labels.length})`);
+        if (new Set(names).size !== labels.length || labels.length > 20) continue;
+        const other = answer(['read'], problems.mapped(text, labels.map((label, k) => [label, names[k]]))),
+              pairs = findRenaming(text, other);
+        is('a renaming', pairs && answer(['rename'], certificates.mapInput(text, other, certificates.pairLines(pairs))), 'yes\n');
+        if (labels.length < 2 || i > 20) continue;
+        // Merging two labels gives a relaxation, so a map is found.
+        const [x, y] = labels, merged = answer(['read'], problems.mapped(text, [[y, x]])), map = findRelaxation(text, merged);
+        is('a relaxation', map && answer(['relax'], certificates.mapInput(text, merged, certificates.pairLines(map))), 'yes\n');
+        const more = answer(['read'], problems.withArrow(text, 'passive', x, y));
+        is('an arrow relaxes', answer(['relax'], certificates.mapInput(text, more, labels.map(label => `${label} ${label}`))), 'yes\n');
+        is('an arrow is there',
+            answer(['diagram', 'passive'], more)
+                    .split('\n')
+                    .some(line => line.startsWith('class') && line.split(' ').includes(x) && line.split(' ').includes(y)) ||
+                answer(['trim'], more) !== null,
+            true);
+    }
+    is('no renaming', findRenaming(canonical[0], canonical[1]), null);
+});
 
-is('words of help', [...wordsIn('help: reads nothing\nlongest K L: reads a chain, gives ..\nbegin lower: ..\nbegin upper: ..\n\nno word\n')], ['help', 'longest', 'begin']);
+await about('trees', () => {
+    // A tree on which an upper bound runs.
+    for (const name of ['orientation-3-upper', 'proposals-3-upper', 'maximal-matching-3-upper']) {
+        const text = example(`gallery/${name}.txt`), bound = certificates.readCertificate(text), first = answer(['read'], bound.first),
+              {active, passive} = problems.describe(first);
+        const nodes = treeAround({active: active.degree, passive: passive.degree}, bound.steps.length + 1, randomFrom(1));
+        const standing = readRun(answer(['run'], runInput(text, nodes, deliveriesOf(nodes, bound.steps.length))));
+        const around = nodes.flatMap((node, v) => node.parent === 0 ? [standing[v].labels[node.own - 1]] : []);
+        is(`${name}: around the passive node`, filled(problems.sideText(first, 'passive')).includes(texts.configText(around)), true);
+    }
+});
 
-// Composed maps, meanings and numbers.
-const path = [{kind: 'first', problem: ''}, {kind: 'step', problem: '', meanings: [['A', ['I']], ['B', ['O']], ['C', ['I', 'O']]], rows: ['[I] [O]']}, {kind: 'change', problem: '', relax: {A: 'X', B: 'B', C: 'X'}}];
-is('a composed map', chains.lowerStep(chains.stagesOf(path)[1]).entries, [[['I'], 'X'], [['O'], 'B'], [['I', 'O'], 'X']]);
-is('a meaning', chains.meaningOf(path, 2, 'X'), '[I] or [IO]');
-is('a meaning unrolled', chains.unrolledMeaning(path, 2, 'X'), '[I]|[IO]');
-is('labels left out', chains.upperStep([path[1], {kind: 'change', restrict: {B: ['B'], Q: ['A', 'C']}}]).entries, [['B', ['O']], ['Q', ['I', 'O']]]);
-is('kinds', chains.kindsOf(path), ['lower']);
-is('numbers', path.map(card => chains.numberOf(path, card)), ['0', '1', '1′']);
+await about('words of help', () => {
+    is('words of help',
+        [...wordsIn('help: reads nothing\nlongest K L: reads a chain, gives ..\nbegin lower: ..\nbegin upper: ..\n\nno word\n')],
+        ['help', 'longest', 'begin']);
+});
 
-// Sessions: packed and read back; damaged ones are refused with a message.
-const cards = [{kind: 'first', id: 1, parent: null, problem: 'A B\n\nA B\n', title: 't'}, {...path[1], id: 2, parent: 1}, {...path[2], id: 3, parent: 2, note: 'n'}], state = {cards, current: 2};
-is('a session comes back', sessions.readSession(await sessions.unpackSession(await sessions.packSession(state))), state);
-const refused = what => { try { sessions.readSession(typeof what === 'string' ? what : JSON.stringify(what)); return 'read'; } catch (error) { return error.message; } };
-const session = JSON.parse(sessions.sessionText(state)), changed = (at, values) => ({...session, cards: session.cards.map((card, i) => i === at ? {...card, ...values} : card)});
-is('an old session', refused({...session, format: 're-workbench-0'}), 'a session of another version of this page (re-workbench-0; this one reads re-workbench-1)');
-is('no session', refused({what: 1}), 'not a saved session');
-is('a damaged session', refused('{"format": "re-wor'), 'not a saved session: its text is damaged');
-for (const values of [{id: '<b>'}, {id: 0}, {kind: 'constructor'}, {problem: 3}, {title: {}}, {note: []}, {written: {active: 'A'}}, {back: {number: 'x'}}, {meanings: [['A']]}, {meanings: [['A', ['x y']]]}, {rows: [1]}]) is(`a card with ${JSON.stringify(values)}`, refused(changed(1, values)), 'card 2 of the session has another form');
-for (const values of [{relax: {A: 3}}, {relax: {'<i>': 'A'}}, {relax: undefined}, {images: [[['A'], ['A', 'B']]]}, {restrict: []}]) is(`a change with ${JSON.stringify(values)}`, refused(changed(2, values)), 'card 3 of the session has another form');
-for (const values of [{parent: 3}, {parent: 9}, {id: 1}, {parent: null}]) is(`a card at ${JSON.stringify(values)}`, refused(changed(1, values)), 'card 2 of the session is out of place');
-tally.end();
+const path = [
+    {kind: 'first', problem: ''}, {kind: 'step', problem: '', meanings: [['A', ['I']], ['B', ['O']], ['C', ['I', 'O']]], rows: ['[I] [O]']},
+    {kind: 'change', problem: '', relax: {A: 'X', B: 'B', C: 'X'}}
+];
+await about('composed maps, meanings and numbers', () => {
+    is('a composed map', chains.lowerStep(chains.stagesOf(path)[1]).entries, [[['I'], 'X'], [['O'], 'B'], [['I', 'O'], 'X']]);
+    is('a meaning', chains.meaningOf(path, 2, 'X'), '[I] or [IO]');
+    is('a meaning unrolled', chains.unrolledMeaning(path, 2, 'X'), '[I]|[IO]');
+    is('labels left out', chains.upperStep([path[1], {kind: 'change', restrict: {B: ['B'], Q: ['A', 'C']}}]).entries,
+        [['B', ['O']], ['Q', ['I', 'O']]]);
+    is('kinds', chains.kindsOf(path), ['lower']);
+    is('numbers', path.map(card => chains.numberOf(path, card)), ['0', '1', '1′']);
+});
+
+await about('sessions', async () => {
+    // Sessions: packed and read back; damaged ones are refused with a message.
+    const cards =
+              [
+                  {kind: 'first', id: 1, parent: null, problem: 'A B\n\nA B\n', title: 't'}, {...path[1], id: 2, parent: 1},
+                  {...path[2], id: 3, parent: 2, note: 'n'}
+              ],
+          state = {cards, current: 2};
+    is('a session comes back', sessions.readSession(await sessions.unpackSession(await sessions.packSession(state))), state);
+    const refused = what => {
+        try {
+            sessions.readSession(typeof what === 'string' ? what : JSON.stringify(what));
+            return 'read';
+        } catch (error) { return error.message; }
+    };
+    const session = JSON.parse(sessions.sessionText(state)),
+          changed = (at, values) => ({...session, cards: session.cards.map((card, i) => i === at ? {...card, ...values} : card)});
+    is('an old session', refused({...session, format: 're-workbench-0'}),
+        'a session of another version of this page (re-workbench-0; this one reads re-workbench-1)');
+    is('no session', refused({what: 1}), 'not a saved session');
+    is('a damaged session', refused('{"format": "re-wor'), 'not a saved session: its text is damaged');
+    for (const values of [{id: '<b>'}, {id: 0}, {kind: 'constructor'}, {problem: 3}, {title: {}}, {note: []}, {written: {active: 'A'}},
+             {back: {number: 'x'}}, {meanings: [['A']]}, {meanings: [['A', ['x y']]]}, {rows: [1]}])
+        is(`a card with ${JSON.stringify(values)}`, refused(changed(1, values)), 'card 2 of the session has another form');
+    for (const values of [{relax: {A: 3}}, {relax: {'<i>': 'A'}}, {relax: undefined}, {images: [[['A'], ['A', 'B']]]}, {restrict: []}])
+        is(`a change with ${JSON.stringify(values)}`, refused(changed(2, values)), 'card 3 of the session has another form');
+    for (const values of [{parent: 3}, {parent: 9}, {id: 1}, {parent: null}])
+        is(`a card at ${JSON.stringify(values)}`, refused(changed(1, values)), 'card 2 of the session is out of place');
+});
+
+await about('what is given', () => {
+    const degrees = {active: {degree: 3}, passive: {degree: 2}};
+    is('a colouring without the word input', inputCommand(new Set(), 'colouring', degrees, 4),
+        {program: 're', words: ['family', 'colouring', '3', '2', '4']});
+    is('others not', inputCommand(new Set(), 'sides', degrees), null);
+    is('with it', inputCommand(new Set(['input']), 'sides', degrees), {program: 'explore', words: ['input', 'sides', '3', '2', '0']});
+    is('a fit', readFit('yes:\n1 = [A]\n(ab) = [BC]\n'), {isSolvable: true, map: [['1', '[A]'], ['(ab)', '[BC]']], line: 'yes:'});
+    is('the same without signs', readFit('yes\n1 [A]\n'), {isSolvable: true, map: [['1', '[A]']], line: 'yes'});
+    is('none', readFit('no\n'), {isSolvable: false, map: [], line: 'no'});
+    const refused = readGiven(
+        'refused: given that input, step 2, clause END\nyes:\n1 = [A]\naccepted: given that input, not solvable in 1 or fewer rounds\n');
+    is('refused, with what holds still', [refused.accepted, refused.line, refused.still, refused.map], [
+        false, 'refused: given that input, step 2, clause END', 'accepted: given that input, not solvable in 1 or fewer rounds',
+        [['1', '[A]']]
+    ]);
+});
+
+await about('reports', () => {
+    for (const name of ['gallery/no-sinks-no-sources-3.txt', 'gallery/orientation-3-upper.txt', 'by-rows.txt', 'colouring-refused.txt']) {
+        const report = natively('explore', ['describe'], example(name)).text, blocks = blocksOfReport(report),
+              words = text => text.replace(/[#`*\s-]/g, '');
+        is(`${name}: all of it`, words(blocks.map(block => block.text ?? block.items.join('\n')).join('\n')), words(report));
+        is(`${name}: LaTeX is closed`, (latexOfReport(report).match(/\\begin/g) || []).length,
+            (latexOfReport(report).match(/\\end/g) || []).length);
+    }
+    is('parts', partsOfText('a `b^2` **c**'),
+        [{kind: 'plain', text: 'a '}, {kind: 'code', text: 'b^2'}, {kind: 'plain', text: ' '}, {kind: 'bold', text: 'c'}]);
+    is('signs for LaTeX', latexOfReport('`A^2 <A,B>` & 50%\n'),
+        '\\texttt{A\\textasciicircum{}2 \\textless{}A,B\\textgreater{}} \\& 50\\%\n');
+    is('rounds of the graph', roundsOfGraph(natively('explore', ['describe'], example('sinkless-fixed.txt')).text),
+        `Problem 0 isn't solvable in any number of rounds of the graph.`);
+    is('none of a hypergraph', roundsOfGraph(natively('explore', ['describe'], example('gallery/weak-splitting-3.txt')).text), null);
+});
+
+await about('what settles a problem', () => {
+    is('lines', readSettled('more than 4, at most 6 (3 rounds of the graph)\nby: re lower 4 0\nby: re upper 6 1\n'),
+        {line: 'more than 4, at most 6 (3 rounds of the graph)', shownBy: ['re lower 4 0', 're upper 6 1']});
+    is('a command', commandsIn('explore cycle 3 1 2000', ['re', 'explore']), [{program: 'explore', words: ['cycle', '3', '1', '2000']}]);
+    is('a pipe', commandsIn('explore merge A B | explore closure', ['re', 'explore']),
+        [{program: 'explore', words: ['merge', 'A', 'B']}, {program: 'explore', words: ['closure']}]);
+    is('no command', [commandsIn('rm file', ['re', 'explore']), commandsIn('re', ['re'])], [null, null]);
+});
+
+await about('finite graphs', () => {
+    const text = 'M^3\nO^2 P\n\nM O\nM P\nO^2\n== graph\n1.1 1.2\n2.1 2.2\n1.3 2.3\n', graph = readGraph(text);
+    is('read', [isGraphText(text), graph.count, graph.passive.length, graph.passive[2]],
+        [true, 2, 3, [{node: 1, port: 3}, {node: 2, port: 3}]]);
+    is('of another form', [readGraph('A\n\nA\n== graph\n1.1 x\n'), readGraph('A\n\nA\n'), isGraphText('A B\n')], [null, null, false]);
+    const {active, passive} = graphPlaces(graph), all = [...active, ...passive];
+    is('places',
+        [
+            active.length, passive.length,
+            all.every(({x, y}, i) => all.every((other, k) => k <= i || Math.hypot(x - other.x, y - other.y) > 20))
+        ],
+        [2, 3, true]);
+    // No passive node of a complete graph stands on a line of others.
+    const ends = [[1, 2], [1, 3], [1, 4], [2, 3], [2, 4], [3, 4]], free = [0, 1, 1, 1, 1];
+    const lines = ends.map(pair => pair.map(node => `${node}.${free[node]++}`).join(' ')),
+          complete = readGraph(`A B\n\nA B\n== graph\n${lines.join('\n')}\n`);
+    const drawn = graphPlaces(complete),
+          distance = (p, a, b) => Math.abs((b.x - a.x) * (p.y - a.y) - (b.y - a.y) * (p.x - a.x)) / Math.hypot(b.x - a.x, b.y - a.y);
+    is('apart from lines',
+        drawn.passive.every((place, s) => complete.passive.every(
+                                (pair, t) => s === t || distance(place, ...pair.map(({node}) => drawn.active[node - 1])) > 12)),
+        true);
+    is('a solution', readSolution('yes:\nA B C\nA A A\n'), {line: 'yes:', labels: [['A', 'B', 'C'], ['A', 'A', 'A']]});
+    is('none', readSolution('no: no solution on this graph, so not solvable in any number of rounds\n').labels, null);
+});
+
+await about('the catalogue', () => {
+    const table =
+        '#number\tproblem\tanswer\tby\torientation\n1\tAAA / AA\texactly 0\tre upper 0 0\tyes\n2\tAAA AAB ABB / AB\tnot solvable in any number of rounds\tre fixed 3 0; explore closure\tno\n';
+    const problem = answer(['read'], 'O [IO]^2\n\nI O\n');
+    is('the names by which it comes first', catalogueText(problem), 'AAA AAB ABB / AB');
+    is('its table', tableName(problems.describe(problem)), '2-3-2');
+    is('its line', catalogueLine(table, problem), {
+        number: '2',
+        answer: 'not solvable in any number of rounds',
+        shownBy: ['re fixed 3 0', 'explore closure'],
+        more: [['orientation', 'no']]
+    });
+    is('one that lacks', catalogueLine(table, answer(['read'], 'A^3\nB^3\n\nA B\n')), null);
+    is('too many labels', catalogueText(answer(['family', 'colouring', '3', '2', '8'])), null);
+});

@@ -4,12 +4,13 @@ import {answer} from './place.mjs';
 export const MIS = ['M^3\nP O^2', 'M [PO]\nO^2'];
 const quoted = value => JSON.stringify(value);
 
-// Both diagrams of the last card are drawn, so nothing moves any more.
-export const drawn = `document.querySelectorAll('.card.last svg.diagram').length === 2`;
+// Both diagrams of the last card are drawn or listed, so nothing moves any more.
+export const drawn = `document.querySelectorAll('.card.last svg.diagram, .card.last .classes').length === 2`;
 export const cardsAre = count => `document.querySelectorAll('.card').length === ${count}`;
 
 export class User {
-    constructor(page, tally) { Object.assign(this, {page, tally}); }
+    // `checks` are those of the test that runs.
+    constructor(page, checks) { Object.assign(this, {page, checks}); }
 
     // ---- Problems.
 
@@ -46,14 +47,24 @@ export class User {
         await this.page.until(`${cardsAre(count)} && ${drawn}`);
     }
 
-    async select(...labels) { for (const label of labels) await this.page.click(`.card.last .chip[data-label="${label}"]`); }
+    async select(...labels) {
+        for (const label of labels) await this.page.click(`.card.last .chip[data-label="${label}"]`);
+    }
     async act(text) { await this.page.click('.card.last .actions button', text); }
     async actOnSelected(text) { await this.page.click('.card.last .selection button', text); }
 
-    async search(kind, k, m) {
-        await this.page.fill('.card.last .search input', String(k), 0);
-        await this.page.fill('.card.last .search input', String(m), 1);
-        await this.page.click('.card.last .search button', kind);
+    // A search by its name, with its numbers in order.
+    async search(kind, ...numbers) {
+        const box = `.card.last .ask[data-search=${kind}]`;
+        for (const [at, number] of numbers.entries()) await this.page.fill(`${box} input`, String(number), at);
+        await this.page.click(`${box} button`, kind);
+    }
+
+    // The same, asked again with more.
+    async searchOn(kind, ...numbers) {
+        const box = `.card.last .ask[data-search=${kind}]`;
+        for (const [at, number] of numbers.entries()) await this.page.fill(`${box} input`, String(number), at);
+        await this.page.click(`${box} button.more`);
     }
 
     note() { return this.page.until(`document.querySelector('.card.last .note')?.textContent`); }
@@ -67,11 +78,17 @@ export class User {
         await this.agrees(line);
     }
 
-    async agrees(line) { this.tally.equal(`native check: ${line}`, answer(['check'], await this.certificate()).trim(), line); }
+    async agrees(line) { this.checks.equal(`native check: ${line}`, answer(['check'], await this.certificate()).trim(), line); }
     verdict() { return this.page.until(`document.querySelector('#verdict-line')?.textContent`); }
     certificate() { return this.page.until('bench.claim.verdict?.certificate'); }
 
     // What Copy gives, held by the page in place of the clipboard.
-    async watchCopies() { await this.page.value(`navigator.clipboard.writeText = async text => { window.copied = text; }; window.copied = null`); }
-    async copied() { const text = await this.page.until('window.copied'); await this.page.value('window.copied = null'); return text; }
+    async watchCopies() {
+        await this.page.value(`navigator.clipboard.writeText = async text => { window.copied = text; }; window.copied = null`);
+    }
+    async copied() {
+        const text = await this.page.until('window.copied');
+        await this.page.value('window.copied = null');
+        return text;
+    }
 }

@@ -4,7 +4,7 @@ ghost use Rattle.std.specs.List.{AllByRecursion};
 ghost use Rattle.std.specs.Prelude.{◌≡◌, length};
 
 use re_cert::{Kind, SetEntry};
-use re_cert_lines::{push_entry, push_header, push_pair};
+use re_cert_text::{push_entry, push_header, push_pair};
 use re_config::Row;
 use re_labels::{LabelSet, Name, Names};
 use re_printing::push_row;

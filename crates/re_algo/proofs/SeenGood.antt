@@ -52,7 +52,7 @@ module _ (problem : Problem) (is : IsProblem problem) (T : ℕ) (f : Plain → L
   passive_some : 1 ≤ problem.passive.degree
   passive_some = let l = is.passive.least in omega arith
 
-some_member : (set : List ℕ) (x : ℕ) → Contains set x → 0 < length set
+pub some_member : (set : List ℕ) (x : ℕ) → Contains set x → 0 < length set
 some_member [] x (j, m, e) = absurd (omega arith)
 some_member (y ∷ set) x held = omega arith
 

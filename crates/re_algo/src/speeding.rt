@@ -15,12 +15,12 @@ ghost use Rattle.std.specs.Prelude.{◌≡◌, ◌≤◌, ◌<◌, [], IfOk, fin
 
 use crate::Table;
 use crate::seen::{SeenRow, seen_rows};
-use crate::sets::{place_of, set_at};
+use crate::sets::set_at;
 use arrayvec::ArrayVec;
 use re_config::{Placement, Placements, Row};
 use re_labels::{LabelSet, MAX_LABELS, NoMemory, PortLabels};
 use re_problem::Problem;
-use re_step::Derived;
+use re_step::{Derived, place_of};
 use std::alloc::Global;
 
 // Whether the sets in this order of their places hold the other ones, place by place.

@@ -57,8 +57,8 @@ fn with_label(labels: &[u8], place: usize, label: u8) -> ArrayVec<u8, 6>
     done
 }
 
-// The least label of the set, if it has any.
-fn least_of(set: LabelSet) -> Option<u8>
+/// The least label of the set, and none where it is empty.
+pub fn least_of(set: LabelSet) -> Option<u8>
     ensures { MatchOption result (set ≡ []) (λ label. IsIn label set × (label < MAX_LABELS)) }
 {
     let _number = set.number();

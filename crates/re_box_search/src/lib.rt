@@ -6,5 +6,6 @@ mod keeper;
 mod searching;
 mod walking;
 
+pub use choosing::least_of;
 pub use keeper::Keeper;
 pub use walking::{cover_configs, cover_row};

@@ -11,15 +11,15 @@ use Rattle.re_config.specs.Rows.{IsChoice, set_at}
 use Rattle.re_table.specs.Constraints.{Constraint, Has, IsConstraint}
 use Rattle.re_problem.specs.NamedProblems.{IsNamedProblem, NamedProblem}
 use Rattle.re_problem.specs.Steps.{SetEntry, entry_sets, label_at, label_of}
-use Rattle.re_entries.proofs.AllowedImages.{entry-over, keeps_allowed_law, over-entry}
-use Rattle.re_entries.specs.LabelsOver.{labels_over}
-use Rattle.re_entries.specs.RowEntries.{row_entries}
-use Rattle.re_entries.specs.StepClauses.{KeepsAllowed}
+use Rattle.re_entry_clauses.proofs.AllowedImages.{entry-over, keeps_allowed_law, over-entry}
+use Rattle.re_entry_clauses.specs.LabelsOver.{labels_over}
+use Rattle.re_entry_clauses.specs.RowEntries.{row_entries}
+use Rattle.re_entry_clauses.specs.StepClauses.{KeepsAllowed}
 use Rattle.re_clauses.specs.Clauses.{keep_allowed}
 use Rattle.re_bridge.proofs.Meeting.{KeepsSoFar, allowed-kept, kept-allowed, kept-so_far, so_far-kept}
 use Rattle.re_bridge.proofs.SetTests.{entries-none}
 use Rattle.re_bridge.specs.Bridges.{entries_for, keep_rows_so_far, passes_by_set, rows_of, sets_of}
-use Rattle.re_bridge.specs.Walking.{BeginningsPass}
+use Rattle.re_walks.specs.Walking.{BeginningsPass}
 
 -- ---- entries with more behind them
 at-front : {X : Type 0} (xs ys : List X) (i : ℕ) (d : X) → i < length xs → get_or (xs ++ ys) i d ≡ get_or xs i d
@@ -48,7 +48,7 @@ choice-front front more [] (y ∷ labels) h = absurd h
 choice-front front more (x ∷ config) [] h = absurd h
 choice-front front more (x ∷ config) (y ∷ labels) h = (over-front front more x y h.0, choice-front front more config labels h.1)
 
-allowed-front : (n : ℕ) (from to : Constraint) (front more : List SetEntry) → IsConstraint n from → KeepsAllowed (front ++ more) from to → KeepsAllowed front from to
+pub allowed-front : (n : ℕ) (from to : Constraint) (front more : List SetEntry) → IsConstraint n from → KeepsAllowed (front ++ more) from to → KeepsAllowed front from to
 allowed-front n from to front more is kept =
     (keeps_allowed_law n from to front is).1 (λ config labels held chosen. (keeps_allowed_law n from to (front ++ more) is).0 kept config labels held (choice-front front more config labels chosen))
 
@@ -77,7 +77,7 @@ so_far-front active rows front more kept row held sets =
     (kept row held (λ set at. sets-front front more set (sets set at)))
 
 -- the entries of the first labels are the first ones
-entries-parted : (sets : List (List ℕ)) (labels : List ℕ) (k : ℕ) → row_entries sets labels ≡ row_entries sets (take k labels) ++ row_entries (drop k sets) (drop k labels)
+pub entries-parted : (sets : List (List ℕ)) (labels : List ℕ) (k : ℕ) → row_entries sets labels ≡ row_entries sets (take k labels) ++ row_entries (drop k sets) (drop k labels)
 entries-parted sets labels zero = (λ i. sym (entries-none sets) i ++ row_entries sets labels)
 entries-parted [] labels (suc k) = refl
 entries-parted (s ∷ sets) [] (suc k) = sym (entries-none (drop k sets))

@@ -7,11 +7,11 @@ use Rattle.std.proofs.Math.Seq.{drop-append-add, take-add}
 use Rattle.re_config.proofs.Rearranging.{Contains-Rearranged}
 use Rattle.re_config.proofs.Sorting.{Rearranged-sorted, length-sorted}
 use Rattle.re_config.specs.Configs.{IsConfig, sorted}
-use Rattle.re_entries.proofs.NextLabels.{label-entry}
-use Rattle.re_entries.proofs.RowSets.{place_of-there}
-use Rattle.re_entries.proofs.Telling.{held-read, read-held}
-use Rattle.re_entries.proofs.AllowedImages.{mapped}
-use Rattle.re_entries.specs.RowEntries.{row_entries}
+use Rattle.re_entry_clauses.proofs.NextLabels.{label-entry}
+use Rattle.re_entry_clauses.proofs.RowSets.{place_of-there}
+use Rattle.re_entry_clauses.proofs.Telling.{held-read, read-held}
+use Rattle.re_entry_clauses.proofs.AllowedImages.{mapped}
+use Rattle.re_entry_clauses.specs.RowEntries.{row_entries}
 use Rattle.re_labels.proofs.Membership.{AllByRecursion-contains, AllByRecursion-from_contains, Contains-map, length-map'}
 use Rattle.re_labels.proofs.Tests.{eqb-same, true-and}
 use Rattle.re_labels.specs.Lists.{IsBefore, IsRising, count_from, place_of}
@@ -22,16 +22,16 @@ use Rattle.re_problem.specs.NamedProblems.{IsNamedProblem, NamedProblem, unnamed
 use Rattle.re_problem.specs.Steps.{IsLowerStepByRow, IsLowerStepBySet, LowerMap, SetEntry, entry_sets, label_at, label_of}
 use Rattle.re_problem.specs.Steps.LowerMap.{by_row, by_set}
 use Rattle.re_cert.specs.declared.certificate.StepParts.{StepParts}
-use Rattle.re_entries.specs.StepClauses.{entry_labels}
+use Rattle.re_entry_clauses.specs.StepClauses.{entry_labels}
 use Rattle.re_clauses.proofs.StepMeaning.{lower_clauses}
 use Rattle.re_clauses.specs.Clauses.{are_exchanged, step_fault}
 use Rattle.re_bridge.proofs.Beginnings.{set_beginnings}
 use Rattle.re_bridge.proofs.Meeting.{passes-row_step, passes-step, row_step-passes, rows-whole, step-passes}
 use Rattle.re_bridge.proofs.RowBeginnings.{row_beginnings}
-use Rattle.re_bridge.proofs.WalkLemmas.{walk_law}
+use Rattle.re_walks.proofs.WalkLemmas.{walk_law}
 use Rattle.re_bridge.specs.Bridges.{IsFound, entries_for, image_of, images_for, missing, over, passes_by_row, passes_by_set, row_bridge, rows_of, set_bridge, sets_of, step_by, walk_by_row, walk_by_set}
 use Rattle.re_bridge.specs.Laws.{BridgeLaw, IsAnswer, IsBridge, Meets, image_labels}
-use Rattle.re_bridge.specs.Walking.{IsAssignment, Tells, Walk, cut, found, nowhere}
+use Rattle.re_walks.specs.Walking.{IsAssignment, Tells, Walk, cut, found, nowhere}
 
 -- ---- labels of a configuration
 held_label : (n : ℕ) (constraint : Constraint) (labels : List ℕ) (x : ℕ) → IsConstraint n constraint → Has constraint labels → Contains labels x → x < n

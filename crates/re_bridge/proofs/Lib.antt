@@ -1,8 +1,6 @@
 pub mod Beginnings
 pub mod Bridging
 pub mod Meeting
-pub mod Raising
 pub mod RowBeginnings
 pub mod RowTests
 pub mod SetTests
-pub mod WalkLemmas

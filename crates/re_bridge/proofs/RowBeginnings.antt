@@ -5,27 +5,27 @@ use Rattle.std.specs.List.{AllByRecursion}
 use Rattle.std.proofs.lemmas.List.{drop-take, length-take, map-append, take-append-drop, take-take}
 use Rattle.std.proofs.lemmas.Nat.{div-add-mod'}
 use Rattle.std.proofs.Math.Nat.{mod-lt, mul-le-mul_left}
-use Rattle.re_choice.proofs.Beginning.{some_found}
 use Rattle.re_labels.proofs.Membership.{Contains-count_from, Contains-here, Contains-map, all-append, any_true, count_from_range, map-alike}
 use Rattle.re_labels.proofs.Tests.{and-true, true-and}
 use Rattle.re_labels.specs.Lists.{count_from}
-use Rattle.re_config.proofs.ChoicesOfRows.{choices-IsChoice}
 use Rattle.re_config.specs.Rows.{IsChoice, choices, singles}
 use Rattle.re_table.proofs.Goodness.{Has-has_config, has_config-Has}
 use Rattle.re_table.specs.Constraints.{Constraint, Has, has_config}
 use Rattle.re_problem.specs.NamedProblems.{IsNamedProblem, NamedProblem}
-use Rattle.re_entries.proofs.RowChoices.{keeps_allowed_by_row_law}
-use Rattle.re_entries.specs.LabelsOver.{labels_over}
-use Rattle.re_entries.specs.RowEntries.{image_entries, row_entries}
-use Rattle.re_entries.specs.StepClauses.{KeepsAllowedByRow}
+use Rattle.re_entry_clauses.proofs.RowChoices.{keeps_allowed_by_row_law}
+use Rattle.re_entry_clauses.specs.LabelsOver.{labels_over}
+use Rattle.re_entry_clauses.specs.RowEntries.{image_entries, row_entries}
+use Rattle.re_entry_clauses.specs.StepClauses.{KeepsAllowedByRow}
 use Rattle.re_clauses.proofs.StepMeaning.{all_there, by_row-tells}
 use Rattle.re_clauses.specs.Clauses.{are_exchanged, keep_allowed_by_row, keep_images, sets_in}
 use Rattle.re_clauses.proofs.StepTests.{occurs-listed}
 use Rattle.re_problem.proofs.Walks.{count_from_split}
 use Rattle.re_bridge.proofs.Beginnings.{choice-front}
 use Rattle.re_bridge.proofs.Meeting.{rows-whole, whole-test}
-use Rattle.re_bridge.specs.Bridges.{image_of, images_for, is_begun, passes_by_row, rest_of, rows_of}
-use Rattle.re_bridge.specs.Walking.{BeginningsPass}
+use Rattle.re_bridge.specs.Bridges.{image_of, images_for, passes_by_row, rest_of, rows_of}
+use Rattle.re_walks.proofs.ConfigBeginnings.{begun, low-drop, low-take}
+use Rattle.re_walks.specs.Begun.{is_begun}
+use Rattle.re_walks.specs.Walking.{BeginningsPass}
 
 -- ---- numbers
 room : (row q d : ℕ) → row < q → row * d + d ≤ q * d
@@ -35,16 +35,6 @@ parted : (n d : ℕ) → 0 < d → (n / d * d ≤ n) × (n < n / d * d + d)
 parted n d some = let less : n % d < d = mod-lt n some in (omega (arith, div-add-mod' n d), omega (arith, div-add-mod' n d, less))
 
 -- ---- parts of lists
-low-take : (n k : ℕ) (labels : List ℕ) → AllByRecursion (λ label. label < n) labels → AllByRecursion (λ label. label < n) (take k labels)
-low-take n zero labels low = tt
-low-take n (suc k) [] low = tt
-low-take n (suc k) (x ∷ labels) low = (low.0, low-take n k labels low.1)
-
-low-drop : (n k : ℕ) (labels : List ℕ) → AllByRecursion (λ label. label < n) labels → AllByRecursion (λ label. label < n) (drop k labels)
-low-drop n zero labels low = low
-low-drop n (suc k) [] low = tt
-low-drop n (suc k) (x ∷ labels) low = low-drop n k labels low.1
-
 -- behind a place the first labels are the first ones of those behind it
 drop-first : (a k : ℕ) (labels : List ℕ) → a ≤ k → drop a (take k labels) ≡ take (k - a) (drop a labels)
 drop-first a k labels l = ap (λ m. drop a (take m labels)) (let z : k ≡ a + (k - a) = omega arith in z) ∙ drop-take a (k - a) labels
@@ -66,32 +56,6 @@ image_entries-parted rows [] more = (λ i. sym (image_entries-none rows) i ++ im
 image_entries-parted [] (image ∷ front) more = refl
 image_entries-parted (row ∷ rows) (image ∷ front) more =
     ap (λ es. row_entries row image ++ es) (image_entries-parted rows front more) ∙ sym (append_assoc (row_entries row image) (image_entries rows front) (image_entries (drop (length front) rows) more))
-
--- ---- labels that begin an image
-begun-choice : (n : ℕ) (rest more : List ℕ) → AllByRecursion (λ label. label < n) more → IsChoice (rest ++ more) (singles rest ++ replicate (length more) (count_from 0 n))
-begun-choice n [] [] low = tt
-begun-choice n [] (y ∷ more) low = (Contains-count_from 0 n y (omega arith) (omega (arith, low.0)), begun-choice n [] more low.1)
-begun-choice n (x ∷ rest) more low = (Contains-here x [], begun-choice n rest more low)
-
-some-found : {X : Type 0} (p : X → Bool) (xs : List X) (x : X) → Contains xs x → p x ≡ true → is_some (find p xs) ≡ true
-some-found {X} p xs x held passes = go (find p xs) refl
-  where
-    go : (o : Option X) → find p xs ≡ o → is_some o ≡ true
-    go None e = absurd (some_found p xs (any_true p xs x held passes) e)
-    go (Some y) e = refl
-
--- the first labels of a configuration begin one
-begun : (active : Constraint) (n : ℕ) (image : List ℕ) (j : ℕ) → has_config active image ≡ true → length image ≡ active.degree → AllByRecursion (λ label. label < n) image → j ≤ active.degree → is_begun active n (take j image) ≡ true
-begun active n image j has count low few =
-    let rest = take j image in
-    let more = drop j image in
-    let whole : rest ++ more ≡ image = take-append-drop j image in
-    let size : length rest ≡ j = length-take j image ∙ (let z : min j (length image) ≡ j = omega (arith, count, few) in z) in
-    let left : active.degree - length rest ≡ length more = (let z : active.degree - length rest ≡ length image - j = omega (arith, size, count) in z ∙ sym (length-drop j image)) in
-    let row : List (List ℕ) = singles rest ++ replicate (active.degree - length rest) (count_from 0 n) in
-    let choice : IsChoice image row = subst (λ l. IsChoice l row) whole
-    (subst (λ m. IsChoice (rest ++ more) (singles rest ++ replicate m (count_from 0 n))) (sym left) (begun-choice n rest more (low-drop n j image low))) in
-    some-found (has_config active) (choices row) image (choices-IsChoice row image choice) has
 
 module _ (before next : NamedProblem) (exchanged : are_exchanged before next ≡ true) (is : IsNamedProblem before) (next_is : IsNamedProblem next) where
   abbrev d : ℕ

@@ -12,8 +12,8 @@ use Rattle.re_table.specs.Constraints.{Constraint, has_config}
 use Rattle.re_table.specs.GoodRows.{allowed}
 use Rattle.re_config.specs.Configs.{sorted}
 use Rattle.re_problem.specs.Steps.{SetEntry, entry_sets, label_of}
-use Rattle.re_entries.proofs.RowSets.{HasSetsOf}
-use Rattle.re_entries.specs.RowEntries.{row_entries}
+use Rattle.re_entry_clauses.proofs.RowSets.{HasSetsOf}
+use Rattle.re_entry_clauses.specs.RowEntries.{row_entries}
 use Rattle.re_clauses.proofs.StepMeaning.{all_held, all_there}
 use Rattle.re_bridge.specs.Bridges.{has_entries}
 use Rattle.re_labels.specs.declared.TheConstants.{MAX_LABELS}

@@ -11,9 +11,10 @@ use Rattle.re_problem.specs.Steps.{LowerMap, SetEntry, entry_sets, label_of}
 use Rattle.re_problem.specs.Steps.LowerMap.{by_row, by_set}
 use Rattle.re_cert.specs.Bounds.{BoundStep, step_with}
 use Rattle.re_cert.specs.declared.certificate.StepParts.{StepParts}
-use Rattle.re_entries.specs.RowEntries.{row_entries}
+use Rattle.re_entry_clauses.specs.RowEntries.{row_entries}
 use Rattle.re_clauses.specs.Clauses.{are_exchanged, keep_allowed, keep_allowed_by_row, keep_images}
-use Rattle.re_bridge.specs.Walking.{Walk, cut, found, nowhere, walk}
+use Rattle.re_walks.specs.Begun.{is_begun}
+use Rattle.re_walks.specs.Walking.{Walk, cut, found, nowhere, walk}
 
 -- the maximal rows of the passive constraint, and their different sets, in order
 abbrev pub rows_of : NamedProblem → List (List (List ℕ))
@@ -56,10 +57,6 @@ images_for d labels = map (image_of d labels) (count_from 0 (length labels / d))
 -- the labels behind those images
 abbrev pub rest_of : ℕ → List ℕ → List ℕ
 rest_of d labels = drop (length labels / d * d) labels
-
--- whether some configuration of labels below n begins with these labels, in some order of its own
-abbrev pub is_begun : Constraint → ℕ → List ℕ → Bool
-is_begun active n labels = is_some (find (has_config active) (choices (singles labels ++ replicate (active.degree - length labels) (count_from 0 n))))
 
 -- where the last image isn't whole, its labels begin a configuration; where it is, the images are configurations, and so is each choice
 -- of a label that the sets of an allowed multiset become

@@ -1,19 +1,14 @@
--- What walks and bridges tell.
-use Rattle.std.specs.Prelude.{◌≡◌, ℕ, Bool, List, flat_map, Option, None, Some}
+-- What bridges tell.
+use Rattle.std.specs.Prelude.{◌≡◌, ℕ, List, flat_map, Option, None, Some}
 use Rattle.re_labels.specs.Lists.{IsBefore}
 use Rattle.re_problem.specs.NamedProblems.{IsNamedProblem, NamedProblem}
 use Rattle.re_problem.specs.Steps.{LowerMap, SetEntry}
 use Rattle.re_problem.specs.Steps.LowerMap.{by_row, by_set}
 use Rattle.re_cert.specs.Bounds.{step_with}
 use Rattle.re_cert.specs.declared.certificate.StepParts.{StepParts}
-use Rattle.re_entries.specs.StepClauses.{entry_labels}
+use Rattle.re_entry_clauses.specs.StepClauses.{entry_labels}
 use Rattle.re_clauses.specs.Clauses.{step_fault}
 use Rattle.re_bridge.specs.Bridges.{Bridge, bridge_of, cut_off, missing, over, step_by}
-use Rattle.re_bridge.specs.Walking.{BeginningsPass, Tells, walk}
-
--- a walk finds the first assignment that passes, or tells that none does
-abbrev pub WalkLaw : Type 0
-WalkLaw = (passes : List ℕ → Bool) (n places tries : ℕ) → BeginningsPass passes n places → Tells passes n places (walk passes n places tries)
 
 -- the lower step to the next problem with this map meets its clauses
 abbrev pub Meets : NamedProblem → NamedProblem → LowerMap → Type 0

@@ -1,3 +1,2 @@
 pub mod Bridges
 pub mod Laws
-pub mod Walking

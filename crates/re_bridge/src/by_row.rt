@@ -1,19 +1,17 @@
 //! Whether labels for the places of the first rows begin a map by rows.
-ghost use Rattle.re_bridge.specs.Bridges.{image_of, images_for, is_begun, passes_by_row, rest_of, rows_of};
+ghost use Rattle.re_bridge.specs.Bridges.{images_for, passes_by_row, rows_of};
 ghost use Rattle.re_clauses.specs.Clauses.{are_exchanged, keep_allowed_by_row, keep_images};
-ghost use Rattle.re_config.specs.Rows.{singles};
-ghost use Rattle.re_labels.specs.Lists.{count_from};
 ghost use Rattle.std.specs.List.{AllByRecursion};
 ghost use Rattle.std.specs.Prelude.{◌≡◌, ◌<◌, ◌≤◌, ◌++◌, ◌-◌, IfOk, IsTrue, length, replicate, true, ◌&&◌};
 
-use arrayvec::ArrayVec;
 use re_cert::RowImage;
-use re_choice::first_choice;
+use re_clauses::keep_images;
 use re_config::Row;
-use re_entries::{keeps_allowed_by_row, keeps_images};
-use re_labels::{LabelSet, MAX_LABELS, NoMemory};
+use re_entry_clauses::keeps_allowed_by_row;
+use re_labels::{MAX_LABELS, NoMemory};
 use re_problem::Problem;
 use re_table::Constraint;
+use re_walks::is_begun;
 use std::alloc::Global;
 
 /// The images of the rows all of whose places have labels.
@@ -36,56 +34,6 @@ pub(crate) fn images_for(
         }
     }
     Ok(images)
-}
-
-// The set of the labels below the number.
-fn labels_below(n: u8) -> LabelSet
-    requires { n ≤ MAX_LABELS }
-    ensures { result ≡ count_from 0 n }
-{
-    let mut set = LabelSet::empty();
-    for label in 0..n {
-        set = set.insert(label);
-    }
-    set
-}
-
-// The sets of one label each, and behind them the set, up to so many.
-fn begun_sets(labels: &[u8], degree: u8, all: LabelSet) -> ArrayVec<LabelSet, 6>
-    requires most { degree ≤ 6 }
-    requires few { length labels.now ≤ degree }
-    requires labels { AllByRecursion (λ label. label < MAX_LABELS) labels.now }
-    ensures { result.items ≡ singles labels.now ++ replicate (degree - length labels.now) all }
-{
-    let mut sets = ArrayVec::new();
-    for label in labels {
-        sets.push(LabelSet::single(*label));
-    }
-    for _place in labels.len()..degree as usize {
-        sets.push(all);
-    }
-    sets
-}
-
-// Whether some configuration of labels below the number begins with these labels, in some order of its own.
-fn is_begun(active: &Constraint, n: u8, labels: &[u8]) -> bool
-    requires n { n ≤ MAX_LABELS }
-    requires few { length labels.now ≤ active.now.degree }
-    requires labels { AllByRecursion (λ label. label < MAX_LABELS) labels.now }
-    ensures { result ≡ is_begun active.now n labels.now }
-{
-    let degree = active.degree();
-    let sets = begun_sets(labels, degree, labels_below(n));
-    first_choice(active, sets.as_slice()).is_some()
-}
-
-// Whether each image is a configuration.
-fn keep_images(active: &Constraint, images: &[RowImage]) -> bool
-    ensures test { result ≡ keep_images active.now images.now }
-    ensures below { IsTrue result → AllByRecursion (AllByRecursion (λ label. label < MAX_LABELS)) images.now }
-{
-    let _degree = active.degree();
-    keeps_images(images, active)
 }
 
 // Whether for each multiset of the sets from which some choice is active before each choice of a label that each of them becomes by
@@ -115,7 +63,7 @@ fn keeps_all(before: &Problem, next: &Problem, rows: &[Row], images: &[RowImage]
 
 /// Whether the labels begin a map by rows: where the last image isn't whole, whether its labels begin a configuration; where it is,
 /// whether the images are configurations, and each choice of a label that the sets of an allowed multiset become. It makes the images,
-/// and costs what `keeps_images` and `keeps_allowed_by_row` of `re_entries` cost.
+/// and costs what `keeps_images` and `keeps_allowed_by_row` of `re_entry_clauses` cost.
 pub(crate) fn passes_by_row(
     alloc: Global,
     before: &Problem,

@@ -10,6 +10,7 @@ use crate::by_set::entries_for;
 use crate::row_sets::sets_of_rows;
 use crate::walking::{walk_by_row, walk_by_set};
 use re_cert::{LowerMap, StepParts};
+use re_clauses::are_exchanged;
 use re_config::{MAX_ROWS, Row};
 use re_labels::{LabelSet, NoMemory};
 use re_problem::Problem;
@@ -35,14 +36,6 @@ impl From<NoMemory> for BridgeFault {
     fn from(_: NoMemory) -> Self {
         BridgeFault::NoMemory
     }
-}
-
-// Whether the degrees of the next problem are those of the one before, exchanged.
-fn are_exchanged(before: &Problem, next: &Problem) -> bool
-    ensures { result ≡ are_exchanged before.now next.now }
-{
-    next.active().degree() == before.passive().degree()
-        && next.passive().degree() == before.active().degree()
 }
 
 // The map by rows of the first walk that finds one.
@@ -146,7 +139,7 @@ fn bridge_parts(
 ///
 /// Each of the two walks gives labels to one place after the other, and goes back as soon as some row or some allowed multiset whose sets
 /// all have labels has an image that is no configuration, or, by rows, no configuration begins with the labels of an image. Each list of
-/// labels that is tested is a try, and costs what `keeps_rows` and `keeps_allowed` of `re_entries` cost. `TooManyTries` comes exactly where a
+/// labels that is tested is a try, and costs what `keeps_rows` and `keeps_allowed` of `re_entry_clauses` cost. `TooManyTries` comes exactly where a
 /// walk needs more than `tries`, `TooManyRows` where there are more maximal rows than `re_config::MAX_ROWS`.
 pub fn find_bridge(
     alloc: Global,

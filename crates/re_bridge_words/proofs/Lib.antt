@@ -1,6 +1,4 @@
-mod CutLines
 mod NoBridge
 mod Outcomes
-mod ProblemLines
-mod Splits
-mod Wholes
+pub mod Fitting
+pub mod MoreSteps

@@ -16,7 +16,8 @@ use Rattle.re_frame.specs.Runs.{MaySay}
 use Rattle.re_frame.specs.StepLimits.{limit_line}
 use Rattle.re_step.specs.declared.derivation.StepLimit.TheVariants.{Rows}
 use Rattle.re_bridge.specs.Bridges.{Bridge, bridge_of, cut_off, has_many_rows, missing, over}
-use Rattle.re_bridge_words.specs.BridgeTexts.{bridge_fault, given_chain, given_problem}
+use Rattle.re_chain_parts.specs.Chains.{chain_of}
+use Rattle.re_two_texts.specs.TwoTexts.{back_problem, front_bound, two_fault}
 use Rattle.re_bridge_words.specs.BridgeWords.{bridge_outcome, kind_outcome, over_bridge, sound_outcome, text_outcome}
 use Rattle.re_bridge_words.specs.declared.answering.TheConstants.{MAX_TRIES}
 
@@ -70,4 +71,6 @@ sound_says next chain = refusal_says (steps_refusal chain) (kind_outcome chain.k
 
 pub text_says : (bytes : List ℕ) → MaySay (text_outcome bytes).status true
 unfolding text_outcome
-text_says bytes = or_fault_says (bridge_fault bytes) (sound_outcome (given_problem bytes) (given_chain bytes)) true (sound_says (given_problem bytes) (given_chain bytes))
+text_says bytes =
+    or_fault_says (two_fault (codes "to") bytes) (sound_outcome (back_problem (codes "to") bytes) (chain_of (front_bound (codes "to") bytes))) true
+    (sound_says (back_problem (codes "to") bytes) (chain_of (front_bound (codes "to") bytes)))

@@ -6,13 +6,14 @@ use Rattle.re_cert.specs.Bounds.{Bound, last_problem}
 use Rattle.re_cert.specs.declared.certificate.Kind.{Kind}
 use Rattle.re_cert.specs.declared.certificate.Kind.TheVariants.{Upper}
 use Rattle.re_cert.specs.declared.certificate.TheConstants.{MAX_STEPS}
+use Rattle.re_chain_parts.specs.Chains.{chain_of}
 use Rattle.re_chain_texts.specs.OverChains.{certificate_outcome, or_fault, or_refusal, steps_refusal}
 use Rattle.re_frame.specs.Outcomes.{Outcome, limit, refused}
 use Rattle.re_frame.specs.StepLimits.{limit_line}
 use Rattle.re_step.specs.declared.derivation.StepLimit.TheVariants.{Rows}
 use Rattle.re_bridge.specs.Bridges.{Bridge, bridge_of, cut_off, has_many_rows, missing, over}
-use Rattle.re_bridge_chain.specs.Bridged.{bridged}
-use Rattle.re_bridge_words.specs.BridgeTexts.{bridge_fault, given_chain, given_problem}
+use Rattle.re_bridge_words.specs.Bridged.{bridged}
+use Rattle.re_two_texts.specs.TwoTexts.{back_problem, front_bound, two_fault}
 use Rattle.re_bridge_words.specs.declared.answering.TheConstants.{MAX_TRIES}
 
 -- the words are this one
@@ -47,6 +48,6 @@ kind_outcome kind next chain = bridge_outcome next chain
 abbrev pub sound_outcome : NamedProblem → Bound → Outcome
 sound_outcome next chain = or_refusal (steps_refusal chain) (kind_outcome chain.kind next chain)
 
--- what the word gives to a text
+-- what the word gives to a text: a bound, a line `== to` and a problem; a fixed point stands for the chain of its steps
 unfoldable pub text_outcome : List ℕ → Outcome
-text_outcome bytes = or_fault (bridge_fault bytes) (sound_outcome (given_problem bytes) (given_chain bytes))
+text_outcome bytes = or_fault (two_fault (codes "to") bytes) (sound_outcome (back_problem (codes "to") bytes) (chain_of (front_bound (codes "to") bytes)))

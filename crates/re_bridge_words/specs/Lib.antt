@@ -1,3 +1,3 @@
-pub mod BridgeTexts
 pub mod BridgeWords
 pub mod Laws
+pub mod Bridged

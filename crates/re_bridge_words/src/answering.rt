@@ -4,16 +4,16 @@ ghost use Rattle.re_bridge_words.specs.BridgeWords.{bridge_help, bridge_outcome,
 ghost use Rattle.re_cert.specs.Bounds.{last_problem};
 ghost use Rattle.re_cert.specs.declared.certificate.Kind.TheVariants.{Fixed, Lower};
 ghost use Rattle.re_cert.specs.declared.certificate.TheConstants.{MAX_STEPS};
-ghost use Rattle.re_chain_parts.specs.Chains.{IsSound};
+ghost use Rattle.re_chain_parts.specs.Chains.{IsSound, chain_of};
 ghost use Rattle.re_chain_texts.specs.OverChains.{IsSoundText};
 ghost use Rattle.re_frame.specs.Outcomes.{limit as limited_by, outcome_of};
 ghost use Rattle.re_io.specs.declared.read.TheConstants.{MAX_BYTES};
 ghost use Rattle.std.specs.Prelude.{◌≡◌, ◌<◌, ◌≤◌, IfOk, length, map, string_bytes, suc};
 
-use crate::reading::{BridgeInput, read_bridge};
+use crate::bridge;
 use re_bridge::BridgeFault;
-use re_bridge_chain::bridge;
 use re_cert::{Certificate, Kind, MAX_STEPS};
+use re_chain_parts::chain;
 use re_chain_texts::{certificate_output, steps_refusal};
 use re_frame::{
     Answer, Answering, Output, begun, fault_output, limit_output, refused, verdict_output,
@@ -21,7 +21,11 @@ use re_frame::{
 use re_labels::NoMemory;
 use re_problem::{Problem, TextFault};
 use re_step::StepLimit;
+use re_two_texts::{TwoTexts, read_two};
 use std::alloc::Global;
+
+// The name of the line between the chain and the problem.
+const TO: &[u8] = b"to";
 
 /// The most tries of each of the two walks: over maps by sets, and over maps by rows.
 pub const MAX_TRIES: u32 = 1_000_000;
@@ -113,14 +117,28 @@ fn kind_output(alloc: Global, chain: &Certificate, to: &Problem) -> Result<Outpu
 }
 
 // What the word gives to a chain.
-fn sound_output(alloc: Global, input: &BridgeInput) -> Result<Output, NoMemory>
-    requires { input.now.chain.kind ≡ Fixed → ⊥ }
-    ensures output { IfOk result (λ output. outcome_of output ≡ sound_outcome input.now.to input.now.chain) }
+fn sound_output(alloc: Global, chain: &Certificate, to: &Problem) -> Result<Output, NoMemory>
+    requires { chain.now.kind ≡ Fixed → ⊥ }
+    ensures output { IfOk result (λ output. outcome_of output ≡ sound_outcome to.now chain.now) }
     ensures worth { IfOk result (λ output. output.answer ≡ Answer.Done → IsSoundText output.text.items) }
 {
-    match steps_refusal(&input.chain) {
+    match steps_refusal(chain) {
         Some(verdict) => Ok(verdict_output(alloc, verdict)?),
-        None => kind_output(alloc, &input.chain, &input.to),
+        None => kind_output(alloc, chain, to),
+    }
+}
+
+// What the word gives to the chain that a bound stands for.
+fn bound_output(alloc: Global, texts: &TwoTexts) -> Result<Output, NoMemory>
+    ensures output { IfOk result (λ output. outcome_of output ≡ sound_outcome texts.now.problem (chain_of texts.now.bound)) }
+    ensures worth { IfOk result (λ output. output.answer ≡ Answer.Done → IsSoundText output.text.items) }
+{
+    match texts.bound.kind() {
+        Kind::Fixed => {
+            let chain = chain(alloc, &texts.bound)?;
+            sound_output(alloc, &chain, &texts.problem)
+        }
+        _ => sound_output(alloc, &texts.bound, &texts.problem),
     }
 }
 
@@ -131,8 +149,8 @@ fn text_output(alloc: Global, text: &[u8]) -> Result<Output, NoMemory>
     ensures output { IfOk result (λ output. outcome_of output ≡ text_outcome text.now) }
     ensures worth { IfOk result (λ output. output.answer ≡ Answer.Done → IsSoundText output.text.items) }
 {
-    match read_bridge(alloc, text) {
-        Ok(input) => sound_output(alloc, &input),
+    match read_two(alloc, TO, text) {
+        Ok(texts) => bound_output(alloc, &texts),
         Err(TextFault::Bad(fault)) => Ok(fault_output(alloc, fault)?),
         Err(TextFault::NoMemory) => Err(NoMemory),
     }

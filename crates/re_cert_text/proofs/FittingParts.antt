@@ -88,7 +88,7 @@ pub pairs_held : (last target : NamedProblem) (pairs : List (ℕ × ℕ)) → li
 pairs_held last target pairs all = each_of (pair_fits last target) (λ (pair : ℕ × ℕ). (pair.0 < length last.names) × (pair.1 < length target.names)) (pair_parts last target) pairs all
 
 -- ---- a step, and the pairs of a bound
-few_of : (n most : ℕ) → leb n most ≡ true → n ≤ most
+pub few_of : (n most : ℕ) → leb n most ≡ true → n ≤ most
 few_of n most test = grind (arith, nat_tests)
 
 pub step_parts : (kind : Kind) (before : NamedProblem) (step : BoundStep) → step_fits kind before step ≡ true

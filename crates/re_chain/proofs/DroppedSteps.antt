@@ -22,7 +22,7 @@ use Rattle.re_cert.specs.declared.certificate.Kind.{Kind}
 use Rattle.re_clauses.proofs.StepMeaning.{all_pass, none_fails}
 use Rattle.re_clauses.specs.Clauses.{is_filled, meets, step_clauses, step_fault}
 use Rattle.re_clauses.specs.declared.clause.Clause.TheVariants.{U1, U2, U3, U4}
-use Rattle.re_entries.proofs.NextLabels.{same-images}
+use Rattle.re_entry_clauses.proofs.NextLabels.{same-images}
 use Rattle.re_chain.proofs.LastSteps.{Keeps}
 use Rattle.re_chain.proofs.LeftEntries.{labels-in_order, left-from, left-with, set-left, with_labels}
 use Rattle.re_chain.proofs.NamedProblems.{IsNamed-built, IsNames-kept}

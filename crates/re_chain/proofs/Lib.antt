@@ -10,3 +10,5 @@ pub mod NamedSteps
 pub mod NewNames
 pub mod RelaxedSteps
 pub mod StepsAlong
+pub mod StableSorts
+pub mod TidiedBounds

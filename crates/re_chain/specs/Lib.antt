@@ -3,3 +3,5 @@ pub mod Merging
 pub mod Dropping
 pub mod Naming
 pub mod Laws
+pub mod Orders
+pub mod Tidied

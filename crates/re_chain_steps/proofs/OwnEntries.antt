@@ -7,8 +7,8 @@ use Rattle.re_problem.specs.Steps.{LowerMap, SetEntry, entry_sets}
 use Rattle.re_problem.specs.Steps.LowerMap.{by_row, by_set}
 use Rattle.re_table.specs.Constraints.{Constraint}
 use Rattle.re_table.specs.GoodRows.{max_rows, max_sets}
-use Rattle.re_entries.proofs.RowSets.{row_sets_law}
-use Rattle.re_entries.specs.StepClauses.{HasRowSets}
+use Rattle.re_entry_clauses.proofs.RowSets.{row_sets_law}
+use Rattle.re_entry_clauses.specs.StepClauses.{HasRowSets}
 use Rattle.re_changes.specs.Changes.{unchanged}
 use Rattle.re_step.specs.Derivations.{Derivation, derivation, named_derived, step_limit}
 use Rattle.re_step.specs.declared.derivation.StepLimit.TheVariants.{Labels, Rows}

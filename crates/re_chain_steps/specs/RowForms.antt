@@ -3,7 +3,7 @@ use Rattle.std.specs.Prelude.{◌≡◌, ℕ, true, List, map, if◌then◌else�
 use Rattle.re_problem.specs.Steps.{LowerMap, SetEntry, label_of}
 use Rattle.re_problem.specs.Steps.LowerMap.{by_row, by_set}
 use Rattle.re_cert.specs.Bounds.{Bound, BoundStep}
-use Rattle.re_entries.specs.StepClauses.{HasRowSets}
+use Rattle.re_entry_clauses.specs.StepClauses.{HasRowSets}
 
 -- the images of the rows by the entries: for each set of a row the label of its entry
 abbrev pub row_form : List (List (List ℕ)) → List SetEntry → List (List ℕ)

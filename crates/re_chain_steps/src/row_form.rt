@@ -2,7 +2,7 @@
 ghost use Rattle.re_cert.specs.Bounds.{map_of};
 ghost use Rattle.re_chain_parts.specs.Chains.{IsSound, IsSoundChain};
 ghost use Rattle.re_chain_steps.specs.RowForms.{HasSets, HasStepSets, by_rows as bound_by_rows, map_by_rows as rows_of_map, row_form as rows_of_entries, step_by_rows as rows_of_step};
-ghost use Rattle.re_entries.specs.StepClauses.{HasRowSets};
+ghost use Rattle.re_entry_clauses.specs.StepClauses.{HasRowSets};
 ghost use Rattle.re_labels.specs.Lists.{IsRising};
 ghost use Rattle.re_labels.specs.Sets.{number};
 ghost use Rattle.re_problem.specs.Steps.{entry_sets, label_of};
@@ -14,7 +14,7 @@ use arrayvec::ArrayVec;
 use re_cert::{Certificate, LowerMap, RowImage, SetEntry, Step, StepParts};
 use re_chain_parts::{copied_entries, copied_images, copied_rows, over_problems};
 use re_config::Row;
-use re_entries::place_for;
+use re_entry_clauses::place_for;
 use re_labels::{LabelSet, NoMemory};
 use std::alloc::Global;
 

@@ -3,7 +3,7 @@ ghost use Rattle.re_cert.specs.Bounds.{has_row_maps as have_row_maps, is_by_row 
 ghost use Rattle.re_chain_parts.specs.Chains.{IsSound, IsSoundChain};
 ghost use Rattle.re_chain_steps.specs.RowForms.{map_by_rows, step_by_rows as rows_of_step};
 ghost use Rattle.re_chain_steps.specs.Stepped.{derived_step as step_of_problem, next_step, own_entries as entries_of_sets, stepped, stepping_fault};
-ghost use Rattle.re_entries.specs.StepClauses.{HasRowSets};
+ghost use Rattle.re_entry_clauses.specs.StepClauses.{HasRowSets};
 ghost use Rattle.re_problem.specs.NamedProblems.{unnamed};
 ghost use Rattle.re_problem.specs.Steps.LowerMap.{by_set};
 ghost use Rattle.re_step.specs.Derivations.{derivation, step_limit};

@@ -5,7 +5,7 @@ use Rattle.re_cert.specs.Bounds.{Bound}
 use Rattle.re_cert.specs.CertificateTexts.{certificate_fault, certificate_of, text_lines}
 use Rattle.re_chain_parts.specs.Chains.{chain_with}
 use Rattle.re_chain_texts.specs.OverChains.{certificate_outcome}
-use Rattle.re_tidy.specs.Tidied.{tidied}
+use Rattle.re_chain.specs.Tidied.{tidied}
 use Rattle.re_frame.specs.Runs.{MaySay}
 use Rattle.re_chain.specs.declared.refusal.Refusal.{Refusal}
 use Rattle.re_chain_steps.specs.declared.stepping.ChainStepFault.{ChainStepFault}

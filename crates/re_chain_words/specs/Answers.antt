@@ -12,7 +12,7 @@ use Rattle.re_chain_steps.specs.Stepped.{stepped, stepping_fault}
 use Rattle.re_chain_steps.specs.declared.stepping.ChainStepFault.{ChainStepFault}
 use Rattle.re_chain_steps.specs.declared.stepping.ChainStepFault.TheVariants.{Limit}
 use Rattle.re_chain_texts.specs.OverChains.{IsSoundText, certificate_outcome, or_fault, over_any, over_sound}
-use Rattle.re_tidy.specs.Tidied.{tidied}
+use Rattle.re_chain.specs.Tidied.{tidied}
 use Rattle.re_chain_words.specs.Shapings.{drop_outcome, merge_outcome, name_outcome}
 use Rattle.re_chain_words.specs.declared.words.ChainWord.{ChainWord}
 use Rattle.re_chain_words.specs.declared.words.ChainWord.TheVariants.{Begin, Last, Shape, Tidy}

@@ -9,12 +9,12 @@ ghost use Rattle.std.specs.Prelude.{◌≡◌, ◌≤◌, [], IfOk, length};
 use crate::shaping::shaped_output;
 use crate::words::{ChainWord, Shaping};
 use re_cert::{Certificate, Kind, read_certificate};
+use re_chain::tidy;
 use re_chain_parts::{chain_kind, over_problems};
 use re_chain_texts::{ChainRead, certificate_output, read_any, read_sound};
 use re_frame::{Answer, Answering, Output, done, fault_output};
 use re_labels::NoMemory;
 use re_problem::{Problem, TextFault, print_problem, read_problem};
-use re_tidy::tidy;
 use std::alloc::Global;
 
 // The chain of this kind without steps.

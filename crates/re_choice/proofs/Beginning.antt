@@ -24,13 +24,13 @@ use Rattle.re_labels.specs.declared.TheConstants.{MAX_LABELS}
 
 -- ---- tests of some choice
 -- the choices of the drawn labels and of the other sets are the drawn labels with the choices of those
-any-fixed : (p : List ℕ → Bool) (drawn : List ℕ) (sets : List (List ℕ)) → list_any p (choices (singles drawn ++ sets)) ≡ list_any (λ labels. p (drawn ++ labels)) (choices sets)
+pub any-fixed : (p : List ℕ → Bool) (drawn : List ℕ) (sets : List (List ℕ)) → list_any p (choices (singles drawn ++ sets)) ≡ list_any (λ labels. p (drawn ++ labels)) (choices sets)
 any-fixed p [] sets = refl
 any-fixed p (x ∷ drawn) sets =
     ap (list_any p) (append-nil (map (λ labels. x ∷ labels) (choices (singles drawn ++ sets)))) ∙ any-map p (λ labels. x ∷ labels) (choices (singles drawn ++ sets))
     ∙ any-fixed (λ labels. p (x ∷ labels)) drawn sets
 
-none_found : {X : Type 0} (p : X → Bool) (xs : List X) → list_any p xs ≡ false → find p xs ≡ None
+pub none_found : {X : Type 0} (p : X → Bool) (xs : List X) → list_any p xs ≡ false → find p xs ≡ None
 none_found p [] h = refl
 none_found {X} p (x ∷ xs) h = go (p x) (none_found p xs) h
   where

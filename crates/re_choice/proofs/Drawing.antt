@@ -9,7 +9,7 @@ use Rattle.re_labels.specs.Sets.{IsLabelSet, first_of, without_label}
 use Rattle.re_table.specs.Constraints.{Constraint, has_config}
 use Rattle.re_labels.specs.declared.TheConstants.{MAX_LABELS}
 
-find-map : {X Y : Type 0} (p : Y → Bool) (f : X → Y) (xs : List X) → find p (map f xs) ≡ option_map f (find (λ x. p (f x)) xs)
+pub find-map : {X Y : Type 0} (p : Y → Bool) (f : X → Y) (xs : List X) → find p (map f xs) ≡ option_map f (find (λ x. p (f x)) xs)
 find-map p f [] = refl
 find-map {X} {Y} p f (x ∷ xs) = go (p (f x)) (find-map p f xs)
   where
@@ -23,7 +23,7 @@ first_some None other = other
 first_some (Some x) other = Some x
 
 -- the choices with the first label of the first set come first
-step : (constraint : Constraint) (drawn : List ℕ) (x : ℕ) (s : List ℕ) (others : List (List ℕ))
+pub step : (constraint : Constraint) (drawn : List ℕ) (x : ℕ) (s : List ℕ) (others : List (List ℕ))
     → first_behind constraint drawn ((x ∷ s) ∷ others) ≡ first_some (option_map (λ labels. x ∷ labels) (first_behind constraint (drawn ++ x ∷ []) others)) (first_behind constraint drawn (s ∷ others))
 step constraint drawn x s others =
     let p = λ (labels : List ℕ). has_config constraint (drawn ++ labels) in
@@ -41,7 +41,7 @@ step constraint drawn x s others =
         go false rest = rest
 
 -- the same of a set with its least label
-whole : (constraint : Constraint) (drawn first : List ℕ) (others : List (List ℕ)) (label : ℕ) → IsLabelSet MAX_LABELS first → first_of first ≡ Some label
+pub whole : (constraint : Constraint) (drawn first : List ℕ) (others : List (List ℕ)) (label : ℕ) → IsLabelSet MAX_LABELS first → first_of first ≡ Some label
     → first_behind constraint drawn (first ∷ others) ≡ first_some (option_map (λ labels. label ∷ labels) (first_behind constraint (drawn ++ label ∷ []) others)) (first_behind constraint drawn (without_label first label ∷ others))
 whole constraint drawn first others label set found =
     ap (λ s. first_behind constraint drawn (s ∷ others)) (first-is first label set.0 found) ∙ step constraint drawn label (without_label first label) others

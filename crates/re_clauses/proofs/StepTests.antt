@@ -21,11 +21,11 @@ use Rattle.re_problem.specs.Steps.{SetEntry, entry_sets, label_at, label_of, set
 use Rattle.re_cert.specs.Bounds.{is_label}
 use Rattle.re_clauses.proofs.StepMeaning.{all_held, all_there, by_row-tells, lists-Decides, rows-Decides}
 use Rattle.re_clauses.specs.Clauses.{are_allowed, are_good, are_maximal, have_labels, have_row_sets, is_filled, keep_allowed, keep_allowed_by_row, keep_images, keep_rows, sets_in}
-use Rattle.re_entries.proofs.NextLabels.{next-count}
-use Rattle.re_entries.proofs.RowSets.{place_of-there, row_sets_law, sets-place}
-use Rattle.re_entries.proofs.Telling.{held-read, read-held}
+use Rattle.re_entry_clauses.proofs.NextLabels.{next-count}
+use Rattle.re_entry_clauses.proofs.RowSets.{place_of-there, row_sets_law, sets-place}
+use Rattle.re_entry_clauses.proofs.Telling.{held-read, read-held}
 use Rattle.re_maps.proofs.ImageRows.{known_labels}
-use Rattle.re_entries.specs.StepClauses.{HasAllowedImages, HasGoodImages, HasNextLabels, HasRowSets, KeepsAllowed, KeepsAllowedByRow, KeepsImages, KeepsRows, OccursInRows}
+use Rattle.re_entry_clauses.specs.StepClauses.{HasAllowedImages, HasGoodImages, HasNextLabels, HasRowSets, KeepsAllowed, KeepsAllowedByRow, KeepsImages, KeepsRows, OccursInRows}
 use Rattle.re_labels.specs.declared.TheConstants.{MAX_LABELS}
 
 -- ---- rows

@@ -17,8 +17,8 @@ use Rattle.re_table.proofs.Goodness.{IsAllowed-is_allowed, IsDominated-is_domina
 use Rattle.re_table.proofs.Strengths.{filter-same}
 use Rattle.re_table.specs.Constraints.{Constraint}
 use Rattle.re_table.specs.GoodRows.{IsAllowed, IsDominated, allowed, is_allowed, is_dominated}
-use Rattle.re_lines.proofs.Steps.{Has-topmost, Has-topmost_cases}
-use Rattle.re_lines.specs.Lines.{Family, IsFamily, below, topmost}
+use Rattle.re_closure_laws.proofs.Steps.{Has-topmost, Has-topmost_cases}
+use Rattle.re_closure_laws.specs.Lines.{Family, IsFamily, below, topmost}
 use Rattle.re_closure.specs.Sides.{labels_around}
 
 -- ---- labels around a set

@@ -9,8 +9,8 @@ use Rattle.re_problem.specs.Problems.{IsProblem, Problem}
 use Rattle.re_step.specs.LabelNames.{label_names}
 use Rattle.re_table.specs.Constraints.{Constraint}
 use Rattle.re_closure.proofs.NamedFamilies.{named_between, named_closed, same_count}
-use Rattle.re_lines.specs.Closures.{AreClosure}
-use Rattle.re_lines.specs.Lines.{Family}
+use Rattle.re_closure_laws.specs.Closures.{AreClosure}
+use Rattle.re_closure_laws.specs.Lines.{Family}
 use Rattle.re_closure.specs.Closed.{Computes, IsMapWithin, IsSide, SidePasses}
 use Rattle.re_closure.specs.Closures.{HasRoom, LimitIs}
 use Rattle.re_closure.specs.Limits.{PassesLimit}

@@ -18,8 +18,8 @@ use Rattle.re_config.specs.declared.TheConstants.{MAX_ROWS}
 use Rattle.re_config.specs.Rows.{placed}
 use Rattle.re_table.proofs.MaxSets.{max_sets-from}
 use Rattle.re_table.specs.Constraints.{Constraint}
-use Rattle.re_entries.proofs.RowSets.{row_sets_law}
-use Rattle.re_entries.specs.StepClauses.{HasRowSets}
+use Rattle.re_entry_clauses.proofs.RowSets.{row_sets_law}
+use Rattle.re_entry_clauses.specs.StepClauses.{HasRowSets}
 use Rattle.re_table.specs.GoodRows.{max_rows, max_sets}
 use Rattle.re_problem.proofs.Building.{below_all}
 use Rattle.re_problem.proofs.TextLines.{last_push}
@@ -49,12 +49,12 @@ use Rattle.re_chain_steps.proofs.RowForms.{step-fits, step-form, step-sound}
 use Rattle.re_chain_steps.specs.Stepped.{in_form_of}
 use Rattle.re_step.proofs.NameLemmas.{length-label_names}
 use Rattle.re_extend.specs.Extensions.{GoesOn, IsSoundChain}
-use Rattle.re_lines.proofs.Closing.{chain_law, zero_lines_law}
-use Rattle.re_lines.proofs.Entries.{sets_by}
-use Rattle.re_lines.proofs.FirstSteps.{of_maximal}
-use Rattle.re_lines.proofs.Generated.{closure_families_law}
-use Rattle.re_lines.proofs.Steps.{of_max_set}
-use Rattle.re_lines.specs.Lines.{AreAround, Family, IsFamily, below, entries_to, labels_within, problem_of, topmost}
+use Rattle.re_closure_laws.proofs.Closing.{chain_law, zero_lines_law}
+use Rattle.re_closure_laws.proofs.Entries.{sets_by}
+use Rattle.re_closure_laws.proofs.FirstSteps.{of_maximal}
+use Rattle.re_closure_laws.proofs.Generated.{closure_families_law}
+use Rattle.re_closure_laws.proofs.Steps.{of_max_set}
+use Rattle.re_closure_laws.specs.Lines.{AreAround, Family, IsFamily, below, entries_to, labels_within, problem_of, topmost}
 use Rattle.re_closure.proofs.NamedFamilies.{named_between, named_closed, opposed, same_count, unnamed_of}
 use Rattle.re_closure.proofs.Named.{named_sets, placed_named}
 use Rattle.re_closure.proofs.RowLemmas.{few_maximal}
@@ -210,7 +210,7 @@ module _ (chain : Bound) (is : is_bound chain ≡ true) (sound : IsSoundChain ch
   fam : IsFamily active × IsFamily passive × AreAround (unnamed (last_problem chain)) active passive
   fam = closure_families_law (unnamed P) active passive problem.problem small.closure
 
-  law : Rattle.re_lines.specs.Laws.IsChain (unnamed (last_problem chain)) active passive
+  law : Rattle.re_closure_laws.specs.Laws.IsChain (unnamed (last_problem chain)) active passive
   law = chain_law (unnamed P) active passive problem.problem small.closure
 
   counts : length active.sets ≡ length passive.sets

@@ -5,3 +5,5 @@ mod NamedFamilies
 mod Computed
 mod Named
 mod Joined
+mod Saying
+mod OneOutcome

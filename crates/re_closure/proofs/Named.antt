@@ -3,9 +3,9 @@ use Rattle.std.proofs.Common.{◌<◌, ◌∷◌, ℕ, List, [], zero, suc, get_
 use Rattle.std.specs.List.{AllByRecursion}
 use Rattle.re_labels.proofs.Membership.{AllByRecursion-from_contains}
 use Rattle.re_config.specs.Rows.{placed}
-use Rattle.re_lines.proofs.Generated.{closure_families_law}
-use Rattle.re_lines.specs.Closures.{AreClosure}
-use Rattle.re_lines.specs.Lines.{Family}
+use Rattle.re_closure_laws.proofs.Generated.{closure_families_law}
+use Rattle.re_closure_laws.specs.Closures.{AreClosure}
+use Rattle.re_closure_laws.specs.Lines.{Family}
 use Rattle.re_problem.specs.NamedProblems.{NamedProblem, unnamed}
 use Rattle.re_problem.specs.Problems.{IsProblem}
 use Rattle.re_closure.specs.Closures.{AreNamed}

@@ -18,14 +18,14 @@ use Rattle.re_problem.proofs.Building.{build_law}
 use Rattle.re_problem.specs.NamedProblems.{IsNamedProblem, NamedProblem, OccursIn, built, unnamed}
 use Rattle.re_problem.specs.Problems.{IsProblem, Problem}
 use Rattle.re_step.proofs.NameLemmas.{IsNames-label_names, length-label_names}
-use Rattle.re_lines.proofs.Below.{Has-below}
+use Rattle.re_closure_laws.proofs.Below.{Has-below}
 use Rattle.re_labels.proofs.Searching.{same_read}
-use Rattle.re_lines.proofs.FirstSteps.{IsIn-others, IsIn-others_cases, first_step_law, opposite_to, others-more}
-use Rattle.re_lines.proofs.Generated.{IsLabelSet-others, active_first, closure_families_law, fit, same_set}
-use Rattle.re_lines.proofs.Returning.{other_way}
-use Rattle.re_lines.proofs.Steps.{Has-topmost, step_law}
-use Rattle.re_lines.specs.Closures.{AreClosure, down_lines}
-use Rattle.re_lines.specs.Lines.{AreAround, AreOpposed, Family, IsFamily, below, others, problem_of, topmost}
+use Rattle.re_closure_laws.proofs.FirstSteps.{IsIn-others, IsIn-others_cases, first_step_law, opposite_to, others-more}
+use Rattle.re_closure_laws.proofs.Generated.{IsLabelSet-others, active_first, closure_families_law, fit, same_set}
+use Rattle.re_closure_laws.proofs.Returning.{other_way}
+use Rattle.re_closure_laws.proofs.Steps.{Has-topmost, step_law}
+use Rattle.re_closure_laws.specs.Closures.{AreClosure, down_lines}
+use Rattle.re_closure_laws.specs.Lines.{AreAround, AreOpposed, Family, IsFamily, below, others, problem_of, topmost}
 use Rattle.re_step.proofs.StepLemmas.{wider}
 use Rattle.re_closure.specs.Sides.{named_of}
 

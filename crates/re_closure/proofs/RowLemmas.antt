@@ -27,12 +27,12 @@ use Rattle.re_table.specs.GoodRows.{max_rows}
 use Rattle.re_boxes.proofs.Spread.{IsIn-filled}
 use Rattle.re_strength.specs.Ordering.{is_row_before}
 use Rattle.re_problem.specs.Problems.{IsProblem, Problem}
-use Rattle.re_lines.proofs.FirstSteps.{of_maximal}
-use Rattle.re_lines.proofs.Generated.{closure_families_law}
-use Rattle.re_lines.proofs.MaximalLines.{in_order-row, maximal_lines_law}
-use Rattle.re_lines.proofs.Unders.{IsIn-labels_within, IsLabelSet-labels_within}
-use Rattle.re_lines.specs.Closures.{AreClosure}
-use Rattle.re_lines.specs.Lines.{AreApart, Family, IsFamily, below, labels_within, row_within}
+use Rattle.re_closure_laws.proofs.FirstSteps.{of_maximal}
+use Rattle.re_closure_laws.proofs.Generated.{closure_families_law}
+use Rattle.re_closure_laws.proofs.MaximalLines.{in_order-row, maximal_lines_law}
+use Rattle.re_closure_laws.proofs.Unders.{IsIn-labels_within, IsLabelSet-labels_within}
+use Rattle.re_closure_laws.specs.Closures.{AreClosure}
+use Rattle.re_closure_laws.specs.Lines.{AreApart, Family, IsFamily, below, labels_within, row_within}
 use Rattle.re_closure.specs.Sides.{IsRowBefore, row_at}
 
 -- ---- the row of a line

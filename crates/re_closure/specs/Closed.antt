@@ -4,7 +4,7 @@ use Rattle.re_config.specs.declared.TheConstants.{MAX_ROWS}
 use Rattle.re_labels.specs.Lists.{place_of}
 use Rattle.re_table.specs.declared.constraint_table.TheConstants.{MAX_CONFIGURATIONS}
 use Rattle.re_problem.specs.Problems.{Problem}
-use Rattle.re_lines.specs.Lines.{Family, below, labels_within, topmost}
+use Rattle.re_closure_laws.specs.Lines.{Family, below, labels_within, topmost}
 use Rattle.re_closure.specs.Limits.{IsSmallClosure}
 use Rattle.re_closure.specs.Sides.{IsMapOf, named_of}
 use Rattle.re_closure.specs.declared.closure.Closure.{Closure}

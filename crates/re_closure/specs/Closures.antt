@@ -9,7 +9,7 @@ use Rattle.re_extend.specs.Extensions.{GoesOn}
 use Rattle.re_labels.specs.declared.TheConstants.{MAX_LABELS}
 use Rattle.re_problem.specs.NamedProblems.{NamedProblem, unnamed}
 use Rattle.re_problem.specs.Zero.{zero_place}
-use Rattle.re_lines.specs.Lines.{Family, problem_of, topmost}
+use Rattle.re_closure_laws.specs.Lines.{Family, problem_of, topmost}
 use Rattle.re_closure.specs.Limits.{IsSmallClosure, PassesLimit}
 use Rattle.re_closure.specs.Sides.{closed_bound}
 use Rattle.re_closure.specs.declared.types.Closing.{Closing}

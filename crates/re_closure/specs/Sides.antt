@@ -16,7 +16,7 @@ use Rattle.re_cert.specs.declared.certificate.Kind.TheVariants.{Fixed}
 use Rattle.re_step.specs.LabelNames.{label_names}
 use Rattle.re_chain_steps.specs.RowForms.{step_by_rows}
 use Rattle.re_chain_steps.specs.Stepped.{in_form_of}
-use Rattle.re_lines.specs.Lines.{Family, below, entries_to, entries_within, topmost}
+use Rattle.re_closure_laws.specs.Lines.{Family, below, entries_to, entries_within, topmost}
 use Rattle.re_closure.specs.declared.types.StepMap.{StepMap}
 
 abbrev pub family_of : ℕ → List (List (List ℕ)) → List (List ℕ) → Family

@@ -3,11 +3,11 @@ ghost use Rattle.re_closure.specs.Closed.{Computes, IsClosureOf, IsSide, SidePas
 ghost use Rattle.re_closure.specs.Limits.{PassesLimit};
 ghost use Rattle.re_closure.specs.Sides.{family_of};
 ghost use Rattle.re_config.specs.declared.TheConstants.{MAX_ROWS};
-ghost use Rattle.re_lines.specs.Closures.{AreClosure};
-ghost use Rattle.re_lines.specs.Lines.{AreApart, IsFamily, others};
+ghost use Rattle.re_closure_laws.specs.Closures.{AreClosure};
+ghost use Rattle.re_closure_laws.specs.Lines.{AreApart, IsFamily, others};
 ghost use Rattle.re_problem.specs.NamedProblems.{IsNamedProblem, unnamed};
 ghost use Rattle.re_step.specs.LabelNames.{label_names};
-ghost use Rattle.re_topmost.specs.ProblemFamilies.{active_family, passive_family};
+ghost use Rattle.re_closure_lines.specs.ProblemFamilies.{active_family, passive_family};
 ghost use Rattle.std.specs.Prelude.{◌≡◌, ◌≤◌, Err, IfOk, length, map};
 
 use crate::constraints::{below_of, topmost_of};
@@ -15,12 +15,12 @@ use crate::occurring::map_of;
 use crate::rows::maximal_of;
 use crate::sets::all_within;
 use crate::types::{ClosureFault, ClosureLimit, StepMap};
+use re_closure_lines::{Families, LinesFault, SetLine, closure_families, others_of};
 use re_exist::AllowedFault;
 use re_labels::{LabelSet, MAX_LABELS, NoMemory};
 use re_problem::Problem;
 use re_step::names_of;
 use re_table::Constraint;
-use re_topmost::{Families, Line, LinesFault, closure_families, others_of};
 use std::alloc::Global;
 
 /// One side of a closure.
@@ -67,7 +67,7 @@ fn all_others(alloc: Global, labels: u8, sets: &[LabelSet]) -> Result<Vec<LabelS
 fn side_of(
     alloc: Global,
     degree: u8,
-    lines: &[Line],
+    lines: &[SetLine],
     sets: &[LabelSet],
 ) -> Result<Side, ClosureFault>
     requires family { IsFamily (family_of degree lines.now sets.now) }

@@ -3,17 +3,18 @@ ghost use Rattle.re_closure.specs.Sides.{family_of};
 ghost use Rattle.re_config.specs.Configs.{sorted};
 ghost use Rattle.re_config.specs.declared.TheConstants.{MAX_ROWS};
 ghost use Rattle.re_labels.specs.Lists.{place_of};
-ghost use Rattle.re_lines.specs.Lines.{IsFamily, below, topmost};
+ghost use Rattle.re_closure_laws.specs.Lines.{IsFamily, below, topmost};
 ghost use Rattle.re_table.specs.declared.constraint_table.TheConstants.{MAX_CONFIGURATIONS};
 ghost use Rattle.std.specs.Prelude.{◌≡◌, ◌<◌, ◌≤◌, Contains, IfOk, IsErrOf, List, length, map, ℕ};
 
-use crate::sets::{all_around, place_of};
+use crate::sets::all_around;
 use arrayvec::ArrayVec;
+use re_closure_lines::SetLine;
 use re_config::Config;
 use re_exist::{AllowedFault, allowed};
 use re_labels::{LabelSet, MAX_LABELS, NoMemory};
+use re_step::place_of;
 use re_table::{Constraint, InsertFault};
-use re_topmost::Line;
 use std::alloc::Global;
 
 // The places of the line's sets among the sets.
@@ -30,7 +31,7 @@ fn labels_of(sets: &[LabelSet], line: &[LabelSet]) -> ArrayVec<u8, 6>
 }
 
 // The configuration of the places of the line's sets, each of which is there.
-fn config_of(sets: &[LabelSet], line: &Line) -> Config
+fn config_of(sets: &[LabelSet], line: &SetLine) -> Config
     requires few { length sets.now ≤ MAX_LABELS }
     requires two { 2 ≤ length line.now }
     requires there { (set : List ℕ) → Contains line.now set → Contains sets.now set }
@@ -44,7 +45,7 @@ fn config_of(sets: &[LabelSet], line: &Line) -> Config
 pub(crate) fn topmost_of(
     alloc: Global,
     degree: u8,
-    lines: &[Line],
+    lines: &[SetLine],
     sets: &[LabelSet],
 ) -> Result<Constraint, NoMemory>
     requires family { IsFamily (family_of degree lines.now sets.now) }
@@ -67,7 +68,7 @@ pub(crate) fn topmost_of(
 pub(crate) fn below_of(
     alloc: Global,
     top: &Constraint,
-    lines: &[Line],
+    lines: &[SetLine],
     sets: &[LabelSet],
 ) -> Result<Constraint, AllowedFault>
     requires family { IsFamily (family_of top.now.degree lines.now sets.now) }

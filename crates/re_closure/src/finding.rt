@@ -8,7 +8,7 @@ ghost use Rattle.re_config.specs.Rows.{placed, set_at};
 ghost use Rattle.re_config.specs.declared.TheConstants.{MAX_ROWS};
 ghost use Rattle.re_extend.specs.Extensions.{IsSoundChain};
 ghost use Rattle.re_labels.specs.Lists.{count_from, place_of};
-ghost use Rattle.re_lines.specs.Lines.{Family};
+ghost use Rattle.re_closure_laws.specs.Lines.{Family};
 ghost use Rattle.re_problem.specs.NamedProblems.{unnamed};
 ghost use Rattle.re_problem.specs.Zero.{zero_place};
 ghost use Rattle.re_table.specs.GoodRows.{max_rows};
@@ -176,7 +176,7 @@ fn closed(alloc: Global, chain: &Certificate) -> Result<Closing, ClosureFault>
 /// The answer is `Solvable` exactly where the last problem is solvable without communication. Else the first limit that is passed is
 /// refused: of steps; of rows, on the way to the closure; of labels; of configurations; and then the answer is `SolvableClosure` exactly
 /// where the closure is solvable without communication, and else `Found`: such a certificate comes of each problem whose closure passes
-/// no limit. The cost is that of `re_topmost::closure_families`, of `re_exist::allowed` for both sides, and of `re_universal::maximal_rows`
+/// no limit. The cost is that of `re_closure_lines::closure_families`, of `re_exist::allowed` for both sides, and of `re_universal::maximal_rows`
 /// for the last problem.
 pub fn find_closure(alloc: Global, chain: &Certificate) -> Result<Closing, ClosureFault>
     requires { IsSoundChain chain.now }

@@ -3,7 +3,7 @@ ghost use Rattle.re_closure.specs.Sides.{IsRowBefore, family_of, row_at};
 ghost use Rattle.re_config.specs.Rows.{row_cmp};
 ghost use Rattle.re_config.specs.declared.TheConstants.{MAX_ROWS};
 ghost use Rattle.re_labels.specs.Lists.{IsRising};
-ghost use Rattle.re_lines.specs.Lines.{AreApart, IsFamily, below, labels_within, row_within};
+ghost use Rattle.re_closure_laws.specs.Lines.{AreApart, IsFamily, below, labels_within, row_within};
 ghost use Rattle.re_strength.specs.Ordering.{is_row_before};
 ghost use Rattle.re_table.specs.GoodRows.{max_rows};
 ghost use Rattle.std.specs.List.Sorted.{IsPermutation, IsSortedBy};
@@ -12,15 +12,15 @@ ghost use Rattle.std.specs.declared.cmp.Ordering.TheVariants.{Equal};
 
 use crate::sets::labels_within;
 use arrayvec::ArrayVec;
+use re_closure_lines::SetLine;
 use re_config::Row;
 use re_labels::{LabelSet, MAX_LABELS, NoMemory};
 use re_strength::row_order;
-use re_topmost::Line;
 use std::alloc::Global;
 use std::cmp::Ordering;
 
 // The row of a line.
-fn row_of(sets: &[LabelSet], line: &Line) -> Row
+fn row_of(sets: &[LabelSet], line: &SetLine) -> Row
     requires few { length sets.now ≤ MAX_LABELS }
     requires two { 2 ≤ length line.now }
     requires there { (set : List ℕ) → Contains line.now set → Contains sets.now set }
@@ -40,7 +40,7 @@ fn row_of(sets: &[LabelSet], line: &Line) -> Row
 fn rows_of(
     alloc: Global,
     degree: u8,
-    lines: &[Line],
+    lines: &[SetLine],
     sets: &[LabelSet],
 ) -> Result<Vec<Row>, NoMemory>
     requires family { IsFamily (family_of degree lines.now sets.now) }
@@ -108,7 +108,7 @@ fn without_repeats(alloc: Global, rows: &[Row]) -> Result<Vec<Row>, NoMemory>
 pub(crate) fn maximal_of(
     alloc: Global,
     degree: u8,
-    lines: &[Line],
+    lines: &[SetLine],
     sets: &[LabelSet],
 ) -> Result<Vec<Row>, NoMemory>
     requires family { IsFamily (family_of degree lines.now sets.now) }

@@ -1,31 +1,10 @@
 //! Sets among others: their places, and the labels of what lies within a set or around it.
 ghost use Rattle.re_closure.specs.Sides.{labels_around};
-ghost use Rattle.re_labels.specs.Lists.{place_of, same_list};
-ghost use Rattle.re_lines.specs.Lines.{labels_within};
+ghost use Rattle.re_closure_laws.specs.Lines.{labels_within};
 ghost use Rattle.std.specs.Prelude.{◌≡◌, ◌≤◌, IfOk, length, map};
 
 use re_labels::{LabelSet, MAX_LABELS, NoMemory};
 use std::alloc::Global;
-
-// Whether the sets are the same.
-fn is_same(set: LabelSet, other: LabelSet) -> bool
-    ensures { result ≡ same_list set other }
-{
-    set.number() == other.number()
-}
-
-/// The place of the set among the sets, or their number where it isn't there.
-pub(crate) fn place_of(sets: &[LabelSet], set: LabelSet) -> usize
-    ensures place { result ≡ place_of sets.now set }
-    ensures most { result ≤ length sets.now }
-{
-    for (place, held) in sets.iter().enumerate() {
-        if is_same(*held, set) {
-            return place;
-        }
-    }
-    sets.len()
-}
 
 /// The places of the sets that lie within this one.
 pub(crate) fn labels_within(sets: &[LabelSet], set: LabelSet) -> LabelSet

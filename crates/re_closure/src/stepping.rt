@@ -2,7 +2,7 @@
 ghost use Rattle.re_cert.specs.Bounds.{map_of};
 ghost use Rattle.re_chain_steps.specs.RowForms.{map_by_rows, row_form as rows_of_entries};
 ghost use Rattle.re_closure.specs.Sides.{in_form, step_to};
-ghost use Rattle.re_entries.specs.StepClauses.{HasRowSets};
+ghost use Rattle.re_entry_clauses.specs.StepClauses.{HasRowSets};
 ghost use Rattle.re_labels.specs.Lists.{IsRising};
 ghost use Rattle.re_labels.specs.Sets.{number};
 ghost use Rattle.re_problem.specs.Steps.LowerMap.{by_set};
@@ -13,7 +13,7 @@ use crate::types::StepMap;
 use arrayvec::ArrayVec;
 use re_cert::{LowerMap, RowImage, SetEntry, Step, StepParts};
 use re_config::Row;
-use re_entries::place_for;
+use re_entry_clauses::place_for;
 use re_labels::{LabelSet, NoMemory};
 use re_problem::Problem;
 use std::alloc::Global;

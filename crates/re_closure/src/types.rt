@@ -2,9 +2,9 @@
 ghost use Rattle.std.specs.Prelude.{◌≡◌};
 
 use re_cert::{Certificate, SetEntry};
+use re_closure_lines::LinesFault;
 use re_config::Row;
 use re_labels::{LabelSet, NoMemory};
-use re_topmost::LinesFault;
 use std::alloc::{AllocError, AllocFailed};
 
 /// What the closure of the last problem of a chain comes to.
@@ -32,7 +32,7 @@ pub(crate) struct StepMap {
 #[derive(Clone, Copy, Debug, PartialEq, Eq)]
 pub enum ClosureLimit {
     /// More than `re_config::MAX_ROWS` lines of one side at a time on the way to the closure, or more than
-    /// `re_topmost::MAX_COMBINATIONS` combinations that waited or had to be looked at. Which lines these are is the algorithm's.
+    /// `re_closure_lines::MAX_COMBINATIONS` combinations that waited or had to be looked at. Which lines these are is the algorithm's.
     Rows,
     /// More than `re_labels::MAX_LABELS` labels, and how many.
     Labels(usize),

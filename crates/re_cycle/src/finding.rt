@@ -7,9 +7,9 @@ ghost use Rattle.re_problem.specs.NamedProblems.{unnamed};
 ghost use Rattle.re_problem.specs.Zero.{zero_place};
 ghost use Rattle.std.specs.Prelude.{◌≡◌, IfOk, IfSome, None};
 
-use crate::nodes::{Node, Nodes, Way};
+use crate::nodes::{Graph, Return};
 use crate::walking::{Walk, Walked};
-use re_cert::{Certificate, Kind, MAX_STEPS};
+use re_cert::{Certificate, Kind, MAX_STEPS, Step};
 use re_extend::{Extension, extended, steps_along};
 use re_labels::{MAX_LABELS, NoMemory};
 use re_problem::LabelMap;
@@ -23,12 +23,12 @@ pub enum Cycle {
     Found(Certificate),
     /// The chain's last problem is solvable without communication: the place of its first active configuration that shows it.
     Solvable(usize),
-    /// None was found: how many problems were looked at, and at how many of them the derived problem passed a limit. This says nothing
-    /// of the problem.
+    /// There is none among the problems that were looked at: how many these were; and how many times the derived problem of one passed a
+    /// limit, or a renaming of two was given up. Where that is 0, no walk of so many steps with so many merges each comes back.
     NotFound {
         /// How many problems.
         nodes: u32,
-        /// At how many of them.
+        /// How many limits, and renamings that were given up.
         cut: u32,
     },
     /// None was found among the most problems that may be looked at.
@@ -44,24 +44,54 @@ fn pairs_of(alloc: Global, map: &LabelMap) -> Result<Vec<(u8, u8)>, NoMemory> {
     Ok(pairs)
 }
 
-// The certificate that goes on from the chain to this problem, and comes back from it.
-fn closed(
+// Each of so many labels with itself.
+fn own_pairs(alloc: Global, labels: usize) -> Result<Vec<(u8, u8)>, NoMemory> {
+    let mut pairs = Vec::new(alloc);
+    for label in 0..labels.min(MAX_LABELS as usize) as u8 {
+        pairs.push((label, label))?;
+    }
+    Ok(pairs)
+}
+
+// The fixed point that comes back to the problem of this number, with these steps and this renaming.
+fn fixed(number: usize, steps: Vec<Step>, renaming: Vec<(u8, u8)>) -> Extension
+    ensures { result.kind ≡ Fixed }
+{
+    Extension {
+        kind: Kind::Fixed,
+        back: number.min(MAX_STEPS) as u8,
+        steps,
+        renaming,
+    }
+}
+
+// The certificate that goes on from the chain along the walk.
+fn along(
     alloc: Global,
     chain: &Certificate,
     steps: u8,
-    nodes: &Nodes,
-    node: &Node,
-    way: &Way,
+    graph: &Graph,
+    walk: &Return,
 ) -> Result<Option<Certificate>, NoMemory>
     ensures { IfOk result (λ found. IfSome found (GoesOn Fixed steps MAX_LABELS chain.now)) }
 {
-    let path = nodes.path_to(node)?;
-    let extension = Extension {
-        kind: Kind::Fixed,
-        back: way.number.min(MAX_STEPS) as u8,
-        steps: steps_along(alloc, chain, path)?,
-        renaming: pairs_of(alloc, &way.map)?,
-    };
+    let (number, labels) = graph.back_of(walk);
+    let more = steps_along(alloc, chain, graph.path(walk)?)?;
+    let extension = fixed(number, more, own_pairs(alloc, labels)?);
+    extended(alloc, chain, extension, steps, MAX_LABELS)
+}
+
+// The certificate of the chain, whose last problem is an earlier one.
+fn at_once(
+    alloc: Global,
+    chain: &Certificate,
+    steps: u8,
+    number: usize,
+    map: &LabelMap,
+) -> Result<Option<Certificate>, NoMemory>
+    ensures { IfOk result (λ found. IfSome found (GoesOn Fixed steps MAX_LABELS chain.now)) }
+{
+    let extension = fixed(number, Vec::new(alloc), pairs_of(alloc, map)?);
     extended(alloc, chain, extension, steps, MAX_LABELS)
 }
 
@@ -70,13 +100,14 @@ fn found(
     alloc: Global,
     chain: &Certificate,
     steps: u8,
-    nodes: &Nodes,
+    graph: &Graph,
     walked: &Walked,
 ) -> Result<Option<Certificate>, NoMemory>
     ensures { IfOk result (λ found. IfSome found (GoesOn Fixed steps MAX_LABELS chain.now)) }
 {
     match walked {
-        Walked::Back(node, way) => closed(alloc, chain, steps, nodes, node, way),
+        Walked::Start(number, map) => at_once(alloc, chain, steps, *number, map),
+        Walked::Back(walk) => along(alloc, chain, steps, graph, walk),
         Walked::Ended | Walked::Full => Ok(None),
     }
 }
@@ -92,15 +123,15 @@ fn answer_of(
     requires { zero_place (unnamed (last_problem chain.now)) ≡ None }
     ensures { IfOk result (Answers steps chain.now) }
 {
-    if let Some(certificate) = found(alloc, chain, steps, &walk.nodes, walked)? {
+    if let Some(certificate) = found(alloc, chain, steps, &walk.graph, walked)? {
         return Ok(Cycle::Found(certificate));
     }
     if let Walked::Full = walked {
         return Ok(Cycle::TooMany);
     }
     Ok(Cycle::NotFound {
-        nodes: walk.nodes.seen.len().min(u32::MAX as usize) as u32,
-        cut: walk.cut,
+        nodes: walk.graph.len().min(u32::MAX as usize) as u32,
+        cut: walk.limits.saturating_add(walk.graph.given_up()),
     })
 }
 
@@ -126,10 +157,10 @@ pub fn find_cycle(
     let depth = (room.min(MAX_STEPS) as u8).min(steps);
     let mut walk = Walk {
         alloc,
-        nodes: Nodes::of_chain(alloc, chain)?,
+        graph: Graph::of_chain(alloc, chain)?,
         most: nodes as usize,
         merges,
-        cut: 0,
+        limits: 0,
     };
     let walked = walk.walk(depth)?;
     answer_of(alloc, chain, steps, &walk, &walked)

@@ -1,15 +1,22 @@
-//! A breadth-first search for a fixed point with few steps.
+//! A search for the fixed point with the fewest steps.
 //!
-//! It looks at the problems that are reached from the last one of a chain by steps, each of them to what some merges have made of a
-//! derived problem: those of fewer steps first, then those of fewer merges, then in the order of the merges. A problem that is
-//! solvable without communication is left out, and so is one that was looked at before, under whatever names of its labels. The search
-//! ends at the first problem that is, under other names, an earlier one on its own path or in the chain.
+//! It looks at the graph of the problems that are reached from the last one of a chain by steps, each of them to what some merges have made
+//! of a derived problem, where problems under other names of their labels are one: those of fewer steps first, then those of fewer merges,
+//! then in the order of the merges. A problem that is solvable without communication is left out. Each problem is looked at once, under
+//! the names under which it was first met; a step that leads to it again, under other names, is kept with the renaming behind its map.
 //!
-//! It keeps each problem that it looks at, and what all merges but the last have made of one derived problem.
+//! The answer is the shortest walk on this graph whose last problem is an earlier one of the walk or of the chain; where the chain's last
+//! problem already is an earlier one, no step is added. A walk that comes back over the steps by which its problems were first met is
+//! told as soon as its last step is found. Another one goes to a problem that was met again, and from there the shortest way round: these
+//! are looked for when all problems of so many steps have been looked at.
+//!
+//! It keeps each problem that it looks at, one step for each two of them, and what all merges but the last have made of one derived
+//! problem.
 #![tactic(auto)]
 
 mod finding;
 mod nodes;
+mod returning;
 mod walking;
 
 pub use finding::{Cycle, find_cycle};

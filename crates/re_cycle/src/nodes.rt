@@ -1,4 +1,4 @@
-//! The problems that were looked at.
+//! The graph of the problems that were looked at.
 use re_cert::Certificate;
 use re_changes::Changed;
 use re_extend::Stop;
@@ -7,130 +7,348 @@ use re_problem::{LabelMap, Problem};
 use re_renaming::{Coloured, Renaming, renaming_to};
 use std::alloc::Global;
 
-/// A problem that was looked at, with the colours of its labels: the place of the problem of which it was made, the labels that those of
-/// the derived problem have become, and how many steps lead to it.
+/// Where a step leads: to the problem of this number of the chain, before its last one, or to the problem at this place among those that
+/// were looked at.
+#[derive(Clone, Copy, PartialEq, Eq)]
+pub(crate) enum Target {
+    Past(usize),
+    Seen(usize),
+}
+
+// A step from a problem: where it leads, and for each label of the derived problem the label that it becomes there, if it is left.
 #[derive(Drop)]
-pub(crate) struct Node {
-    pub(crate) coloured: Coloured,
-    pub(crate) parent: usize,
-    pub(crate) images: Vec<Option<u8>>,
-    pub(crate) depth: u8,
+struct Edge {
+    to: Target,
+    images: Vec<Option<u8>>,
 }
 
-/// The way from a problem back to an earlier one: its number from the first problem of the chain on, and a renaming.
+// A problem that was looked at, with the colours of its labels: the fewest steps to it, the place of the problem from which it was first
+// met, whether it was met again, and the steps from it.
 #[derive(Drop)]
-pub(crate) struct Way {
-    pub(crate) number: usize,
-    pub(crate) map: LabelMap,
-}
-
-/// The problems of a chain before its last one, and those that were looked at, the first of which is the chain's last one.
-#[derive(Drop)]
-pub(crate) struct Nodes {
-    alloc: Global,
-    past: Vec<Node>,
-    pub(crate) seen: Vec<Node>,
-}
-
-// A problem without a step to it.
-fn first_node(alloc: Global, problem: &Problem) -> Result<Node, NoMemory> {
-    Ok(Node {
-        coloured: Coloured::new(problem.copy()?),
-        parent: 0,
-        images: Vec::new(alloc),
-        depth: 0,
-    })
-}
-
-/// The problem that changes have made of the derived problem of the one at this place.
-pub(crate) fn node_of(
-    alloc: Global,
-    made: &Changed,
-    parent: usize,
+struct Node {
+    coloured: Coloured,
     depth: u8,
-) -> Result<Node, NoMemory> {
-    Ok(Node {
-        coloured: Coloured::new(made.problem().copy()?),
-        parent,
-        images: Vec::from_slice(alloc, made.images())?,
-        depth,
-    })
+    parent: usize,
+    again: bool,
+    edges: Vec<Edge>,
 }
 
-// The renaming that makes the first problem the second, if one is found: there is none, or too many labels would have to be tried.
-fn renaming(from: &Node, to: &Node) -> Option<LabelMap> {
-    match renaming_to(&from.coloured, &to.coloured) {
-        Renaming::Found(map) => Some(map),
-        Renaming::Missing | Renaming::TooMany => None,
+/// A walk that comes back: the places of its problems from the chain's last one on, and the earlier problem to which the last step leads.
+#[derive(Drop)]
+pub(crate) struct Return {
+    pub(crate) places: Vec<usize>,
+    pub(crate) target: Target,
+}
+
+/// The problems of a chain before its last one, those that were looked at, the first of which is the chain's last one, and how many
+/// renamings were given up.
+#[derive(Drop)]
+pub(crate) struct Graph {
+    alloc: Global,
+    past: Vec<Coloured>,
+    seen: Vec<Node>,
+    given_up: u32,
+}
+
+// The images with the renaming behind them.
+fn renamed(
+    alloc: Global,
+    images: &[Option<u8>],
+    map: &LabelMap,
+) -> Result<Vec<Option<u8>>, NoMemory> {
+    let names = map.images();
+    let mut all = Vec::new(alloc);
+    for image in images {
+        match image {
+            Some(label) => all.push(names.get(*label as usize).copied())?,
+            None => all.push(None)?,
+        }
     }
+    Ok(all)
 }
 
-// The problem as one on a path.
-fn stop_of(alloc: Global, node: &Node) -> Result<Stop, NoMemory> {
-    Ok(Stop {
-        problem: node.coloured.problem().copy()?,
-        images: Vec::from_slice(alloc, node.images.as_slice())?,
-    })
+// The place in the list.
+fn place_in(places: &[usize], place: usize) -> Option<usize> {
+    places.iter().position(|other| *other == place)
 }
 
-impl Nodes {
-    /// Those of a chain.
-    pub(crate) fn of_chain(alloc: Global, chain: &Certificate) -> Result<Nodes, NoMemory> {
+impl Graph {
+    /// That of a chain, with its last problem alone.
+    pub(crate) fn of_chain(alloc: Global, chain: &Certificate) -> Result<Graph, NoMemory> {
         let mut past = Vec::new(alloc);
         for number in 0..chain.steps().len() {
-            past.push(first_node(alloc, chain.problem_at(number))?)?;
+            past.push(Coloured::new(chain.problem_at(number).copy()?))?;
         }
-        let mut seen = Vec::new(alloc);
-        seen.push(first_node(alloc, chain.last())?)?;
-        Ok(Nodes { alloc, past, seen })
+        let mut graph = Graph {
+            alloc,
+            past,
+            seen: Vec::new(alloc),
+            given_up: 0,
+        };
+        graph.add(Coloured::new(chain.last().copy()?), 0, 0)?;
+        Ok(graph)
     }
 
-    // The way back to a problem of the chain before its last one.
-    fn way_to_past(&self, node: &Node) -> Option<Way> {
+    /// How many problems were looked at.
+    pub(crate) fn len(&self) -> usize {
+        self.seen.len()
+    }
+
+    /// How many renamings were given up.
+    pub(crate) fn given_up(&self) -> u32 {
+        self.given_up
+    }
+
+    /// The problem at this place, if any.
+    pub(crate) fn problem(&self, place: usize) -> Option<&Problem> {
+        Some(self.seen.as_slice().get(place)?.coloured.problem())
+    }
+
+    /// The fewest steps to the problem at this place, if any.
+    pub(crate) fn depth(&self, place: usize) -> Option<u8> {
+        Some(self.seen.as_slice().get(place)?.depth)
+    }
+
+    // One problem more, met from the one at this place.
+    fn add(&mut self, coloured: Coloured, parent: usize, depth: u8) -> Result<usize, NoMemory> {
+        let place = self.seen.len();
+        self.seen.push(Node {
+            coloured,
+            depth,
+            parent,
+            again: false,
+            edges: Vec::new(self.alloc),
+        })?;
+        Ok(place)
+    }
+
+    // The renaming that makes the first problem the second, if one is found. One that is given up is counted.
+    fn renaming(&self, from: &Coloured, to: &Coloured, given_up: &mut u32) -> Option<LabelMap> {
+        match renaming_to(from, to) {
+            Renaming::Found(map) => Some(map),
+            Renaming::Missing => None,
+            Renaming::TooMany => {
+                *given_up = given_up.saturating_add(1);
+                None
+            }
+        }
+    }
+
+    // The problem of the chain before its last one that this one is under other names, with the renaming to it.
+    fn find_past(&self, coloured: &Coloured, given_up: &mut u32) -> Option<(usize, LabelMap)> {
         for (number, past) in self.past.as_slice().iter().enumerate() {
-            if let Some(map) = renaming(node, past) {
-                return Some(Way { number, map });
+            if let Some(map) = self.renaming(coloured, past, given_up) {
+                return Some((number, map));
             }
         }
         None
     }
 
-    /// The way back to an earlier problem on the path to this one, or in the chain.
-    pub(crate) fn way_back(&self, node: &Node) -> Option<Way> {
-        let mut place = node.parent;
-        for _step in 0..node.depth {
-            let earlier = self.seen.as_slice().get(place)?;
-            if let Some(map) = renaming(node, earlier) {
-                let number = self.past.len().saturating_add(earlier.depth as usize);
-                return Some(Way { number, map });
-            }
-            place = earlier.parent;
-        }
-        self.way_to_past(node)
-    }
-
-    /// Whether the problem was looked at before, under whatever names.
-    pub(crate) fn has(&self, node: &Node) -> bool {
-        for other in self.seen.as_slice() {
-            if renaming(node, other).is_some() {
-                return true;
+    // The problem that was looked at and is this one under other names, with the renaming to it.
+    fn find_seen(&self, coloured: &Coloured, given_up: &mut u32) -> Option<(usize, LabelMap)> {
+        for (place, node) in self.seen.as_slice().iter().enumerate() {
+            if let Some(map) = self.renaming(coloured, &node.coloured, given_up) {
+                return Some((place, map));
             }
         }
-        false
+        None
     }
 
-    /// The path to this problem from the chain's last one.
-    pub(crate) fn path_to(&self, node: &Node) -> Result<Vec<Stop>, NoMemory> {
+    /// The earlier problem of the chain that its last one is under other names, with the renaming to it.
+    pub(crate) fn start_back(&mut self) -> Option<(usize, LabelMap)> {
+        let mut given_up = self.given_up;
+        let start = self.seen.as_slice().first()?;
+        let found = self.find_past(&start.coloured, &mut given_up);
+        self.given_up = given_up;
+        found
+    }
+
+    // Whether there is a step from the problem at this place to there.
+    fn has_edge(&self, from: usize, to: Target) -> bool {
+        match self.seen.as_slice().get(from) {
+            Some(node) => node.edges.as_slice().iter().any(|edge| edge.to == to),
+            None => false,
+        }
+    }
+
+    // A step from the problem at this place, where there is none yet to there.
+    fn link(&mut self, from: usize, to: Target, images: Vec<Option<u8>>) -> Result<(), NoMemory> {
+        if self.has_edge(from, to) {
+            return Ok(());
+        }
+        match self.seen.as_mut_slice().get_mut(from) {
+            Some(node) => Ok(node.edges.push(Edge { to, images })?),
+            None => Ok(()),
+        }
+    }
+
+    // That the problem at this place was met again.
+    fn meet_again(&mut self, place: usize) {
+        if let Some(node) = self.seen.as_mut_slice().get_mut(place) {
+            node.again = true;
+        }
+    }
+
+    /// Takes what changes have made of the derived problem of the one at this place: where it is a problem that was met before, under
+    /// whatever names, the step leads there; else it is a new one. The answer is where the step leads; None where there would be more
+    /// problems than `most`.
+    pub(crate) fn meet(
+        &mut self,
+        made: &Changed,
+        from: usize,
+        depth: u8,
+        most: usize,
+    ) -> Result<Option<Target>, NoMemory> {
+        let coloured = Coloured::new(made.problem().copy()?);
+        let mut given_up = self.given_up;
+        let past = self.find_past(&coloured, &mut given_up);
+        let seen = match &past {
+            Some(_) => None,
+            None => self.find_seen(&coloured, &mut given_up),
+        };
+        self.given_up = given_up;
+        if let Some((number, map)) = past {
+            let images = renamed(self.alloc, made.images(), &map)?;
+            self.link(from, Target::Past(number), images)?;
+            return Ok(Some(Target::Past(number)));
+        }
+        if let Some((place, map)) = seen {
+            let images = renamed(self.alloc, made.images(), &map)?;
+            self.link(from, Target::Seen(place), images)?;
+            self.meet_again(place);
+            return Ok(Some(Target::Seen(place)));
+        }
+        if self.seen.len() >= most {
+            return Ok(None);
+        }
+        let place = self.add(coloured, from, depth)?;
+        let images = Vec::from_slice(self.alloc, made.images())?;
+        self.link(from, Target::Seen(place), images)?;
+        Ok(Some(Target::Seen(place)))
+    }
+
+    // The places from the chain's last problem to the one at this place, by the steps by which they were first met.
+    fn places_to(&self, place: usize) -> Result<Vec<usize>, NoMemory> {
+        let mut places = Vec::new(self.alloc);
+        let mut at = place;
+        let depth = self.depth(place).unwrap_or(0);
+        places.push(at)?;
+        for _step in 0..depth {
+            if let Some(node) = self.seen.as_slice().get(at) {
+                at = node.parent;
+                places.push(at)?;
+            }
+        }
+        places.reverse();
+        Ok(places)
+    }
+
+    /// The walk that comes back by the step from the problem at this place to there, by the steps by which the problems were first met, if
+    /// it does.
+    pub(crate) fn back_by(&self, from: usize, target: Target) -> Result<Option<Return>, NoMemory> {
+        let places = self.places_to(from)?;
+        let closes = match target {
+            Target::Past(_) => true,
+            Target::Seen(place) => place_in(places.as_slice(), place).is_some(),
+        };
+        if closes {
+            Ok(Some(Return { places, target }))
+        } else {
+            Ok(None)
+        }
+    }
+
+    /// The places at which a walk may come back that isn't told by `back_by`: those of problems that were met again.
+    pub(crate) fn met_again(&self) -> Result<Vec<usize>, NoMemory> {
+        let mut places = Vec::new(self.alloc);
+        for (place, node) in self.seen.as_slice().iter().enumerate() {
+            if node.again {
+                places.push(place)?;
+            }
+        }
+        Ok(places)
+    }
+
+    /// The places of the problems to which the steps from the one at this place lead.
+    pub(crate) fn next_places(&self, place: usize) -> Result<Vec<usize>, NoMemory> {
+        let mut places = Vec::new(self.alloc);
+        if let Some(node) = self.seen.as_slice().get(place) {
+            for edge in node.edges.as_slice() {
+                if let Target::Seen(next) = edge.to {
+                    places.push(next)?;
+                }
+            }
+        }
+        Ok(places)
+    }
+
+    /// The walk that goes to the problem at this place, on over these, and back to it.
+    pub(crate) fn back_over(&self, place: usize, round: Vec<usize>) -> Result<Return, NoMemory> {
+        let mut round = round;
+        let mut places = self.places_to(place)?;
+        places.append(&mut round)?;
+        Ok(Return {
+            places,
+            target: Target::Seen(place),
+        })
+    }
+
+    // The problem to which a step leads.
+    fn target(&self, to: Target) -> Option<&Problem> {
+        match to {
+            Target::Past(number) => Some(self.past.as_slice().get(number)?.problem()),
+            Target::Seen(place) => self.problem(place),
+        }
+    }
+
+    // The problem to which the step from the one at this place leads, as one on a path.
+    fn stop(&self, from: usize, to: Target) -> Result<Option<Stop>, NoMemory> {
+        let Some(node) = self.seen.as_slice().get(from) else {
+            return Ok(None);
+        };
+        let Some(problem) = self.target(to) else {
+            return Ok(None);
+        };
+        for edge in node.edges.as_slice() {
+            if edge.to == to {
+                return Ok(Some(Stop {
+                    problem: problem.copy()?,
+                    images: Vec::from_slice(self.alloc, edge.images.as_slice())?,
+                }));
+            }
+        }
+        Ok(None)
+    }
+
+    /// The problems of the walk behind the chain's last one, as they come.
+    pub(crate) fn path(&self, found: &Return) -> Result<Vec<Stop>, NoMemory> {
         let mut path = Vec::new(self.alloc);
-        path.push(stop_of(self.alloc, node)?)?;
-        let mut place = node.parent;
-        for _step in 1..node.depth {
-            if let Some(earlier) = self.seen.as_slice().get(place) {
-                path.push(stop_of(self.alloc, earlier)?)?;
-                place = earlier.parent;
+        let places = found.places.as_slice();
+        for (at, from) in places.iter().enumerate() {
+            let to = match places.get(at.saturating_add(1)) {
+                Some(next) => Target::Seen(*next),
+                None => found.target,
+            };
+            if let Some(stop) = self.stop(*from, to)? {
+                path.push(stop)?;
             }
         }
-        path.reverse();
         Ok(path)
+    }
+
+    /// The number, from the chain's first problem on, of the problem to which the walk comes back, and how many labels it has.
+    pub(crate) fn back_of(&self, found: &Return) -> (usize, usize) {
+        let number = match found.target {
+            Target::Past(number) => number,
+            Target::Seen(place) => {
+                let at = place_in(found.places.as_slice(), place).unwrap_or(0);
+                self.past.len().saturating_add(at)
+            }
+        };
+        let labels = match self.target(found.target) {
+            Some(problem) => problem.names().len(),
+            None => 0,
+        };
+        (number, labels)
     }
 }

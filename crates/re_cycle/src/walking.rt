@@ -1,8 +1,9 @@
 //! The walk over the problems.
-use crate::nodes::{Node, Nodes, Way, node_of};
+use crate::nodes::{Graph, Return};
+use crate::returning::shortest_return;
 use re_changes::{Change, Changed};
 use re_labels::NoMemory;
-use re_problem::Problem;
+use re_problem::{LabelMap, Problem};
 use re_step::{Derived, StepFault, step};
 use re_zero::zero_round;
 use std::alloc::Global;
@@ -10,8 +11,10 @@ use std::alloc::Global;
 /// What the walk comes to.
 #[derive(Drop)]
 pub(crate) enum Walked {
-    /// A problem, and the way back from it.
-    Back(Node, Way),
+    /// The chain's last problem is the one of this number under other names.
+    Start(usize, LabelMap),
+    /// A walk that comes back.
+    Back(Return),
     /// None, and there are no more problems.
     Ended,
     /// None among the most problems that may be looked at.
@@ -23,10 +26,10 @@ pub(crate) enum Walked {
 #[derive(Drop)]
 pub(crate) struct Walk {
     pub(crate) alloc: Global,
-    pub(crate) nodes: Nodes,
+    pub(crate) graph: Graph,
     pub(crate) most: usize,
     pub(crate) merges: u8,
-    pub(crate) cut: u32,
+    pub(crate) limits: u32,
 }
 
 // Where a problem comes from: the place of the one before the step to it, and how many steps lead to it.
@@ -65,18 +68,14 @@ fn merge_one(
 impl Walk {
     // Looks at a problem. The answer is None where the walk goes on.
     fn look_at(&mut self, made: &Changed, origin: Origin) -> Result<Option<Walked>, NoMemory> {
-        let node = node_of(self.alloc, made, origin.parent, origin.depth)?;
-        if let Some(way) = self.nodes.way_back(&node) {
-            return Ok(Some(Walked::Back(node, way)));
+        let Origin { parent, depth } = origin;
+        match self.graph.meet(made, parent, depth, self.most)? {
+            Some(target) => match self.graph.back_by(parent, target)? {
+                Some(found) => Ok(Some(Walked::Back(found))),
+                None => Ok(None),
+            },
+            None => Ok(Some(Walked::Full)),
         }
-        if self.nodes.has(&node) {
-            return Ok(None);
-        }
-        if self.nodes.seen.len() >= self.most {
-            return Ok(Some(Walked::Full));
-        }
-        self.nodes.seen.push(node)?;
-        Ok(None)
     }
 
     // Looks at what one merge more makes of what merges have made, and appends it where it is wanted.
@@ -150,43 +149,69 @@ impl Walk {
         self.merge_from(made, origin)
     }
 
-    // Looks at the problems one step behind the one at this place.
-    fn expand(&mut self, place: usize) -> Result<Option<Walked>, NoMemory> {
-        let Some(node) = self.nodes.seen.as_slice().get(place) else {
+    // Looks at the problems one step behind the one at this place, to which so many steps lead.
+    fn expand(&mut self, place: usize, depth: u8) -> Result<Option<Walked>, NoMemory> {
+        let Some(problem) = self.graph.problem(place) else {
             return Ok(None);
         };
         let origin = Origin {
             parent: place,
-            depth: node.depth.saturating_add(1),
+            depth: depth.saturating_add(1),
         };
-        match step(self.alloc, node.coloured.problem()) {
+        match step(self.alloc, problem) {
             Ok(derived) => {
                 let Derived { problem, .. } = derived;
                 self.spread(problem, origin)
             }
             Err(StepFault::Limit(_)) => {
-                self.cut = self.cut.saturating_add(1);
+                self.limits = self.limits.saturating_add(1);
                 Ok(None)
             }
             Err(StepFault::NoMemory) => Err(NoMemory),
         }
     }
 
-    // Whether the problem at this place is there, and is reached by fewer steps.
-    fn goes_on(&self, place: usize, steps: u8) -> bool {
-        match self.nodes.seen.as_slice().get(place) {
-            Some(node) => node.depth < steps,
-            None => false,
+    // Looks at the problems one step behind those to which so many steps lead at the fewest.
+    fn expand_all(&mut self, depth: u8) -> Result<Option<Walked>, NoMemory> {
+        for place in 0..self.graph.len() {
+            if self.graph.depth(place) == Some(depth) {
+                let walked = self.expand(place, depth)?;
+                if walked.is_some() {
+                    return Ok(walked);
+                }
+            }
+        }
+        Ok(None)
+    }
+
+    // The shortest walk of at most so many steps that comes back, and else the answer that was there.
+    fn back_or(&self, most: usize, walked: Walked) -> Result<Walked, NoMemory> {
+        match shortest_return(self.alloc, &self.graph, most)? {
+            Some(found) => Ok(Walked::Back(found)),
+            None => Ok(walked),
+        }
+    }
+
+    // Walks one step farther, where there was no walk of so many steps that comes back. The answer is None where the walk goes on.
+    fn go_on(&mut self, depth: u8) -> Result<Option<Walked>, NoMemory> {
+        let most = (depth as usize).saturating_add(1);
+        match self.expand_all(depth)? {
+            Some(Walked::Full) => Ok(Some(self.back_or(most, Walked::Full)?)),
+            Some(walked) => Ok(Some(walked)),
+            None => match shortest_return(self.alloc, &self.graph, most)? {
+                Some(found) => Ok(Some(Walked::Back(found))),
+                None => Ok(None),
+            },
         }
     }
 
     /// Walks over the problems that are reached by at most so many steps.
     pub(crate) fn walk(&mut self, steps: u8) -> Result<Walked, NoMemory> {
-        for place in 0..self.most {
-            if !self.goes_on(place, steps) {
-                break;
-            }
-            if let Some(walked) = self.expand(place)? {
+        if let Some((number, map)) = self.graph.start_back() {
+            return Ok(Walked::Start(number, map));
+        }
+        for depth in 0..steps {
+            if let Some(walked) = self.go_on(depth)? {
                 return Ok(walked);
             }
         }

@@ -1,3 +1,4 @@
 pub mod Covering
 pub mod Lines
 pub mod Thinning
+mod Saying

@@ -50,8 +50,12 @@ joined a b c d e f g h =
     append_assoc (((((a ++ b) ++ c) ++ d) ++ e) ++ f) g h ∙ append_assoc ((((a ++ b) ++ c) ++ d) ++ e) f (g ++ h) ∙ append_assoc (((a ++ b) ++ c) ++ d) e (f ++ (g ++ h))
     ∙ append_assoc ((a ++ b) ++ c) d (e ++ (f ++ (g ++ h))) ∙ append_assoc (a ++ b) c (d ++ (e ++ (f ++ (g ++ h)))) ∙ append_assoc a b (c ++ (d ++ (e ++ (f ++ (g ++ h)))))
 
+-- nine texts one behind the other
+pub joined_nine : (a b c d e f g h i : List ℕ) → (((((((a ++ b) ++ c) ++ d) ++ e) ++ f) ++ g) ++ h) ++ i ≡ a ++ (b ++ (c ++ (d ++ (e ++ (f ++ (g ++ (h ++ i)))))))
+joined_nine a b c d e f g h i = append_assoc (((((((a ++ b) ++ c) ++ d) ++ e) ++ f) ++ g)) h i ∙ joined a b c d e f g (h ++ i)
+
 -- a command that is done answers Done
-pub done_is : (answer : Answer) → status_of answer ≡ Done → answer ≡ answered.Done
+done_is : (answer : Answer) → status_of answer ≡ Done → answer ≡ answered.Done
 done_is answered.Done e = refl
 done_is answered.No e = absurd (cc)
 done_is answered.BadWords e = absurd (cc)

@@ -7,14 +7,16 @@ use Rattle.re_bridge_words.specs.BridgeWords.{bridge_help, names_bridge, text_ou
 use Rattle.re_chain_texts.specs.OverChains.{IsSoundText}
 use Rattle.re_chain_words.specs.Answers.{WordWorth, is_judging as chain_judges, word_outcome}
 use Rattle.re_chain_words.specs.ChainWords.{chain_help, chain_word_of}
-use Rattle.re_closure_words.specs.ClosureWords.{MayGive as MayGiveClosure, closure_help, names_closure}
-use Rattle.re_describe_words.specs.DescribeWords.{MayDescribe, describe_help, names_describe}
-use Rattle.re_finding.specs.Answers.{MayAnswer}
+use Rattle.re_closure.specs.ClosureWords.{MayGive as MayGiveClosure, closure_help, names_closure}
+use Rattle.re_describe.specs.DescribeWords.{MayDescribe, describe_help, names_describe}
+use Rattle.re_frame.specs.Answers.{MayAnswer}
+use Rattle.re_graph_words.specs.GraphWords.{MayGive as MayGiveGraph}
+use Rattle.re_graph_words.specs.Words.{IsGraphWord, graph_help, graph_word_of}
 use Rattle.re_search_words.specs.MayGive.{MayGive}
 use Rattle.re_search_words.specs.Words.{IsSearchWord, search_help, search_word_of}
 use Rattle.re_why.specs.Explaining.{explaining_outcome, names_why, why_help}
 use Rattle.re_explore.specs.declared.command.Command.{Command}
-use Rattle.re_explore.specs.declared.command.Command.TheVariants.{Bridges, Chains, Closes, Describes, Explains, Help, Searches}
+use Rattle.re_explore.specs.declared.command.Command.TheVariants.{Bridges, Chains, Closes, Describes, Explains, Graphs, Help, Searches}
 
 abbrev pub is_help : List (List ℕ) → Bool
 is_help (word ∷ []) = bytes_eq (codes "help") word
@@ -34,7 +36,8 @@ command_over_chains words =
 
 -- the command that tells of a certificate
 abbrev pub command_over_certificates : List (List ℕ) → Option Command
-command_over_certificates words = if names_why words then Some Explains else if names_describe words then Some Describes else None
+command_over_certificates words =
+    or_else (option_map Graphs (graph_word_of words)) (if names_why words then Some Explains else if names_describe words then Some Describes else None)
 
 -- the command that these words name
 unfoldable pub command_of : List (List ℕ) → Option Command
@@ -43,11 +46,17 @@ command_of words = if is_help words then Some Help else or_else (command_over_ce
 -- the numbers of a command are such as words can give it
 abbrev pub Fits : Command → Type 0
 Fits (Searches word) = IsSearchWord word
-Fits command = Unit {0}
+Fits (Graphs word) = IsGraphWord word
+Fits Help = Unit {0}
+Fits (Chains word) = Unit {0}
+Fits Explains = Unit {0}
+Fits Closes = Unit {0}
+Fits Bridges = Unit {0}
+Fits Describes = Unit {0}
 
 -- the lines of help
 unfoldable pub help_text : List ℕ
-help_text = codes "help: reads nothing, gives these lines\n" ++ chain_help ++ why_help ++ search_help ++ closure_help ++ bridge_help ++ describe_help
+help_text = codes "help: reads nothing, gives these lines\n" ++ chain_help ++ why_help ++ search_help ++ closure_help ++ bridge_help ++ describe_help ++ graph_help
 
 -- words that are no command are answered by the lines of help, too
 unfoldable pub bad_words : Outcome
@@ -63,6 +72,7 @@ IsOutcome (Some (Searches word)) bytes outcome = MayAnswer (MayGive word) bytes 
 IsOutcome (Some Closes) bytes outcome = MayAnswer MayGiveClosure bytes outcome
 IsOutcome (Some Bridges) bytes outcome = (outcome ≡ within_limit text_outcome bytes) × (outcome.status ≡ Done → IsSoundText outcome.text)
 IsOutcome (Some Describes) bytes outcome = MayAnswer MayDescribe bytes outcome
+IsOutcome (Some (Graphs word)) bytes outcome = MayAnswer (MayGiveGraph word) bytes outcome
 
 -- whether the command reads its input
 abbrev pub is_reading : Option Command → Bool
@@ -72,7 +82,9 @@ is_reading (Some (Searches word)) = true
 is_reading (Some Closes) = true
 is_reading (Some Bridges) = true
 is_reading (Some Describes) = true
-is_reading command = false
+is_reading (Some (Graphs word)) = true
+is_reading (Some Help) = false
+is_reading None = false
 
 -- whether its answer can be No
 abbrev pub is_judging : Option Command → Bool
@@ -81,4 +93,7 @@ is_judging (Some Explains) = true
 is_judging (Some (Searches word)) = true
 is_judging (Some Closes) = true
 is_judging (Some Bridges) = true
-is_judging command = false
+is_judging (Some (Graphs word)) = true
+is_judging (Some Describes) = false
+is_judging (Some Help) = false
+is_judging None = false

@@ -5,9 +5,10 @@ ghost use Rattle.std.specs.Prelude.{◌≡◌, ◌++◌, IfOk, IfSome, map, stri
 
 use re_bridge_words::{bridge_help, names_bridge};
 use re_chain_words::{ChainWord, chain_help, chain_word};
-use re_closure_words::{closure_help, names_closure};
-use re_describe_words::{describe_help, names_describe};
+use re_closure::{closure_help, names_closure};
+use re_describe::{describe_help, names_describe};
 use re_frame::{Answer, Output, begun, done, push_words};
+use re_graph_words::{GraphWord, graph_help, graph_word};
 use re_labels::NoMemory;
 use re_search_words::{SearchWord, search_help, search_word};
 use re_why::{names_why, why_help};
@@ -29,6 +30,8 @@ pub(crate) enum Command {
     Bridges,
     /// A report on a certificate.
     Describes,
+    /// A problem on finite graphs.
+    Graphs(GraphWord),
 }
 
 fn is_help(words: &[String]) -> bool
@@ -65,6 +68,9 @@ fn command_over_certificates(words: &[String]) -> Option<Command>
     ensures command { result ≡ command_over_certificates (map string_bytes words.now) }
     ensures fits { IfSome result Fits }
 {
+    if let Some(word) = graph_word(words) {
+        return Some(Command::Graphs(word));
+    }
     if names_why(words) {
         Some(Command::Explains)
     } else if names_describe(words) {
@@ -101,6 +107,7 @@ fn with_help(alloc: Global, words: &str) -> Result<Vec<u8>, NoMemory>
     push_words(&mut text, closure_help())?;
     push_words(&mut text, bridge_help())?;
     push_words(&mut text, describe_help())?;
+    push_words(&mut text, graph_help())?;
     Ok(text)
 }
 

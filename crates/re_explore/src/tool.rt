@@ -9,10 +9,9 @@ ghost use Rattle.re_frame.specs.Runs.{Answers, StopsWithin, TakesInput};
 
 use crate::command::{Command, bad_words, command_from, help};
 use re_bridge_words::BridgeWord;
-use re_closure_words::ClosureWord;
-use re_describe_words::Describe;
-use re_finding::find_input;
-use re_frame::{Output, Status, Stop, answer_input, put_output};
+use re_closure::ClosureWord;
+use re_describe::Describe;
+use re_frame::{Output, Status, Stop, answer_input, find_input, put_output};
 use re_io::{MAX_BYTES, Sink, Source};
 use re_why::Why;
 use std::alloc::Global;
@@ -39,6 +38,7 @@ fn output_from<S: Source>(alloc: Global, words: &[String], source: &mut S) -> Re
         Some(Command::Closes) => find_input(alloc, &ClosureWord, source),
         Some(Command::Bridges) => answer_input(alloc, &BridgeWord, source),
         Some(Command::Describes) => find_input(alloc, &Describe, source),
+        Some(Command::Graphs(word)) => find_input(alloc, &word, source),
     }
 }
 

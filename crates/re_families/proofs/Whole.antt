@@ -39,17 +39,17 @@ made_constraint rules side degree two six =
     }
 
 -- ---- each label stands around some active node
-alike_rise : (d x : ℕ) → IsRising (λ x y. x ≤ y) (replicate d x)
+pub alike_rise : (d x : ℕ) → IsRising (λ x y. x ≤ y) (replicate d x)
 alike_rise zero x = tt
 alike_rise (suc zero) x = tt
 alike_rise (suc (suc d)) x = (omega arith, alike_rise (suc d) x)
 
-twice : (x : ℕ) → with_label (x ∷ []) x ≡ x ∷ []
+pub twice : (x : ℕ) → with_label (x ∷ []) x ≡ x ∷ []
 twice x =
     let below : ltb x x ≡ false = le-ltb x x (omega arith) in
     λ i. cond (below i) (x ∷ x ∷ []) (cond (eqb-same x i) (x ∷ []) (x ∷ x ∷ []))
 
-alike_support : (d x : ℕ) → support_of (replicate (suc d) x) ≡ x ∷ []
+pub alike_support : (d x : ℕ) → support_of (replicate (suc d) x) ≡ x ∷ []
 alike_support zero x = refl
 alike_support (suc d) x = ap (λ s. with_label s x) (alike_support d x) ∙ twice x
 

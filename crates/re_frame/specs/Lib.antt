@@ -4,3 +4,4 @@ pub mod Runs
 pub mod SearchLines
 pub mod StepLimits
 pub mod TextFaults
+pub mod Answers

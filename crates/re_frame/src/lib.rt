@@ -1,8 +1,9 @@
 //! What programs of words share: how a run ended, what a command puts out, the lines of faults, limits and verdicts, the reading of a
-//! whole input into an answer, and the putting of its text.
+//! whole input into an answer, or into one of the answers that a search may have, and the putting of its text.
 #![tactic(auto)]
 
 mod answering;
+mod finding;
 mod output;
 mod putting;
 mod status;
@@ -12,6 +13,7 @@ mod text_faults;
 mod verdicts;
 
 pub use answering::{Answering, answer_input};
+pub use finding::{Finding, find_input};
 pub use output::{Output, Stop, done, refused, too_long};
 pub use putting::put_output;
 pub use status::{Answer, Status};

@@ -1,5 +1,5 @@
 //! The search from level to level.
-use crate::levels::{Built, Level, first_level, next_level};
+use crate::levels::{Built, Level, first_level, next_level, plain_stop};
 use crate::pool::Kept;
 use re_extend::Stop;
 use re_labels::NoMemory;
@@ -89,8 +89,8 @@ impl Search {
     }
 }
 
-/// The longest path that is found from the problem: at most so many levels, of problems of at most so many labels.
-pub(crate) fn longest_path(
+// The longest path that one beam finds from the problem: at most so many levels, of problems of at most so many labels.
+fn beam_path(
     alloc: Global,
     problem: &Problem,
     levels: usize,
@@ -114,4 +114,59 @@ pub(crate) fn longest_path(
         }
     }
     Ok(search.longest)
+}
+
+// The path of the derived problem, its derived problem and so on, as they are: at most so many, of at most so many labels each.
+fn plain_path(
+    alloc: Global,
+    problem: &Problem,
+    levels: usize,
+    labels: u8,
+) -> Result<Vec<Stop>, NoMemory> {
+    let mut path: Vec<Stop> = Vec::new(alloc);
+    for _level in 0..levels {
+        let next = match path.as_slice().last() {
+            Some(stop) => plain_stop(alloc, &stop.problem, labels)?,
+            None => plain_stop(alloc, problem, labels)?,
+        };
+        match next {
+            Some(stop) => path.push(stop)?,
+            None => break,
+        }
+    }
+    Ok(path)
+}
+
+// The next number of labels behind this one for which there is a beam.
+fn next_size(labels: u8) -> u8 {
+    match labels {
+        0..=31 => labels.saturating_add(1),
+        32..=47 => 48,
+        48..=63 => 64,
+        64..=95 => 96,
+        96..=127 => 128,
+        _ => u8::MAX,
+    }
+}
+
+/// The longest path that is found from the problem: at most so many levels, of problems of at most so many labels.
+pub(crate) fn longest_path(
+    alloc: Global,
+    problem: &Problem,
+    levels: usize,
+    labels: u8,
+) -> Result<Vec<Stop>, NoMemory> {
+    let mut longest = plain_path(alloc, problem, levels, labels)?;
+    let mut size = 2;
+    for _size in 0..labels {
+        if size > labels || longest.len() >= levels {
+            break;
+        }
+        let path = beam_path(alloc, problem, levels, size)?;
+        if path.len() > longest.len() {
+            longest = path;
+        }
+        size = next_size(size);
+    }
+    Ok(longest)
 }

@@ -2,9 +2,11 @@
 use crate::merges::{State, after_merge, state_of};
 use crate::pool::{Kept, Pool, kept_of};
 use re_changes::Changed;
+use re_extend::Stop;
 use re_labels::{MAX_LABELS, NoMemory};
 use re_problem::Problem;
 use re_step::{Derived, StepFault, step};
+use re_zero::zero_round;
 use std::alloc::Global;
 
 /// The beam on a level. Where it has a plain problem, this is the first one: it is reached without merges.
@@ -160,4 +162,28 @@ pub(crate) fn first_level(alloc: Global, problem: &Problem) -> Result<Level, NoM
         mark: 0,
     })?;
     Ok(Level { kept, plain: true })
+}
+
+/// The derived problem as one on a path, where it passes no limit, isn't solvable without communication, and has at most so many labels.
+pub(crate) fn plain_stop(
+    alloc: Global,
+    problem: &Problem,
+    labels: u8,
+) -> Result<Option<Stop>, NoMemory> {
+    let made = match step(alloc, problem) {
+        Ok(derived) => {
+            let Derived { problem, .. } = derived;
+            Changed::unchanged(problem)
+        }
+        Err(StepFault::Limit(_)) => return Ok(None),
+        Err(StepFault::NoMemory) => return Err(NoMemory),
+    };
+    let names = made.problem().names().len();
+    if names > labels as usize || zero_round(made.problem()).is_some() {
+        return Ok(None);
+    }
+    Ok(Some(Stop {
+        problem: made.problem().copy()?,
+        images: Vec::from_slice(alloc, made.images())?,
+    }))
 }

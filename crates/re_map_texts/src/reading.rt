@@ -37,8 +37,8 @@ pub(crate) enum Place {
     Map(MapRead),
 }
 
-// A reader of the problem text behind a section line.
-fn text_behind(alloc: Global, byte: u32, number: u32, line: &[u8]) -> TextReader
+/// A reader of the problem text behind a section line, which begins at the byte `byte` and is the line `number`.
+pub fn text_behind(alloc: Global, byte: u32, number: u32, line: &[u8]) -> TextReader
     requires long { 2 ≤ length line.now }
     requires counted { number ≤ byte + 1 }
     requires within { byte + length line.now ≤ MAX_BYTES }

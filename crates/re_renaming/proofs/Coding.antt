@@ -11,7 +11,7 @@ use Rattle.re_config.proofs.Sorting.{take_all}
 use Rattle.re_labels.proofs.Membership.{any_true}
 use Rattle.re_labels.proofs.Tests.{eqb-apart, eqb-same, eqb-true, true-below}
 use Rattle.re_labels.specs.Lists.{count_from}
-use Rattle.re_marks.specs.Mixing.{mixed}
+use Rattle.re_renaming.specs.Mixing.{mixed}
 use Rattle.re_problem.specs.NamedProblems.{NamedProblem}
 use Rattle.re_renaming.specs.Colours.{colour_at, colours_by, next_colour, next_colours, numbers_at, pairs_alike, refined, times_in}
 use Rattle.re_renaming.specs.declared.colours.TheConstants.{ACTIVE, PASSIVE}

@@ -7,7 +7,7 @@ use Rattle.re_labels.proofs.Membership.{AllByRecursion-In, In, get_or-count_from
 use Rattle.re_labels.proofs.Tests.{eqb-same, eqb-true, same_tests}
 use Rattle.re_labels.specs.Lists.{count_from}
 use Rattle.re_labels.specs.declared.TheConstants.{MAX_LABELS}
-use Rattle.re_marks.specs.Mixing.{mixed}
+use Rattle.re_renaming.specs.Mixing.{mixed}
 use Rattle.re_problem.specs.NamedProblems.{NamedProblem}
 use Rattle.re_table.specs.Constraints.{Constraint, IsConstraint, images_of}
 use Rattle.re_renaming.specs.Answers.{KeepsColours}

@@ -2,7 +2,7 @@
 use Rattle.std.specs.Prelude.{ℕ, zero, suc, ◌+◌, ◌*◌, ◌%◌, ◌^◌, ◌==◌, nat_lt, List, length, map, sum_by, count_by, slice_index_or, if◌then◌else◌}
 use Rattle.re_labels.specs.Lists.{count_from}
 use Rattle.re_labels.specs.declared.TheConstants.{MAX_LABELS}
-use Rattle.re_marks.specs.Mixing.{mixed}
+use Rattle.re_renaming.specs.Mixing.{mixed}
 use Rattle.re_table.specs.Constraints.{Constraint}
 use Rattle.re_problem.specs.NamedProblems.{NamedProblem}
 use Rattle.re_renaming.specs.declared.colours.TheConstants.{ACTIVE, FIRST, PASSIVE, SINGLED}

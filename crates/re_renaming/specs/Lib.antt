@@ -2,3 +2,4 @@ pub mod Colours
 pub mod Renamings
 pub mod Tries
 pub mod Answers
+pub mod Mixing

@@ -3,10 +3,10 @@ ghost use Rattle.re_problem.specs.NamedProblems.{IsNamedProblem};
 ghost use Rattle.re_renaming.specs.Colours.{colour_at, colours_by, config_number, first_colours, mark_of, next_colours, numbers_at, pairs_alike, refined, times_in, with_single};
 ghost use Rattle.std.specs.Prelude.{◌≡◌, ◌==◌, ◌+◌, ◌%◌, ◌^◌, ◌≤◌, ℕ, EachIndex, count_by, length, slice_index};
 
+use crate::mixed;
 use arrayvec::ArrayVec;
 use re_config::Config;
 use re_labels::MAX_LABELS;
-use re_marks::mixed;
 use re_problem::Problem;
 use re_table::Constraint;
 use std::marker::Model;

@@ -10,6 +10,8 @@
 mod coloured;
 mod colours;
 mod finding;
+mod marks;
 
 pub use coloured::Coloured;
 pub use finding::{MAX_TRIES, Renaming, renaming_to};
+pub use marks::{config_mark, label_mark, mixed, moved_mark, problem_mark};

@@ -16,9 +16,8 @@ use crate::words::SearchWord;
 use re_cert::{Certificate, Kind};
 use re_chain_texts::{certificate_output, read_chain, steps_refusal};
 use re_cycle::{Cycle, find_cycle};
-use re_finding::Finding;
 use re_frame::{
-    Answer, Output, begun, fault_output, push_number, push_words, refused, verdict_output,
+    Answer, Finding, Output, begun, fault_output, push_number, push_words, refused, verdict_output,
 };
 use re_labels::NoMemory;
 use re_longest::{Longest, find_longest};

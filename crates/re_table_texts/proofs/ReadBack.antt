@@ -10,8 +10,8 @@ use Rattle.re_canonical.proofs.ReadBack.{all_append, canonical_law, canonical_li
 use Rattle.re_canonical.specs.CanonicalLines.{IsWithinLimits, canonical_lines}
 use Rattle.re_cert.specs.Entries.{image_labels, image_on, label_items}
 use Rattle.re_labels.specs.PortLabels.{port_labels}
-use Rattle.re_cert_lines.proofs.EntryLines.{image_line_law}
-use Rattle.re_cert_lines.specs.CertificateLines.{IsRead}
+use Rattle.re_cert_text.proofs.EntryLines.{image_line_law}
+use Rattle.re_cert_text.specs.CertificateLines.{IsRead}
 use Rattle.re_items.specs.Items.{ItemText}
 use Rattle.re_labels.proofs.Tests.{eqb-same}
 use Rattle.re_places.proofs.CountCode.{listed-few}

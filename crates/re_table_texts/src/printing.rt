@@ -12,16 +12,11 @@ ghost use Rattle.std.specs.Prelude.{◌≡◌, ◌<◌, ◌++◌, codes, IfOk, N
 use crate::table_texts::TableForm;
 use re_algo::Table;
 use re_cert::RowImage;
-use re_cert_lines::push_image;
+use re_cert_text::push_image;
 use re_labels::{Names, NoMemory, PortLabels};
+use re_printing::push_all;
 use re_problem::{Problem, push_problem};
 use std::alloc::{AllocError, Global};
-
-fn push_all(text: &mut Vec<u8>, more: &str) -> Result<(), NoMemory>
-    ensures { OnOk result (text.new.items ≡ text.old.items ++ more.now) }
-{
-    Ok(text.extend_from_slice(more.as_bytes())?)
-}
 
 // Appends an answer: its labels with one space between.
 fn push_answer(text: &mut Vec<u8>, names: &Names, labels: &PortLabels) -> Result<(), NoMemory>

@@ -16,6 +16,7 @@ use re_cert::{has_labels, line_labels};
 use re_io::MAX_BYTES;
 use re_items::{first_bad_byte, is_empty_line};
 use re_labels::{PortLabels, Side};
+use re_map_texts::text_behind;
 use re_places::view_count;
 use re_problem::{InputFault, Problem, TextFault, TextReader};
 use re_sections::begins_section;
@@ -38,21 +39,6 @@ pub(crate) enum Place {
     Start,
     Text(Option<Problem>, TextReader),
     Table(TableRead),
-}
-
-// A reader of the problem text behind a section line.
-fn text_behind(alloc: Global, byte: u32, number: u32, line: &[u8]) -> TextReader
-    requires long { 2 ≤ length line.now }
-    requires counted { number ≤ byte + 1 }
-    requires within { byte + length line.now ≤ MAX_BYTES }
-    ensures { Reads result (byte + length line.now + 1) (number + 1) [] (byte + length line.now + 1) }
-{
-    let end = byte + line.len() as u32;
-    // behind the last line of the longest input nothing follows
-    if end as usize == MAX_BYTES {
-        return TextReader::new(alloc, end, number + 1);
-    }
-    TextReader::new(alloc, end + 1, number + 1)
 }
 
 // A line before the first section line.

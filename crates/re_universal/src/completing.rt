@@ -8,6 +8,7 @@ ghost use Rattle.std.specs.List.{AllByRecursion};
 ghost use Rattle.std.specs.Prelude.{◌≡◌, ◌≤◌, ◌<◌, ◌+◌, ◌↔◌, ◌∷◌, [], ◌++◌, ℕ, false, not, Contains, IfOk, IfSome, MatchOption, Some, length};
 
 use arrayvec::ArrayVec;
+use re_box_search::least_of;
 use re_config::Config;
 use re_labels::{LabelSet, NoMemory};
 use re_table::{Constraint, Trail};
@@ -54,14 +55,6 @@ pub(crate) fn outside(labels: u8, set: LabelSet) -> LabelSet
         }
     }
     left
-}
-
-// The least label of the set, if it has any.
-fn least_of(set: LabelSet) -> Option<u8>
-    ensures { MatchOption result (set ≡ []) (λ label. IsIn label set × (label < MAX_LABELS)) }
-{
-    let _number = set.number();
-    set.first()
 }
 
 // The labels and one more behind them.

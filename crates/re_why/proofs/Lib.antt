@@ -1,1 +1,3 @@
 pub mod Saying
+pub mod Named
+pub mod Within

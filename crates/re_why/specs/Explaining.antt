@@ -9,7 +9,7 @@ use Rattle.re_frame.specs.Check.{verdict_outcome}
 use Rattle.re_frame.specs.Outcomes.{Outcome}
 use Rattle.re_frame.specs.TextFaults.{fault_outcome}
 use Rattle.re_witness.specs.Finding.{bound_refutation}
-use Rattle.re_witness_text.specs.WitnessTexts.{refutation_line}
+use Rattle.re_why.specs.WitnessTexts.{refutation_line}
 
 -- the words are this one
 abbrev pub names_why : List (List ℕ) → Bool

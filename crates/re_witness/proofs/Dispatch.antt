@@ -23,10 +23,10 @@ use Rattle.re_problem.specs.Steps.LowerMap.{by_row, by_set}
 use Rattle.re_cert.proofs.KnownEntries.{entries-fit}
 use Rattle.re_cert.specs.Bounds.{BoundStep, entries_in, entry_fits, image_fits, is_label, kind_fits, map_fits, row_fits, step_fits}
 use Rattle.re_cert.specs.declared.certificate.Kind.{Kind}
-use Rattle.re_entries.proofs.AllowedImages.{keeps_allowed_law}
-use Rattle.re_entries.proofs.RowChoices.{keeps_allowed_by_row_law}
-use Rattle.re_entries.proofs.RowSets.{row_sets_law}
-use Rattle.re_entries.specs.StepClauses.{HasNextLabels, HasRowSets}
+use Rattle.re_entry_clauses.proofs.AllowedImages.{keeps_allowed_law}
+use Rattle.re_entry_clauses.proofs.RowChoices.{keeps_allowed_by_row_law}
+use Rattle.re_entry_clauses.proofs.RowSets.{row_sets_law}
+use Rattle.re_entry_clauses.specs.StepClauses.{HasNextLabels, HasRowSets}
 use Rattle.re_clauses.proofs.StepMeaning.{all_held, by_row-tells, lists-Decides, rows-Decides}
 use Rattle.re_clauses.specs.Clauses.{are_allowed, are_exchanged, are_good, are_maximal, have_labels, have_row_sets, is_filled, maps_allowed, maps_rows, maps_sets, meets, sets_in, step_clauses, step_fault}
 use Rattle.re_clauses.specs.declared.clause.Clause.{Clause}

@@ -4,7 +4,7 @@ use Rattle.std.specs.Prelude.{Contains, IsSome, find, if◌then◌else◌, is_no
 use Rattle.std.specs.List.{AllByRecursion, AllZip, list_all}
 use Rattle.std.proofs.lemmas.List.Quantifiers.{position-Some}
 use Rattle.re_problem.proofs.FedLines.{unnot_true}
-use Rattle.re_entries.proofs.Telling.{read-held}
+use Rattle.re_entry_clauses.proofs.Telling.{read-held}
 use Rattle.std.specs.Option.{option_map, option_or}
 use Rattle.std.specs.Str.{bytes_eq}
 use Rattle.std.proofs.lemmas.Bool.Decides.{nat_tests}

@@ -25,8 +25,8 @@ use Rattle.re_cert.specs.Bounds.{Bound, BoundStep, entries_in, entry_fits, image
 use Rattle.re_cert.specs.declared.certificate.Kind.{Kind}
 use Rattle.re_cert.proofs.FittingStates.{last_behind}
 use Rattle.re_cert.proofs.KnownEntries.{entries-fit}
-use Rattle.re_entries.proofs.Telling.{read-held}
-use Rattle.re_entries.specs.StepClauses.{HasRowSets, OccursInRows}
+use Rattle.re_entry_clauses.proofs.Telling.{read-held}
+use Rattle.re_entry_clauses.specs.StepClauses.{HasRowSets, OccursInRows}
 use Rattle.re_clauses.specs.Clauses.{step_fault}
 use Rattle.re_clauses.specs.declared.clause.Clause.{Clause}
 use Rattle.re_clauses.specs.declared.clause.Clause.TheVariants.{Back, End, L1, L2, L3, L4, L5, U1, U2, U3, U4}

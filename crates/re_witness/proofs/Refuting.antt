@@ -27,12 +27,12 @@ use Rattle.re_problem.specs.Steps.LowerMap.{by_row, by_set}
 use Rattle.re_problem.specs.Zero.{Zero, zero_place}
 use Rattle.re_cert.specs.Bounds.{Bound, BoundStep, entries_in, is_bound, is_fixed, is_lower, last_problem, next_problems, problem_at, step_fits, steps_fit}
 use Rattle.re_cert.specs.declared.certificate.Kind.{Kind}
-use Rattle.re_entries.proofs.AllowedImages.{keeps_allowed_law, over-entry, set_at-entry}
-use Rattle.re_entries.proofs.RowChoices.{becomes-entry, keeps_allowed_by_row_law}
-use Rattle.re_entries.proofs.RowSets.{row_sets_law}
-use Rattle.re_entries.specs.LabelsOver.{labels_over}
-use Rattle.re_entries.specs.RowEntries.{image_entries}
-use Rattle.re_entries.specs.StepClauses.{HasAllowedImages, HasGoodImages, HasNextLabels, HasRowSets, entry_labels}
+use Rattle.re_entry_clauses.proofs.AllowedImages.{keeps_allowed_law, over-entry, set_at-entry}
+use Rattle.re_entry_clauses.proofs.RowChoices.{becomes-entry, keeps_allowed_by_row_law}
+use Rattle.re_entry_clauses.proofs.RowSets.{row_sets_law}
+use Rattle.re_entry_clauses.specs.LabelsOver.{labels_over}
+use Rattle.re_entry_clauses.specs.RowEntries.{image_entries}
+use Rattle.re_entry_clauses.specs.StepClauses.{HasAllowedImages, HasGoodImages, HasNextLabels, HasRowSets, entry_labels}
 use Rattle.re_clauses.proofs.StepMeaning.{all_pass, all_there, lower_clauses}
 use Rattle.re_clauses.specs.Clauses.{are_exchanged, meets, step_clauses, step_fault}
 use Rattle.re_clauses.specs.declared.clause.Clause.{Clause}

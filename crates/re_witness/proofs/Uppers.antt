@@ -15,8 +15,8 @@ use Rattle.re_table.specs.Constraints.{Constraint, Has, IsConstraint}
 use Rattle.re_table.specs.GoodRows.{IsAllowed, IsGood, is_allowed, is_good}
 use Rattle.re_problem.proofs.FedLines.{unnot_true}
 use Rattle.re_problem.specs.Steps.{SetEntry, entry_sets, set_for}
-use Rattle.re_entries.proofs.AllowedImages.{set_at-entry}
-use Rattle.re_entries.specs.StepClauses.{HasAllowedImages, HasGoodImages, HasNextLabels, entry_labels}
+use Rattle.re_entry_clauses.proofs.AllowedImages.{set_at-entry}
+use Rattle.re_entry_clauses.specs.StepClauses.{HasAllowedImages, HasGoodImages, HasNextLabels, entry_labels}
 use Rattle.re_maps.specs.Verdicts.{first_label, first_not_allowed, first_not_good}
 use Rattle.re_views.proofs.Preorder.{rising-count_from}
 use Rattle.re_maps.proofs.VerdictLaws.{label-none}

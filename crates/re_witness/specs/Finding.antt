@@ -23,8 +23,8 @@ use Rattle.re_maps.specs.declared.verdict.MapVerdict.{MapVerdict}
 use Rattle.re_maps.specs.declared.verdict.MapVerdict.TheVariants.{Yes}
 use Rattle.re_cert.specs.Bounds.{Bound, BoundStep, entries_in, is_lower, last_problem, problem_at}
 use Rattle.re_cert.specs.declared.certificate.Kind.{Kind}
-use Rattle.re_entries.specs.LabelsOver.{labels_over}
-use Rattle.re_entries.specs.RowEntries.{image_entries, row_entries}
+use Rattle.re_entry_clauses.specs.LabelsOver.{labels_over}
+use Rattle.re_entry_clauses.specs.RowEntries.{image_entries, row_entries}
 use Rattle.re_clauses.specs.declared.clause.Clause.{Clause}
 use Rattle.re_clauses.specs.declared.clause.Clause.TheVariants.{L1, L2, L3, L4, L5, U1, U2, U3, U4, End, Back}
 use Rattle.re_check.specs.Verdicts.{bound_fault, fault_at}

@@ -13,8 +13,8 @@ use Rattle.re_check.specs.Verdicts.{bound_fault, ends_well, goes_back}
 use Rattle.re_clauses.specs.declared.clause.Clause.{Clause}
 use Rattle.re_witness.specs.declared.witness.Witness.{Witness}
 use Rattle.re_cert.specs.declared.certificate.Kind.{Kind}
-use Rattle.re_entries.specs.LabelsOver.{labels_over}
-use Rattle.re_entries.specs.StepClauses.{HasAllowedImages, HasGoodImages, HasNextLabels, HasRowSets, KeepsImages, KeepsRows}
+use Rattle.re_entry_clauses.specs.LabelsOver.{labels_over}
+use Rattle.re_entry_clauses.specs.StepClauses.{HasAllowedImages, HasGoodImages, HasNextLabels, HasRowSets, KeepsImages, KeepsRows}
 use Rattle.re_witness.specs.Finding.{back_witness, bad_witness, end_witness, image_witness, label_witness, lost_witness, map_entries, row_witness, set_witness, shut_witness}
 use Rattle.re_witness.specs.Witnesses.{IsShown, ShowsBack, ShowsBad, ShowsChoice, ShowsEnd, ShowsImage, ShowsLabels, ShowsRows, ShowsSets, ShowsShut}
 

@@ -19,7 +19,7 @@ use Rattle.re_maps.specs.Verdicts.{renaming_verdict}
 use Rattle.re_maps.specs.declared.verdict.MapVerdict.TheVariants.{Yes}
 use Rattle.re_cert.specs.Bounds.{Bound, BoundStep, entries_in, is_fixed, is_lower, last_problem, problem_at}
 use Rattle.re_cert.specs.declared.certificate.Kind.{Kind}
-use Rattle.re_entries.specs.StepClauses.{OccursInRows, entry_labels}
+use Rattle.re_entry_clauses.specs.StepClauses.{OccursInRows, entry_labels}
 use Rattle.re_clauses.specs.Clauses.{step_clauses}
 use Rattle.re_clauses.specs.declared.clause.Clause.{Clause}
 use Rattle.re_clauses.specs.declared.clause.Clause.TheVariants.{L1, L2, L3, L4, L5, U1, U2, U3, U4, End, Back}

@@ -7,7 +7,7 @@ ghost use Rattle.std.specs.Prelude.{◌++◌, ◌+◌, ◌<◌, ◌≡◌, ◌�
 
 use arrayvec::ArrayVec;
 use re_config::Row;
-use re_entries::is_good;
+use re_entry_clauses::is_good;
 use re_labels::{LabelSet, MAX_LABELS, PortLabels};
 use re_table::Constraint;
 

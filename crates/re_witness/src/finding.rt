@@ -3,7 +3,7 @@ ghost use Rattle.re_cert.specs.Bounds.{entries_in, last_problem, map_of, problem
 ghost use Rattle.re_config.specs.Rows.{IsRow};
 ghost use Rattle.re_check.specs.Verdicts.{bound_fault};
 ghost use Rattle.re_clauses.specs.Clauses.{step_fault};
-ghost use Rattle.re_entries.specs.StepClauses.{HasNextLabels, HasRowSets};
+ghost use Rattle.re_entry_clauses.specs.StepClauses.{HasNextLabels, HasRowSets};
 ghost use Rattle.re_problem.specs.Steps.LowerMap.{by_set};
 ghost use Rattle.re_witness.specs.Finding.{AreBelow, back_witness, bad_witness, bound_refutation, fault_named, image_witness, lost_witness, refutation_at, refuted, row_witness, shut_witness, step_refutation, step_witness, steps_refutation};
 ghost use Rattle.re_witness.specs.Standing.{IsNamed, standing};

@@ -11,7 +11,7 @@ ghost use Rattle.std.specs.Prelude.{◌≡◌, ◌≤◌, ◌<◌, ◌+◌, ◌^
 use crate::bad_choice::first_bad_choice;
 use crate::witness::Witness;
 use re_config::Row;
-use re_entries::is_good;
+use re_entry_clauses::is_good;
 use re_labels::{LabelSet, MAX_LABELS, NoMemory};
 use re_strength::{row_order, with_set};
 use re_table::Constraint;

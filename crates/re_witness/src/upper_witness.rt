@@ -11,7 +11,7 @@ use crate::witness::{PortSets, Witness};
 use arrayvec::ArrayVec;
 use re_cert::SetEntry;
 use re_config::Config;
-use re_entries::sets_of;
+use re_entry_clauses::sets_of;
 use re_labels::LabelSet;
 use re_maps::{first_not_allowed, first_not_good};
 use re_table::Constraint;

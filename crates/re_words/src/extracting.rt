@@ -2,10 +2,8 @@
 ghost use Rattle.re_check.specs.Verdicts.{verdict_of};
 ghost use Rattle.re_words.specs.Command.{judges};
 ghost use Rattle.re_words.specs.Extracting.{algorithm_outcome, extracted_from, extracting_outcome};
-ghost use Rattle.re_frame.specs.Outcomes.{done as done_with, outcome_of, status_of, within_limit};
-ghost use Rattle.re_frame.specs.Runs.{MaySay, TakesInput};
+ghost use Rattle.re_frame.specs.Outcomes.{done as done_with, outcome_of};
 ghost use Rattle.re_words.specs.Tabling.{tabling_outcome};
-ghost use Rattle.re_io.specs.Faults.{Rose};
 ghost use Rattle.re_upper_tables.specs.UpperTables.{listed_table};
 ghost use Rattle.std.specs.Prelude.{◌≡◌, ◌≤◌, ℕ, List, [], codes, length, IfOk, IsErrOf, true};
 
@@ -13,11 +11,8 @@ use crate::command::Command;
 use re_cert::{Certificate, read_certificate};
 use re_check::{Kind, Verdict, check, upper_steps};
 use re_extract::Extractor;
-use re_frame::{
-    Answer, Answering, Output, Stop, answer_input, begun, done, fault_output, refused,
-    verdict_output,
-};
-use re_io::{MAX_BYTES, Source};
+use re_frame::{Answer, Answering, Output, begun, done, fault_output, refused, verdict_output};
+use re_io::MAX_BYTES;
 use re_labels::NoMemory;
 use re_problem::TextFault;
 use re_table_texts::{TableForm, print_table};
@@ -72,9 +67,9 @@ fn text_output(alloc: Global, text: &[u8]) -> Result<Output, NoMemory>
     }
 }
 
-// The command itself.
+/// The command that writes out the table of the algorithm of an upper bound. The word `table` says yes to it.
 #[derive(Clone, Copy)]
-struct Extracting;
+pub struct Extracting;
 
 impl Answering for Extracting {
     ghost use Rattle.re_words.specs.Extracting.{extracting_outcome};
@@ -92,19 +87,4 @@ impl Answering for Extracting {
     fn answer(&self, alloc: Global, text: Vec<u8>) -> Result<Output, NoMemory> {
         text_output(alloc, text.as_slice())
     }
-}
-
-/// The table of the algorithm of an upper bound, whose certificate the source gives. The word `table` says yes to it.
-pub fn extract<S: Source>(alloc: Global, source: &mut S) -> Result<Output, Stop>
-    ensures output { IfOk result (λ output. (bytes : List ℕ) → S.left source.old ≡ Some bytes →
-        outcome_of output ≡ within_limit extracting_outcome bytes) }
-    ensures yes { IfOk result (λ output. output.answer ≡ Answer.Done → tabling_outcome TableForm.Plain output.text.items ≡ done_with (codes "yes\n")) }
-    ensures says { IfOk result (λ output. MaySay (status_of output.answer) (judges Command.Extracts)) }
-    ensures emptied { IfOk result (λ _. (bytes : List ℕ) → S.left source.old ≡ Some bytes →
-        length bytes ≤ MAX_BYTES → S.left source.new ≡ Some []) }
-    ensures fault { IsErrOf result Stop.ReadFault → Rose (S.faults source.old) (S.faults source.new) }
-    ensures within { IsErrOf result Stop.ReadFault → TakesInput (S.left source.old) (S.left source.new) }
-    ensures later { S.faults source.old ≤ S.faults source.new }
-{
-    answer_input(alloc, &Extracting, source)
 }

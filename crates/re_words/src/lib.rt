@@ -16,9 +16,7 @@ mod working;
 
 pub use answer::stream;
 pub use command::{Command, Making, Mapping, Reading, Streaming, command_from};
-pub use extracting::extract;
+pub use extracting::Extracting;
 pub use making::make;
-pub use mapping::map;
-pub use reading::read;
-pub use running::{passive_nodes, run_input};
-pub use tabling::tabulate;
+pub use running::{Running, passive_nodes};
+pub use tabling::Tabling;

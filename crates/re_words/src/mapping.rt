@@ -1,9 +1,7 @@
 // The commands that judge a map between two problems.
 ghost use Rattle.re_words.specs.Mapping.{IsNamedVerdict, map_outcome, mapping_outcome};
 ghost use Rattle.re_words.specs.Command.{judges};
-ghost use Rattle.re_frame.specs.Outcomes.{outcome_of, refused as refused_with, status_of, within_limit};
-ghost use Rattle.re_frame.specs.Runs.{MaySay, TakesInput};
-ghost use Rattle.re_io.specs.Faults.{Rose};
+ghost use Rattle.re_frame.specs.Outcomes.{outcome_of, refused as refused_with};
 ghost use Rattle.re_printing.specs.SetTexts.{named_text};
 ghost use Rattle.re_problem.specs.CanonicalTexts.{config_text};
 ghost use Rattle.std.specs.List.{AllByRecursion};
@@ -11,8 +9,8 @@ ghost use Rattle.std.specs.Prelude.{◌≡◌, ◌≤◌, ◌<◌, ◌++◌, ℕ
 
 use crate::command::{Command, Mapping};
 use re_config::Config;
-use re_frame::{Answer, Answering, Output, Stop, answer_input, begun, fault_output, refused};
-use re_io::{MAX_BYTES, Source};
+use re_frame::{Answer, Answering, Output, begun, fault_output, refused};
+use re_io::MAX_BYTES;
 use re_labels::{Names, NoMemory, Side};
 use re_map_texts::{read_label_map, read_set_map};
 use re_maps::{MapVerdict, relaxes, renames, restricts};
@@ -139,18 +137,4 @@ impl Answering for Mapping {
     fn answer(&self, alloc: Global, text: Vec<u8>) -> Result<Output, NoMemory> {
         map_output(alloc, *self, text.as_slice())
     }
-}
-
-/// The output of a command that judges a map.
-pub fn map<S: Source>(alloc: Global, mapping: Mapping, source: &mut S) -> Result<Output, Stop>
-    ensures output { IfOk result (λ output. (bytes : List ℕ) → S.left source.old ≡ Some bytes →
-        outcome_of output ≡ within_limit (mapping_outcome mapping) bytes) }
-    ensures says { IfOk result (λ output. MaySay (status_of output.answer) (judges (Command.Maps mapping))) }
-    ensures emptied { IfOk result (λ _. (bytes : List ℕ) → S.left source.old ≡ Some bytes →
-        length bytes ≤ MAX_BYTES → S.left source.new ≡ Some []) }
-    ensures fault { IsErrOf result Stop.ReadFault → Rose (S.faults source.old) (S.faults source.new) }
-    ensures within { IsErrOf result Stop.ReadFault → TakesInput (S.left source.old) (S.left source.new) }
-    ensures later { S.faults source.old ≤ S.faults source.new }
-{
-    answer_input(alloc, &mapping, source)
 }

@@ -1,21 +1,19 @@
 // The commands that read a problem text.
 ghost use Rattle.std.specs.Prelude.{◌≡◌, ◌≤◌, ◌<◌, ◌++◌, ℕ, List, [], length, IfOk, IsErrOf};
-ghost use Rattle.re_io.specs.Faults.{Rose};
 ghost use Rattle.re_problem.specs.NamedProblems.{unnamed};
 ghost use Rattle.re_problem.specs.TextReading.{ReadGives};
 ghost use Rattle.re_problem.specs.Zero.{zero_place};
 ghost use Rattle.re_words.specs.Command.{IsReading, judges};
 ghost use Rattle.re_words.specs.Found.{SearchIsAccepted};
-ghost use Rattle.re_frame.specs.Outcomes.{outcome_of, status_of, within_limit};
-ghost use Rattle.re_frame.specs.Runs.{MaySay, TakesInput};
+ghost use Rattle.re_frame.specs.Outcomes.{outcome_of};
 ghost use Rattle.re_words.specs.Reading.{fit_outcome, problem_outcome, reading_outcome};
 
 use crate::command::{Command, Reading};
 use crate::counting::rounds_output;
 use crate::searching::search_output;
 use crate::working::{diagram_output, merge_output, steps_output, trim_output, universal_output};
-use re_frame::{Answer, Answering, Output, Stop, answer_input, fault_output};
-use re_io::{MAX_BYTES, Source};
+use re_frame::{Answer, Answering, Output, fault_output};
+use re_io::MAX_BYTES;
 use re_labels::NoMemory;
 use re_problem::{Problem, TextFault, print_active, print_problem, read_problem};
 use re_zero::zero_round;
@@ -110,20 +108,4 @@ impl Answering for Reading {
     fn answer(&self, alloc: Global, text: Vec<u8>) -> Result<Output, NoMemory> {
         text_output(alloc, *self, text)
     }
-}
-
-/// The output of a command that takes its input as a whole.
-pub fn read<S: Source>(alloc: Global, reading: Reading, source: &mut S) -> Result<Output, Stop>
-    requires { IsReading reading }
-    ensures output { IfOk result (λ output. (bytes : List ℕ) → S.left source.old ≡ Some bytes →
-        outcome_of output ≡ within_limit (reading_outcome reading) bytes) }
-    ensures says { IfOk result (λ output. MaySay (status_of output.answer) (judges (Command.Reads reading))) }
-    ensures emptied { IfOk result (λ _. (bytes : List ℕ) → S.left source.old ≡ Some bytes →
-        length bytes ≤ MAX_BYTES → S.left source.new ≡ Some []) }
-    ensures accepted { IfOk result (λ output. output.answer ≡ Answer.Done → SearchIsAccepted reading output.text.items) }
-    ensures fault { IsErrOf result Stop.ReadFault → Rose (S.faults source.old) (S.faults source.new) }
-    ensures within { IsErrOf result Stop.ReadFault → TakesInput (S.left source.old) (S.left source.new) }
-    ensures later { S.faults source.old ≤ S.faults source.new }
-{
-    answer_input(alloc, &reading, source)
 }

@@ -3,10 +3,8 @@ ghost use Rattle.re_cert.specs.declared.certificate.Kind.TheVariants.{Upper};
 ghost use Rattle.re_check.specs.Verdicts.{verdict_of};
 ghost use Rattle.re_check.specs.declared.verdict.Verdict.TheVariants.{Accepted};
 ghost use Rattle.re_words.specs.Command.{judges};
-ghost use Rattle.re_frame.specs.Outcomes.{done as finished, outcome_of, refused as refused_with, status_of, within_limit};
-ghost use Rattle.re_frame.specs.Runs.{MaySay, TakesInput};
+ghost use Rattle.re_frame.specs.Outcomes.{done as finished, outcome_of, refused as refused_with};
 ghost use Rattle.re_words.specs.Running.{AreNamed, PassiveNodesGet, delivered, node_line, nodes_from, running_outcome, verified};
-ghost use Rattle.re_io.specs.Faults.{Rose};
 ghost use Rattle.re_printing.specs.SetTexts.{named_text};
 ghost use Rattle.re_problem.specs.CanonicalTexts.{spaced};
 ghost use Rattle.re_runs.specs.RunReading.{AreMessages};
@@ -22,10 +20,9 @@ use crate::command::Command;
 use re_check::{Kind, Verdict, check, upper_steps};
 use re_extract::Extractor;
 use re_frame::{
-    Answering, Output, Stop, answer_input, begun, done, fault_output, push_number, push_words,
-    refused, verdict_output,
+    Answering, Output, begun, done, fault_output, push_number, push_words, refused, verdict_output,
 };
-use re_io::{MAX_BYTES, Source};
+use re_io::MAX_BYTES;
 use re_labels::{Names, NoMemory};
 use re_problem::{TextFault, push_label};
 use re_runs::{Run, RunInput, Standing, read_run, run_net};
@@ -173,9 +170,9 @@ fn text_output(alloc: Global, text: &[u8]) -> Result<Output, NoMemory>
     }
 }
 
-// An algorithm at work.
+/// The command that has the algorithm of an upper bound at work on a tree.
 #[derive(Clone, Copy)]
-struct Running;
+pub struct Running;
 
 impl Answering for Running {
     ghost use Rattle.re_words.specs.Running.{running_outcome};
@@ -191,18 +188,4 @@ impl Answering for Running {
     fn answer(&self, alloc: Global, text: Vec<u8>) -> Result<Output, NoMemory> {
         text_output(alloc, text.as_slice())
     }
-}
-
-/// The output of the command `run`.
-pub fn run_input<S: Source>(alloc: Global, source: &mut S) -> Result<Output, Stop>
-    ensures output { IfOk result (λ output. (bytes : List ℕ) → S.left source.old ≡ Some bytes →
-        outcome_of output ≡ within_limit running_outcome bytes) }
-    ensures says { IfOk result (λ output. MaySay (status_of output.answer) (judges Command.Runs)) }
-    ensures emptied { IfOk result (λ _. (bytes : List ℕ) → S.left source.old ≡ Some bytes →
-        length bytes ≤ MAX_BYTES → S.left source.new ≡ Some []) }
-    ensures fault { IsErrOf result Stop.ReadFault → Rose (S.faults source.old) (S.faults source.new) }
-    ensures within { IsErrOf result Stop.ReadFault → TakesInput (S.left source.old) (S.left source.new) }
-    ensures later { S.faults source.old ≤ S.faults source.new }
-{
-    answer_input(alloc, &Running, source)
 }

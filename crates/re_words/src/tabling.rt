@@ -1,12 +1,10 @@
 // The commands that work on a table of an algorithm.
 ghost use Rattle.re_algo.specs.Tables.{entries};
 ghost use Rattle.re_words.specs.Command.{judges};
-ghost use Rattle.re_frame.specs.Outcomes.{Outcome, done as done_with, outcome_of, status_of, within_limit};
-ghost use Rattle.re_frame.specs.Runs.{MaySay, TakesInput};
+ghost use Rattle.re_frame.specs.Outcomes.{Outcome, done as done_with, outcome_of};
 ghost use Rattle.re_words.specs.Tabling.{active_line, behind_next, behind_step, faster_outcome, or_refusal, same_constraints, same_lists, same_problems, slower_outcome, table_outcome, tabled, tabling_outcome};
 ghost use Rattle.re_frame.specs.StepLimits.{or_limit};
 ghost use Rattle.re_table_texts.specs.PrintedTables.{table_text};
-ghost use Rattle.re_io.specs.Faults.{Rose};
 ghost use Rattle.re_laws.specs.Algorithms.{Solves};
 ghost use Rattle.re_problem.specs.Derived.{derived as next_problem};
 ghost use Rattle.re_problem.specs.NamedProblems.{unnamed};
@@ -17,10 +15,8 @@ ghost use Rattle.std.specs.Prelude.{◌≡◌, ◌≢◌, ◌≤◌, ◌↔◌, 
 
 use crate::command::Command;
 use re_algo::{SlowerFault, Table, TableVerdict, faster, slower, solves};
-use re_frame::{
-    Answer, Answering, Output, Stop, answer_input, begun, done, fault_output, limit_output, refused,
-};
-use re_io::{MAX_BYTES, Source};
+use re_frame::{Answer, Answering, Output, begun, done, fault_output, limit_output, refused};
+use re_io::MAX_BYTES;
 use re_labels::{Names, NoMemory};
 use re_problem::{Problem, TextFault};
 use re_step::{Derived, StepFault, step};
@@ -242,9 +238,9 @@ fn table_output(alloc: Global, form: TableForm, text: &[u8]) -> Result<Output, N
     }
 }
 
-// A command that works on a table.
+/// A command that works on a table.
 #[derive(Clone, Copy)]
-struct Tabling(TableForm);
+pub struct Tabling(pub TableForm);
 
 impl Answering for Tabling {
     ghost use Rattle.re_words.specs.Tabling.{tabling_outcome};
@@ -260,18 +256,4 @@ impl Answering for Tabling {
     fn answer(&self, alloc: Global, text: Vec<u8>) -> Result<Output, NoMemory> {
         table_output(alloc, self.0, text.as_slice())
     }
-}
-
-/// The output of a command that works on a table.
-pub fn tabulate<S: Source>(alloc: Global, form: TableForm, source: &mut S) -> Result<Output, Stop>
-    ensures output { IfOk result (λ output. (bytes : List ℕ) → S.left source.old ≡ Some bytes →
-        outcome_of output ≡ within_limit (tabling_outcome form) bytes) }
-    ensures says { IfOk result (λ output. MaySay (status_of output.answer) (judges (Command.Tables form))) }
-    ensures emptied { IfOk result (λ _. (bytes : List ℕ) → S.left source.old ≡ Some bytes →
-        length bytes ≤ MAX_BYTES → S.left source.new ≡ Some []) }
-    ensures fault { IsErrOf result Stop.ReadFault → Rose (S.faults source.old) (S.faults source.new) }
-    ensures within { IsErrOf result Stop.ReadFault → TakesInput (S.left source.old) (S.left source.new) }
-    ensures later { S.faults source.old ≤ S.faults source.new }
-{
-    answer_input(alloc, &Tabling(form), source)
 }

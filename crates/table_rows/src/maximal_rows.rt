@@ -3,7 +3,7 @@ ghost use Rattle.std.specs.Prelude.{◌≡◌, length};
 
 use crate::tables::{pairs, row_of};
 use re_config::{Config, Row};
-use re_rows::are_maximal_rows;
+use re_row_clause::are_maximal_rows;
 use re_table::{Constraint, InsertFault};
 use std::alloc::{AllocError, Global};
 

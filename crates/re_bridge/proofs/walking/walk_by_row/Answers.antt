@@ -1,7 +1,7 @@
 use Rattle.std.proofs.Common.{◌≡◌, ◌&&◌, ◌*◌, ◌∙◌, true, false, eqb, None, Some, ap, sym, length, arith}
-use Rattle.re_bridge.proofs.WalkLemmas.{follow-partial, following-is, open-fails, open-short, walk-cut, walk-found, walk-none, walk-on}
+use Rattle.re_walks.proofs.WalkLemmas.{follow-partial, following-is, open-fails, open-short, walk-cut, walk-found, walk-none, walk-on}
 use Rattle.re_bridge.specs.Bridges.{passes_by_row}
-use Rattle.re_bridge.specs.Walking.{following, walk}
+use Rattle.re_walks.specs.Walking.{following, walk}
 use Rattle.re_bridge.proofs.walking.walk_by_row.Goals as goal
 use Rattle.re_bridge.proofs.walking.walk_by_row.Goals.{else-passes-via-then-passes+else-len-places, else-passes-via-else-passes}
 

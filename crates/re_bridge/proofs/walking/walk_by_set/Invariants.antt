@@ -1,7 +1,7 @@
 use Rattle.std.proofs.Common.{◌≡◌, ◌-◌, Some, length}
-use Rattle.re_bridge.proofs.WalkLemmas.{Partial}
+use Rattle.re_walks.proofs.WalkLemmas.{Partial}
 use Rattle.re_bridge.specs.Bridges.{passes_by_set}
-use Rattle.re_bridge.specs.Walking.{walk, walk_from}
+use Rattle.re_walks.specs.Walking.{walk, walk_from}
 use Rattle.re_bridge.proofs.walking.walk_by_set.Given as goal
 
 abbrev pub invariant-loop-try : goal.invariant-loop-try

@@ -1,5 +1,5 @@
 use Rattle.std.proofs.Common.{sym}
-use Rattle.re_entries.proofs.RowSets.{row-has-sets}
+use Rattle.re_entry_clauses.proofs.RowSets.{row-has-sets}
 use Rattle.re_chain_steps.proofs.row_form.row_form.Goals as goal
 
 pub image_of-requires-clause-held : goal.image_of-requires-clause-held

@@ -1,5 +1,5 @@
 use Rattle.std.proofs.Common.{◌≡◌, map, take}
-use Rattle.re_lines.specs.Lines.{others}
+use Rattle.re_closure_laws.specs.Lines.{others}
 use Rattle.re_closure.proofs.closure.all_others.Given as goal
 
 abbrev pub invariant-loop-set : goal.invariant-loop-set

@@ -1,5 +1,5 @@
 use Rattle.std.proofs.Common.{◌≡◌, map, take}
-use Rattle.re_lines.specs.Lines.{row_within}
+use Rattle.re_closure_laws.specs.Lines.{row_within}
 use Rattle.re_closure.proofs.rows.rows_of.Given as goal
 
 abbrev pub invariant-loop-line : goal.invariant-loop-line

@@ -1,5 +1,5 @@
 use Rattle.std.proofs.Common.{◌≡◌, map, take}
-use Rattle.re_lines.specs.Lines.{labels_within}
+use Rattle.re_closure_laws.specs.Lines.{labels_within}
 use Rattle.re_closure.proofs.sets.all_within.Given as goal
 
 abbrev pub invariant-loop-set : goal.invariant-loop-set

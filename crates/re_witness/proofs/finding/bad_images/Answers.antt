@@ -1,5 +1,5 @@
 use Rattle.std.proofs.Common.{◌≡◌, arith, length}
-use Rattle.re_entries.proofs.NextLabels.{next-count}
+use Rattle.re_entry_clauses.proofs.NextLabels.{next-count}
 use Rattle.re_clauses.proofs.StepTests.{known}
 use Rattle.re_witness.proofs.finding.bad_images.Goals as goal
 

@@ -1,7 +1,7 @@
 use Rattle.std.proofs.Common.{◌+◌, ◌%◌, ◌^◌, ap, ◌∙◌}
 use Rattle.std.specs.List.{sum_by}
 use Rattle.re_config.proofs.Sorting.{take_all}
-use Rattle.re_marks.specs.Mixing.{mixed}
+use Rattle.re_renaming.specs.Mixing.{mixed}
 use Rattle.re_renaming.specs.Colours.{mark_of}
 use Rattle.re_renaming.proofs.Coding.{summed_more}
 use Rattle.re_renaming.proofs.colours.Colours.mark.Goals as goal

@@ -1,6 +1,6 @@
 use Rattle.std.proofs.Common.{◌≡◌, ◌%◌, ◌^◌, take}
 use Rattle.std.specs.List.{sum_by}
-use Rattle.re_marks.specs.Mixing.{mixed}
+use Rattle.re_renaming.specs.Mixing.{mixed}
 use Rattle.re_renaming.proofs.colours.Colours.mark.Given as goal
 
 abbrev pub invariant-loop-colour : goal.invariant-loop-colour

@@ -1,7 +1,7 @@
 use Rattle.std.proofs.Common.{◌+◌, ◌<◌, ◌%◌, ◌^◌, ap, arith, ◌∙◌}
 use Rattle.std.specs.List.{sum_by}
 use Rattle.re_config.proofs.Sorting.{take_all}
-use Rattle.re_marks.specs.Mixing.{mixed}
+use Rattle.re_renaming.specs.Mixing.{mixed}
 use Rattle.re_renaming.specs.Colours.{colour_at, config_number}
 use Rattle.re_renaming.proofs.Coding.{wrapped_first, wrapped_more}
 use Rattle.re_renaming.proofs.colours.Colours.of_config.Goals as goal

@@ -1,6 +1,6 @@
 use Rattle.std.proofs.Common.{◌≡◌, ◌+◌, ◌%◌, ◌^◌, take}
 use Rattle.std.specs.List.{sum_by}
-use Rattle.re_marks.specs.Mixing.{mixed}
+use Rattle.re_renaming.specs.Mixing.{mixed}
 use Rattle.re_renaming.specs.Colours.{colour_at}
 use Rattle.re_renaming.proofs.colours.Colours.of_config.Given as goal
 

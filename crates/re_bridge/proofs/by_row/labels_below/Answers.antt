@@ -1,5 +1,0 @@
-use Rattle.re_bridge.proofs.RowTests.{below-more}
-use Rattle.re_bridge.proofs.by_row.labels_below.Goals as goal
-
-pub loop-label-preserved : goal.loop-label-preserved
-loop-label-preserved c = below-more c.loop-label.label c.loop-label.set c.insert-set.result c.loop-label.invariant c.insert-set.ensures

@@ -1,5 +1,0 @@
-use Rattle.re_bridge.proofs.WalkLemmas.{walk_law as law}
-use Rattle.re_bridge.proofs.walk_law.Goals as goal
-
-pub returns : goal.returns
-returns c = law

@@ -1,0 +1,117 @@
+-- A chain of lower steps with a step more.
+use Rattle.std.proofs.Common.{◌≡◌, ℕ, ◌<◌, ◌≤◌, Bool, true, false, not, cond, leb, List, [], ◌∷◌, ◌++◌, length, map, None, Some, refl, sym, ap, ◌∙◌, arith, length-append}
+use Rattle.std.proofs.lemmas.Bool.Decides.{nat_tests}
+use Rattle.std.proofs.lemmas.List.{map-append}
+use Rattle.std.specs.Prelude.{◌&&◌, ◌||◌}
+use Rattle.std.specs.List.{list_all}
+use Rattle.re_labels.proofs.Tests.{and-true, or-left, or-right, true-and}
+use Rattle.re_problem.specs.NamedProblems.{NamedProblem}
+use Rattle.re_problem.specs.ProblemTexts.{last_or}
+use Rattle.re_cert.proofs.FittingStates.{one_more}
+use Rattle.re_cert.specs.Bounds.{Bound, BoundStep, built, has_row_maps, is_bound, is_by_row, last_problem, next_problems, one_form, renaming_fits, step_fits, steps_fit}
+use Rattle.re_cert.specs.declared.certificate.Kind.TheVariants.{Lower}
+use Rattle.re_cert.specs.declared.certificate.TheConstants.{MAX_STEPS}
+use Rattle.re_chain_parts.specs.Chains.{IsSound, chain_with}
+use Rattle.re_chain_steps.proofs.MoreSteps.{all-sets}
+use Rattle.re_chain_steps.proofs.RowForms.{next-same, step-fits, step-form, step-sound}
+use Rattle.re_chain_steps.specs.RowForms.{by_rows, step_by_rows}
+use Rattle.re_clauses.specs.Clauses.{step_fault}
+use Rattle.re_tree.proofs.Paths.{fits-more, valid-more}
+use Rattle.re_bridge_words.specs.Bridged.{in_one_form}
+
+-- the steps of a bound of kind lower fit, and have maps of one form
+pub bound-parts : (bound : Bound) → is_bound bound ≡ true → bound.kind ≡ Lower → (steps_fit Lower bound.first bound.steps ≡ true) × (one_form bound.steps ≡ true)
+bound-parts bound is lower =
+    let (front, back) = and-true (leb (length bound.steps) MAX_STEPS && steps_fit bound.kind bound.first bound.steps && one_form bound.steps) (renaming_fits bound) is in
+    let (fitting, form) = and-true (leb (length bound.steps) MAX_STEPS && steps_fit bound.kind bound.first bound.steps) (one_form bound.steps) front in
+    (ap (λ k. steps_fit k bound.first bound.steps) (sym lower) ∙ (and-true (leb (length bound.steps) MAX_STEPS) (steps_fit bound.kind bound.first bound.steps) fitting).1, form)
+
+-- steps that fit and have maps of one form make a bound of kind lower
+pub few-bound : (first : NamedProblem) (steps : List BoundStep) → length steps ≤ MAX_STEPS → steps_fit Lower first steps ≡ true → one_form steps ≡ true → is_bound (chain_with Lower first steps) ≡ true
+few-bound first steps few fit form =
+    let small : leb (length steps) MAX_STEPS ≡ true = grind (arith, nat_tests) in
+    true-and (leb (length steps) MAX_STEPS && steps_fit Lower first steps && one_form steps) (renaming_fits (chain_with Lower first steps))
+    (true-and (leb (length steps) MAX_STEPS && steps_fit Lower first steps) (one_form steps) (true-and (leb (length steps) MAX_STEPS) (steps_fit Lower first steps) small fit) form) refl
+
+pub one-bound : (first : NamedProblem) (s : BoundStep) → step_fits Lower first s ≡ true → is_bound (chain_with Lower first (s ∷ [])) ≡ true
+one-bound first s fit = few-bound first (s ∷ []) (omega arith) (true-and (step_fits Lower first s) true fit refl) (form (is_by_row s.map))
+  where
+    form : (b : Bool) → ((b && true) || (not b && true)) ≡ true
+    form true = refl
+    form false = refl
+
+pub more-bound : (bound : Bound) (s : BoundStep) → is_bound bound ≡ true → bound.kind ≡ Lower → length bound.steps < MAX_STEPS → step_fits Lower (last_problem bound) s ≡ true → one_form (bound.steps ++ s ∷ []) ≡ true
+    → is_bound (chain_with Lower bound.first (bound.steps ++ s ∷ [])) ≡ true
+more-bound bound s is lower room fit form =
+    few-bound bound.first (bound.steps ++ s ∷ []) (omega (arith, room, length-append bound.steps (s ∷ []))) (fits-more Lower bound.first bound.steps s (bound-parts bound is lower).0 fit) form
+
+pub more-sound : (bound : Bound) (s : BoundStep) → IsSound bound → step_fault (last_problem bound) s ≡ None → IsSound (chain_with Lower bound.first (bound.steps ++ s ∷ []))
+more-sound bound s sound met = valid-more 1 bound.first bound.steps s sound met
+
+-- ---- the form of the maps
+any-more : (steps : List BoundStep) (s : BoundStep) → has_row_maps (steps ++ s ∷ []) ≡ (has_row_maps steps || is_by_row s.map)
+any-more [] s = go (is_by_row s.map)
+  where
+    go : (b : Bool) → (b || false) ≡ b
+    go true = refl
+    go false = refl
+any-more (t ∷ steps) s = ap (λ b. is_by_row t.map || b) (any-more steps s) ∙ go (is_by_row t.map)
+  where
+    go : (b : Bool) → (b || (has_row_maps steps || is_by_row s.map)) ≡ ((b || has_row_maps steps) || is_by_row s.map)
+    go true = refl
+    go false = refl
+
+pub sets-form : (steps : List BoundStep) (s : BoundStep) (r : Bool) → r ≡ (has_row_maps steps || is_by_row s.map) → r ≡ false → one_form (steps ++ s ∷ []) ≡ true
+sets-form steps s r is none =
+    or-right (list_all (λ (s : BoundStep). is_by_row s.map) (steps ++ s ∷ [])) (list_all (λ (s : BoundStep). not (is_by_row s.map)) (steps ++ s ∷ []))
+    (all-sets (steps ++ s ∷ []) (any-more steps s ∙ sym is ∙ none))
+
+-- written by rows, the maps of lower steps are by rows
+rows-all : (before : NamedProblem) (steps : List BoundStep) → steps_fit Lower before steps ≡ true → list_all (λ (s : BoundStep). is_by_row s.map) (map step_by_rows steps) ≡ true
+rows-all before [] fit = refl
+rows-all before (s ∷ steps) fit =
+    let both = and-true (step_fits Lower before s) (steps_fit Lower s.next steps) fit in
+    true-and (is_by_row (step_by_rows s).map) (list_all (λ (s : BoundStep). is_by_row s.map) (map step_by_rows steps)) (step-form Lower before s both.0) (rows-all s.next steps both.1)
+
+pub rows-form : (bound : Bound) (s : BoundStep) → is_bound bound ≡ true → bound.kind ≡ Lower → step_fits Lower (last_problem bound) s ≡ true → one_form (map step_by_rows bound.steps ++ step_by_rows s ∷ []) ≡ true
+rows-form bound s is lower fit =
+    or-left (list_all (λ (s : BoundStep). is_by_row s.map) (map step_by_rows bound.steps ++ step_by_rows s ∷ [])) (list_all (λ (s : BoundStep). not (is_by_row s.map)) (map step_by_rows bound.steps ++ step_by_rows s ∷ []))
+    (one_more (λ (s : BoundStep). is_by_row s.map) (map step_by_rows bound.steps) (step_by_rows s) (rows-all bound.first bound.steps (bound-parts bound is lower).0) (step-form Lower (last_problem bound) s fit))
+
+pub last-same : (bound : Bound) → last_problem (by_rows bound) ≡ last_problem bound
+last-same bound = ap (last_or bound.first) (next-same bound.steps)
+
+-- ---- what comes of both forms
+pub sets-chain : (bound : Bound) (s : BoundStep) (r : Bool) → r ≡ (has_row_maps bound.steps || is_by_row s.map) → r ≡ false
+    → chain_with Lower bound.first (bound.steps ++ s ∷ []) ≡ chain_with Lower bound.first (in_one_form (bound.steps ++ s ∷ []))
+sets-chain bound s r is none =
+    let e : false ≡ has_row_maps (bound.steps ++ s ∷ []) = sym none ∙ is ∙ sym (any-more bound.steps s) in
+    (λ i. chain_with Lower bound.first (cond (e i) (map step_by_rows (bound.steps ++ s ∷ [])) (bound.steps ++ s ∷ [])))
+
+pub rows-chain : (bound : Bound) (s : BoundStep) (r : Bool) → r ≡ (has_row_maps bound.steps || is_by_row s.map) → r ≡ true
+    → chain_with Lower bound.first (map step_by_rows bound.steps ++ step_by_rows s ∷ []) ≡ chain_with Lower bound.first (in_one_form (bound.steps ++ s ∷ []))
+rows-chain bound s r is some =
+    let e : true ≡ has_row_maps (bound.steps ++ s ∷ []) = sym some ∙ is ∙ sym (any-more bound.steps s) in
+    ap (chain_with Lower bound.first) (sym (map-append step_by_rows bound.steps (s ∷ [])))
+    ∙ (λ i. chain_with Lower bound.first (cond (e i) (map step_by_rows (bound.steps ++ s ∷ [])) (bound.steps ++ s ∷ [])))
+
+-- ---- what the program holds
+pub held-more : (bound : Bound) (s : BoundStep) (first : NamedProblem) (steps : List BoundStep) (renaming : List (ℕ × ℕ)) → first ≡ bound.first → steps ≡ bound.steps ++ s ∷ [] → renaming ≡ []
+    → record { kind = Lower; back = 0; first = first; steps = steps; renaming = renaming } ≡ chain_with Lower bound.first (bound.steps ++ s ∷ [])
+held-more bound s first steps renaming e f g = (λ i. record { kind = Lower; back = 0; first = e i; steps = f i; renaming = g i })
+
+pub surely-built : (bound given : Bound) → given ≡ bound → is_bound bound ≡ true → built given ≡ Some bound
+surely-built bound given e is = ap built e ∙ ap (λ b. cond b (Some bound) None) is
+
+pub rows-fits : (bound rows : Bound) (s t : BoundStep) → rows ≡ by_rows bound → t ≡ step_by_rows s → step_fits Lower (last_problem bound) s ≡ true → step_fault (last_problem bound) s ≡ None
+    → (step_fits Lower (last_problem rows) t ≡ true) × (step_fault (last_problem rows) t ≡ None)
+rows-fits bound rows s t e f fit met =
+    let last : last_problem rows ≡ last_problem bound = ap last_problem e ∙ last-same bound in
+    ((λ i. step_fits Lower (last i) (f i)) ∙ step-fits Lower (last_problem bound) s fit met, (λ i. step_fault (last i) (f i)) ∙ step-sound (last_problem bound) s met)
+
+pub rows-formed : (bound rows : Bound) (s t : BoundStep) → rows ≡ by_rows bound → t ≡ step_by_rows s → is_bound bound ≡ true → bound.kind ≡ Lower → step_fits Lower (last_problem bound) s ≡ true → one_form (rows.steps ++ t ∷ []) ≡ true
+rows-formed bound rows s t e f is lower fit = (λ i. one_form ((e i).steps ++ f i ∷ [])) ∙ rows-form bound s is lower fit
+
+pub rows-given : (bound rows : Bound) (s t : BoundStep) (r : Bool) → rows ≡ by_rows bound → t ≡ step_by_rows s → r ≡ (has_row_maps bound.steps || is_by_row s.map) → r ≡ true
+    → chain_with Lower rows.first (rows.steps ++ t ∷ []) ≡ chain_with Lower bound.first (in_one_form (bound.steps ++ s ∷ []))
+rows-given bound rows s t r e f is some = (λ i. chain_with Lower (e i).first ((e i).steps ++ f i ∷ [])) ∙ rows-chain bound s r is some

@@ -1,0 +1,16 @@
+use Rattle.re_closure_lines.proofs.Combinations.{at_found, at_nested, left_counts}
+use Rattle.re_closure_lines.proofs.combining.push_at.Goals as goal
+
+pub returns-then-are_nested : goal.returns-then-are_nested
+returns-then-are_nested c = at_nested c.args.sets.now c.args.others.now c.args.place c.args.against c.args.found.now.items c.index-sets-place.result c.index-others-against.result
+    c.requires.place c.requires.against c.requires.alike c.index-sets-place.is c.index-others-against.is (c.are_nested.ensures c.if-are_nested.true)
+
+pub push_meets-requires-clause-alike : goal.push_meets-requires-clause-alike
+push_meets-requires-clause-alike c = left_counts c.args.sets.now c.args.others.now c.without-rest.result.items c.as_slice.result.now c.without-left.result.items c.as_slice-2.result.now c.args.place c.args.against
+    c.requires.place c.requires.against c.requires.alike c.without-rest.ensures c.as_slice.ensures.value c.without-left.ensures c.as_slice-2.ensures.value
+
+pub returns : goal.returns
+returns c = at_found c.args.sets.now c.args.others.now c.args.place c.args.against c.args.found.now.items c.push_meets.new.found.items c.index-sets-place.result c.index-others-against.result c.union.result
+    c.without-rest.result.items c.as_slice.result.now c.without-left.result.items c.as_slice-2.result.now
+    c.requires.place c.requires.against c.requires.alike c.index-sets-place.is c.index-others-against.is c.union.ensures c.without-rest.ensures c.as_slice.ensures.value c.without-left.ensures c.as_slice-2.ensures.value
+    c.in_ok-push_meets.ensures

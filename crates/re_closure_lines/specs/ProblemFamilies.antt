@@ -1,0 +1,18 @@
+-- The families that a problem's lines and sets make.
+use Rattle.std.specs.Prelude.{◌≡◌, ℕ, ◌⊎◌, List, length, map}
+use Rattle.re_problem.specs.NamedProblems.{NamedProblem}
+use Rattle.re_closure_laws.specs.Closures.{Occurs}
+use Rattle.re_closure_laws.specs.Lines.{Family, others}
+use Rattle.re_closure_lines.specs.declared.families.Families.{Families}
+
+-- the lines of the passive side, with the sets
+abbrev pub passive_family : NamedProblem → Families → Family
+passive_family problem families = record { degree = problem.passive.degree; lines = families.passive.items; sets = families.sets.items }
+
+-- the lines of the active side, with what the sets leave of the labels
+abbrev pub active_family : NamedProblem → Families → Family
+active_family problem families = record { degree = problem.active.degree; lines = families.active.items; sets = map (others (length problem.names)) families.sets.items }
+
+-- the set stands in a passive line, or is what one in an active line leaves of the labels below n
+abbrev pub IsNeeded : ℕ → List (List (List ℕ)) → List (List (List ℕ)) → List ℕ → Type 0
+IsNeeded n passive active set = Occurs passive set ⊎ ((other : List ℕ) × Occurs active other × (set ≡ others n other))

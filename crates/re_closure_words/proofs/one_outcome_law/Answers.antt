@@ -1,5 +1,0 @@
-use Rattle.re_closure_words.proofs.OneOutcome.{one_outcome}
-use Rattle.re_closure_words.proofs.one_outcome_law.Goals as goal
-
-pub returns : goal.returns
-returns c = one_outcome

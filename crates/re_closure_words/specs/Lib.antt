@@ -1,2 +1,0 @@
-pub mod ClosureWords
-pub mod Laws

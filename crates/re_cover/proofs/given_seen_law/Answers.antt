@@ -1,0 +1,5 @@
+use Rattle.re_cover.proofs.GivenOutputs.{given_seen_law as law}
+use Rattle.re_cover.proofs.given_seen_law.Goals as goal
+
+pub returns : goal.returns
+returns c = law

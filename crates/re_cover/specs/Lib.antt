@@ -1,0 +1,4 @@
+pub mod Graphs
+pub mod Laws
+pub mod Unfolded
+pub mod GivenGraphs

@@ -1,0 +1,42 @@
+-- The loops, and what is answered.
+use Rattle.std.proofs.Common.{◌≡◌, ℕ, zero, suc, ◌%◌, ◌<◌, ◌+◌, List, map, get_or, Option, None, Some, refl, sym, ap, ◌∙◌, subst, arith}
+use Rattle.std.proofs.lemmas.List.{get_or-map}
+use Rattle.re_labels.proofs.Membership.{get_or-count_from, length-count_from}
+use Rattle.re_labels.specs.Lists.{count_from}
+use Rattle.re_problem.specs.Problems.{IsProblem, Problem}
+use Rattle.re_problem.specs.Steps.{SetEntry}
+use Rattle.re_entry_clauses.specs.LabelsOver.{labels_over}
+use Rattle.re_given.specs.Inputs.{IsInput, exchanged, exchanged_by}
+use Rattle.re_fit.proofs.Told.{fit_walk_law}
+use Rattle.re_fit.specs.Fits.{IsFound}
+use Rattle.re_fit.specs.Laws.{IsAnswer, TellsGiven}
+
+-- what is found answers
+pub answered : (problem input : Problem) (tries : ℕ) (o : Option (List (List ℕ))) → IsProblem problem → IsInput problem input → IsFound problem input tries o → IsAnswer problem input o
+answered problem input tries None is is_input nothing = subst (TellsGiven problem input) nothing (fit_walk_law problem input tries is is_input)
+answered problem input tries (Some sets) is is_input (labels, walked, are) =
+    subst (λ s. IsAnswer problem input (Some s)) (sym are) (subst (TellsGiven problem input) walked (fit_walk_law problem input tries is is_input))
+
+pub answered-by : (problem given input : Problem) (tries : ℕ) (o : Option (List (List ℕ))) → given ≡ input → IsProblem problem → IsInput problem input → IsFound problem given tries o → IsAnswer problem input o
+answered-by problem given input tries o same is is_input found = answered problem input tries o is is_input (subst (λ (p : Problem). IsFound problem p tries o) same found)
+
+-- exchanged an even number of times a problem is itself, and exchanged an odd number of times it is exchanged
+pub exchanged-even : (k : ℕ) (input : Problem) → k % 2 ≡ 0 → exchanged_by k input ≡ input
+exchanged-even zero input e = refl
+exchanged-even (suc zero) input e = absurd (cc)
+exchanged-even (suc (suc k)) input e = ap (λ p. exchanged (exchanged p)) (exchanged-even k input (omega (arith, e)))
+
+pub exchanged-odd : (k : ℕ) (input : Problem) → (k % 2 ≡ 0 → ⊥) → exchanged_by k input ≡ exchanged input
+exchanged-odd zero input other = absurd (other refl)
+exchanged-odd (suc zero) input other = refl
+exchanged-odd (suc (suc k)) input other = ap (λ p. exchanged (exchanged p)) (exchanged-odd k input (λ e. other (omega (arith, e))))
+
+-- the set at a place of a list that is filled in order
+pub over-at : (f : ℕ → List ℕ) (sets : List (List ℕ)) (n k : ℕ) (set : List ℕ) → sets ≡ map f (count_from 0 n) → k < n → get_or sets k set ≡ f k
+over-at f sets n k set are l =
+    ap (λ s. get_or s k set) are ∙ get_or-map f (count_from 0 n) k 0 set (omega (arith, l, length-count_from 0 n))
+    ∙ ap f (let e : get_or (count_from 0 n) k 0 ≡ 0 + k = get_or-count_from 0 n k 0 l in let z : get_or (count_from 0 n) k 0 ≡ k = omega (arith, e) in z)
+
+-- the labels over each label, by equal entries
+pub filled-with : (given entries : List SetEntry) (n : ℕ) (over : List (List ℕ)) → over ≡ map (labels_over given) (count_from 0 n) → given ≡ entries → over ≡ map (labels_over entries) (count_from 0 n)
+filled-with given entries n over is same = is ∙ ap (λ es. map (labels_over es) (count_from 0 n)) same

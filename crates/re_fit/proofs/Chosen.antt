@@ -1,0 +1,121 @@
+-- Labels for the places that pass, from sets by which an upper step leads to the exchanged input problem.
+use Rattle.std.proofs.Common.{◌≡◌, ℕ, ◌<◌, ◌+◌, true, List, [], ◌∷◌, ◌++◌, length, map, take, drop, append-nil, inl, inr, refl, sym, ap, ◌∙◌, subst, arith, length-append}
+use Rattle.std.specs.Prelude.{Contains, ◌⊎◌}
+use Rattle.std.specs.List.{AllByRecursion}
+use Rattle.std.proofs.lemmas.List.{length-map}
+use Rattle.std.proofs.Math.Seq.{drop-append-add, take-append-add}
+use Rattle.re_labels.proofs.Membership.{AllByRecursion-from_contains, Contains-cases, Contains-here, Contains-later, Contains-none, In, Contains-In, Contains-filter_cases, Contains-map_cases}
+use Rattle.re_labels.proofs.Sets.{has-IsIn}
+use Rattle.re_labels.proofs.Tests.{true-and}
+use Rattle.re_labels.specs.Sets.{IsIn, has}
+use Rattle.re_config.proofs.Rearranging.{length-AllZip}
+use Rattle.re_config.proofs.Replacing.{support_law}
+use Rattle.re_config.specs.Rows.{IsChoice, singles}
+use Rattle.re_table.proofs.Goodness.{Has-Rearranged, Has-has_config}
+use Rattle.re_table.specs.Constraints.{Has, has_config}
+use Rattle.re_problem.specs.Problems.{IsProblem, Problem}
+use Rattle.re_problem.specs.Steps.{IsUpper, SetEntry}
+use Rattle.re_entry_clauses.proofs.AllowedImages.{keeps_allowed_law}
+use Rattle.re_entry_clauses.specs.LabelsOver.{labels_over}
+use Rattle.re_entry_clauses.specs.RowEntries.{row_entries}
+use Rattle.re_clauses.specs.Clauses.{keep_allowed}
+use Rattle.re_given.proofs.AllInputViews.{Has-below}
+use Rattle.re_given.proofs.ZeroGiven.{Has-count}
+use Rattle.re_given.specs.Inputs.{IsInput, exchanged}
+use Rattle.re_bridge.proofs.Meeting.{kept-allowed}
+use Rattle.re_walks.specs.Walking.{IsAssignment}
+use Rattle.re_fit.proofs.Images.{are_images-split}
+use Rattle.re_fit.proofs.InOrder.{in_order}
+use Rattle.re_fit.proofs.LastLabels.{by_last-from}
+use Rattle.re_fit.specs.Fits.{are_images, is_image, is_in_order, joined, ordered, passes, places}
+
+-- a choice of each of two rows
+choice-append : (sets : ℕ → List ℕ) (config others labels more : List ℕ) → IsChoice labels (map sets config) → IsChoice more (map sets others) → IsChoice (labels ++ more) (map sets (config ++ others))
+choice-append sets [] others [] more chosen rest = rest
+choice-append sets [] others (l ∷ labels) more chosen rest = absurd chosen
+choice-append sets (x ∷ config) others [] more chosen rest = absurd chosen
+choice-append sets (x ∷ config) others (l ∷ labels) more chosen rest = (chosen.0, choice-append sets config others labels more chosen.1 rest)
+
+-- the entries of a choice lie in the sets
+chosen-entry : (sets : ℕ → List ℕ) (config labels : List ℕ) (e : SetEntry) (x : ℕ) → IsChoice labels (map sets config) → In e (row_entries (singles config) labels) → IsIn x e.set → IsIn e.label (sets x)
+chosen-entry sets [] labels e x chosen at held = absurd at
+chosen-entry sets (y ∷ config) [] e x chosen at held = absurd at
+chosen-entry sets (y ∷ config) (l ∷ labels) e x chosen (inr later) held = chosen-entry sets config labels e x chosen.1 later held
+chosen-entry sets (y ∷ config) (l ∷ labels) e x chosen (inl here) held =
+    go (Contains-cases x y [] (subst (λ (f : SetEntry). IsIn x f.set) here held))
+  where
+    go : (x ≡ y) ⊎ Contains [] x → IsIn e.label (sets x)
+    go (inr none) = absurd (Contains-none x none)
+    go (inl same) = subst (λ (f : SetEntry). IsIn f.label (sets x)) (sym here) (subst (λ z. IsIn l (sets z)) (sym same) chosen.0)
+
+-- so the labels over an input label are in its set
+over-chosen : (sets : ℕ → List ℕ) (config labels : List ℕ) (x y : ℕ) → IsChoice labels (map sets config) → IsIn y (labels_over (row_entries (singles config) labels) x) → IsIn y (sets x)
+over-chosen sets config labels x y chosen held =
+    let entries : List SetEntry = row_entries (singles config) labels in
+    let (e, among, same) = Contains-map_cases (λ (f : SetEntry). f.label) _ y (((support_law 0 _).1 y).0 held) in
+    let (there, holds) = Contains-filter_cases (λ (f : SetEntry). has f.set x) entries e among in
+    subst (λ z. IsIn z (sets x)) same (chosen-entry sets config labels e x chosen (Contains-In e entries there) (has-IsIn e.set x holds))
+
+choices-over : (sets : ℕ → List ℕ) (config labels xs ys : List ℕ) → IsChoice labels (map sets config) → IsChoice ys (map (labels_over (row_entries (singles config) labels)) xs) → IsChoice ys (map sets xs)
+choices-over sets config labels [] [] chosen h = tt
+choices-over sets config labels [] (y ∷ ys) chosen h = absurd h
+choices-over sets config labels (x ∷ xs) [] chosen h = absurd h
+choices-over sets config labels (x ∷ xs) (y ∷ ys) chosen h = (over-chosen sets config labels x y chosen h.0, choices-over sets config labels xs ys chosen h.1)
+
+low-append : (n : ℕ) (labels more : List ℕ) → AllByRecursion (λ label. label < n) labels → AllByRecursion (λ label. label < n) more → AllByRecursion (λ label. label < n) (labels ++ more)
+low-append n [] more low rest = rest
+low-append n (l ∷ labels) more low rest = (low.0, low-append n labels more low.1 rest)
+
+module _ (problem input : Problem) (is : IsProblem problem) (is_input : IsInput problem input) (sets : ℕ → List ℕ) (upper : IsUpper problem (exchanged input) sets) where
+  -- labels for the places of these configurations
+  record Labels (configs : List (List ℕ)) : Type 0 where
+    labels : List ℕ
+    chosen : IsChoice labels (map sets (joined configs))
+    count : length labels ≡ length (joined configs)
+    low : AllByRecursion (λ label. label < problem.labels) labels
+    images : are_images problem.active problem.labels configs labels ≡ true
+
+  more_labels : (config : List ℕ) (configs : List (List ℕ)) → Contains input.active.configs config → Labels configs → Labels (config ∷ configs)
+  more_labels config configs held rest =
+      let (labels, chosen, has) = upper.choice config held in
+      let (moved, again, order, rises) = in_order sets config labels chosen in
+      let is_there : Has problem.active moved = Has-Rearranged problem.active order has in
+      let size : length moved ≡ problem.active.degree = Has-count problem.labels problem.active moved is.active is_there in
+      let same : length moved ≡ length config = length-AllZip IsIn moved (map sets config) again ∙ length-map config sets in
+      let front : take problem.active.degree (moved ++ rest.labels) ≡ moved = take-front problem.active.degree moved rest.labels size in
+      let back : drop problem.active.degree (moved ++ rest.labels) ≡ rest.labels = drop-front problem.active.degree moved rest.labels size in
+      record {
+        labels = moved ++ rest.labels;
+        chosen = choice-append sets config (joined configs) moved rest.labels again rest.chosen;
+        count = omega (arith, length-append moved rest.labels, length-append config (joined configs), same, rest.count);
+        low = low-append problem.labels moved rest.labels (AllByRecursion-from_contains (λ label. label < problem.labels) moved (Has-below problem.labels problem.active moved is.active is_there)) rest.low;
+        images = are_images-split problem.active problem.labels config configs (moved ++ rest.labels) (omega (arith, length-append moved rest.labels, size))
+            ∙ true-and (is_image problem.active config (take problem.active.degree (moved ++ rest.labels))) (are_images problem.active problem.labels configs (drop problem.active.degree (moved ++ rest.labels)))
+            (ap (is_image problem.active config) front ∙ true-and (is_in_order config moved) (has_config problem.active moved) rises (Has-has_config problem.active moved is_there))
+            (ap (are_images problem.active problem.labels configs) back ∙ rest.images);
+      }
+    where
+      take-front : (d : ℕ) (xs ys : List ℕ) → length xs ≡ d → take d (xs ++ ys) ≡ xs
+      take-front d xs ys e = ap (λ m. take m (xs ++ ys)) (let z : d ≡ length xs + 0 = omega (arith, e) in z) ∙ take-append-add xs ys 0 ∙ append-nil xs
+
+      drop-front : (d : ℕ) (xs ys : List ℕ) → length xs ≡ d → drop d (xs ++ ys) ≡ ys
+      drop-front d xs ys e = ap (λ m. drop m (xs ++ ys)) (let z : d ≡ length xs + 0 = omega (arith, e) in z) ∙ drop-append-add xs ys 0
+
+  all_labels : (configs : List (List ℕ)) → ((config : List ℕ) → Contains configs config → Contains input.active.configs config) → Labels configs
+  all_labels [] there = record { labels = []; chosen = tt; count = refl; low = tt; images = refl }
+  all_labels (config ∷ configs) there =
+      more_labels config configs (there config (Contains-here config configs)) (all_labels configs (λ other held. there other (Contains-later other config configs held)))
+
+  found_labels : Labels (ordered input)
+  found_labels = all_labels (ordered input) (λ config held. by_last-from input.active input.labels config held)
+
+  -- they pass
+  pub passing_labels : (labels : List ℕ) × IsAssignment problem.labels (length (places input)) labels × (passes problem input labels ≡ true)
+  passing_labels =
+      let entries : List SetEntry = row_entries (places input) found_labels.labels in (
+        found_labels.labels,
+        (found_labels.count ∙ sym (length-map (joined (ordered input)) (λ x. x ∷ [])), found_labels.low),
+        true-and (are_images problem.active problem.labels (ordered input) found_labels.labels) (keep_allowed input.passive problem.passive entries) found_labels.images
+            (kept-allowed input.passive problem.passive entries ((keeps_allowed_law input.labels input.passive problem.passive entries is_input.is_problem.passive).1 (λ config ys held h.
+            (upper.good config held).choice ys (choices-over sets (joined (ordered input)) found_labels.labels config ys found_labels.chosen h)))),
+      )

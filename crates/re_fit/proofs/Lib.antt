@@ -1,0 +1,8 @@
+pub mod Answering
+pub mod Chosen
+pub mod Images
+pub mod InOrder
+pub mod Judged
+pub mod LastLabels
+pub mod Loops
+pub mod Told

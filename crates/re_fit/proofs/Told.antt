@@ -1,0 +1,206 @@
+-- What a walk tells: the sets of labels that pass are such that an upper step leads to the exchanged input problem, and else there are none.
+use Rattle.std.proofs.Common.{◌≡◌, ℕ, suc, ◌<◌, ◌≤◌, ◌+◌, ◌-◌, ◌*◌, min, true, List, [], ◌∷◌, ◌++◌, length, map, take, drop, get_or, inl, inr, refl, sym, ap, ◌∙◌, subst, arith, true≢false, length-drop}
+use Rattle.std.specs.Prelude.{Contains, ◌⊎◌}
+use Rattle.std.specs.List.{AllByRecursion}
+use Rattle.std.proofs.lemmas.List.{get_or-map, length-map, length-take}
+use Rattle.re_labels.proofs.Membership.{AllByRecursion-contains, AllByRecursion-from_contains, Contains-In, Contains-cases, Contains-filter, Contains-filter_cases, Contains-here, Contains-map, Contains-map_cases, Contains-none, In, In-Contains, get_or-count_from, length-count_from, length-map', map-alike}
+use Rattle.re_labels.proofs.Sets.{IsIn-has}
+use Rattle.re_labels.proofs.Tests.{and-true, true-and}
+use Rattle.re_labels.specs.Lists.{count_from}
+use Rattle.re_labels.specs.Sets.{IsIn, has}
+use Rattle.re_config.proofs.Replacing.{support_law}
+use Rattle.re_config.specs.Configs.{IsConfig}
+use Rattle.re_config.specs.Rows.{IsChoice, set_at, singles}
+use Rattle.re_table.proofs.Goodness.{has_config-Has}
+use Rattle.re_table.specs.Constraints.{Constraint, IsConstraint, has_config}
+use Rattle.re_table.specs.GoodRows.{IsAllowed, IsGood}
+use Rattle.re_problem.specs.NamedProblems.{OccursIn}
+use Rattle.re_problem.specs.Problems.{IsProblem, Problem}
+use Rattle.re_problem.specs.Steps.{SetEntry}
+use Rattle.re_entry_clauses.proofs.AllowedImages.{keeps_allowed_law}
+use Rattle.re_entry_clauses.specs.LabelsOver.{labels_over}
+use Rattle.re_entry_clauses.specs.RowEntries.{row_entries}
+use Rattle.re_entry_clauses.specs.StepClauses.{KeepsAllowed}
+use Rattle.re_clauses.specs.Clauses.{keep_allowed}
+use Rattle.re_given.proofs.GrownInputs.{both_occur}
+use Rattle.re_given.specs.Given.{ZeroGiven}
+use Rattle.re_given.specs.Inputs.{IsInput}
+use Rattle.re_bridge.proofs.Beginnings.{allowed-front, entries-parted}
+use Rattle.re_bridge.proofs.Meeting.{allowed-kept, kept-allowed}
+use Rattle.re_walks.proofs.WalkLemmas.{walk_law}
+use Rattle.re_walks.specs.Walking.{BeginningsPass, NonePasses, Tells, Walk, cut, found, nowhere}
+use Rattle.re_fit.proofs.Chosen.{passing_labels}
+use Rattle.re_fit.proofs.Images.{are_images-split, images-take, joined-length}
+use Rattle.re_fit.proofs.LastLabels.{by_last-counts, by_last-held}
+use Rattle.re_fit.specs.Fits.{are_images, fit_walk, is_image, is_in_order, joined, ordered, passes, places, sets_for}
+use Rattle.re_fit.specs.Laws.{FitWalkLaw, IsFitting, TellsGiven}
+
+-- the label of an entry is over the label that its set has
+over-held : (entries : List SetEntry) (x label : ℕ) → Contains entries (record { set = x ∷ []; label = label }) → IsIn label (labels_over entries x)
+over-held entries x label held =
+    let e : SetEntry = record { set = x ∷ []; label = label } in
+    ((support_law 0 _).1 label).1 (Contains-map (λ (f : SetEntry). f.label) _ e (Contains-filter (λ (f : SetEntry). has f.set x) entries e held (IsIn-has (x ∷ []) x (Contains-here x []))))
+
+-- ---- entries of configurations one behind the other
+entries-first : (config others labels : List ℕ) (e : SetEntry) → In e (row_entries (singles config) (take (length config) labels)) → In e (row_entries (singles (config ++ others)) labels)
+entries-first [] others labels e at = absurd at
+entries-first (x ∷ config) others [] e at = absurd at
+entries-first (x ∷ config) others (l ∷ labels) e (inl here) = inl here
+entries-first (x ∷ config) others (l ∷ labels) e (inr later) = inr (entries-first config others labels e later)
+
+no_entries : (config : List ℕ) (e : SetEntry) → In e (row_entries (singles config) []) → ⊥
+no_entries [] e at = at
+no_entries (x ∷ config) e at = at
+
+entries-behind : (config others labels : List ℕ) (e : SetEntry) → In e (row_entries (singles others) (drop (length config) labels)) → In e (row_entries (singles (config ++ others)) labels)
+entries-behind [] others labels e at = at
+entries-behind (x ∷ config) others [] e at = absurd (no_entries others e at)
+entries-behind (x ∷ config) others (l ∷ labels) e at = inr (entries-behind config others labels e at)
+
+-- labels are a choice of those over the labels of their entries
+choice-over : (entries : List SetEntry) (config labels : List ℕ) → length labels ≡ length config → ((e : SetEntry) → In e (row_entries (singles config) labels) → In e entries) → IsChoice labels (map (labels_over entries) config)
+choice-over entries [] [] count there = tt
+choice-over entries [] (l ∷ labels) count there = absurd (omega (arith, count))
+choice-over entries (x ∷ config) [] count there = absurd (omega (arith, count))
+choice-over entries (x ∷ config) (l ∷ labels) count there = (
+  over-held entries x l (In-Contains (record { set = x ∷ []; label = l }) entries (there (record { set = x ∷ []; label = l }) (inl refl))),
+  choice-over entries config labels (omega (arith, count)) (λ e at. there e (inr at)),
+)
+
+-- the labels over a label are some of the labels
+entry-low : (n : ℕ) (sets : List (List ℕ)) (labels : List ℕ) (e : SetEntry) → AllByRecursion (λ label. label < n) labels → In e (row_entries sets labels) → e.label < n
+entry-low n [] labels e low at = absurd at
+entry-low n (s ∷ sets) [] e low at = absurd at
+entry-low n (s ∷ sets) (l ∷ labels) e low (inl here) = subst (λ (f : SetEntry). f.label < n) (sym here) low.0
+entry-low n (s ∷ sets) (l ∷ labels) e low (inr later) = entry-low n sets labels e low.1 later
+
+over-low : (n : ℕ) (sets : List (List ℕ)) (labels : List ℕ) (x y : ℕ) → AllByRecursion (λ label. label < n) labels → IsIn y (labels_over (row_entries sets labels) x) → y < n
+over-low n sets labels x y low held =
+    let entries : List SetEntry = row_entries sets labels in
+    let (e, among, same) = Contains-map_cases (λ (f : SetEntry). f.label) _ y (((support_law 0 _).1 y).0 held) in
+    let (there, holds) = Contains-filter_cases (λ (f : SetEntry). has f.set x) entries e among in
+    subst (λ z. z < n) same (entry-low n sets labels e low (Contains-In e entries there))
+
+some_in : (set : List ℕ) (x : ℕ) → Contains set x → 0 < length set
+some_in [] x held = absurd (Contains-none x held)
+some_in (y ∷ set) x held = omega arith
+
+-- each set of which there is a choice has a label
+choice-filled : (sets : ℕ → List ℕ) (config labels : List ℕ) (x : ℕ) → IsChoice labels (map sets config) → Contains config x → 0 < length (sets x)
+choice-filled sets [] labels x chosen held = absurd (Contains-none x held)
+choice-filled sets (y ∷ config) [] x chosen held = absurd chosen
+choice-filled sets (y ∷ config) (l ∷ labels) x chosen held = go (Contains-cases x y config held) (λ later. choice-filled sets config labels x chosen.1 later)
+  where
+    go : (x ≡ y) ⊎ Contains config x → (Contains config x → 0 < length (sets x)) → 0 < length (sets x)
+    go (inl same) others = subst (λ z. 0 < length (sets z)) (sym same) (some_in (sets y) l chosen.0)
+    go (inr later) others = others later
+
+filled-each : (sets : ℕ → List ℕ) (config : List ℕ) → ((x : ℕ) → Contains config x → 0 < length (sets x)) → AllByRecursion (λ (s : List ℕ). 0 < length s) (map sets config)
+filled-each sets [] each = tt
+filled-each sets (x ∷ config) each = (each x (Contains-here x config), filled-each sets config (λ y (k, l, e). each y (suc k, omega arith, e)))
+
+module _ (problem input : Problem) (is : IsProblem problem) (is_input : IsInput problem input) where
+  abbrev d : ℕ
+  d = problem.active.degree
+
+  counts : AllByRecursion (λ (config : List ℕ). length config ≡ d) (ordered input)
+  counts = subst (λ m. AllByRecursion (λ (config : List ℕ). length config ≡ m) (ordered input)) is_input.active_degree (by_last-counts input.active input.labels is_input.is_problem.active)
+
+  places_are : length (places input) ≡ length (ordered input) * d
+  places_are = length-map (joined (ordered input)) (λ x. x ∷ []) ∙ joined-length d (ordered input) counts
+
+  -- the beginnings of what passes do
+  beginnings : BeginningsPass (passes problem input) problem.labels (length (places input))
+  beginnings labels assignment test k =
+      let front : List SetEntry = row_entries (places input) (take k labels) in
+      let more : List SetEntry = row_entries (drop k (places input)) (drop k labels) in
+      let both = and-true (are_images problem.active problem.labels (ordered input) labels) (keep_allowed input.passive problem.passive (row_entries (places input) labels)) test in
+      true-and (are_images problem.active problem.labels (ordered input) (take k labels)) (keep_allowed input.passive problem.passive front)
+      (images-take problem.active problem.labels (ordered input) labels (assignment.0 ∙ places_are) assignment.1 both.0 k)
+      (kept-allowed input.passive problem.passive front (allowed-front input.labels input.passive problem.passive front more is_input.is_problem.passive
+      (subst (λ (es : List SetEntry). KeepsAllowed es input.passive problem.passive) (entries-parted (places input) labels k) (allowed-kept input.passive problem.passive (row_entries (places input) labels) both.1))))
+
+  -- ---- labels that pass
+  module _ (labels : List ℕ) (count : length labels ≡ length (places input)) (test : passes problem input labels ≡ true) where
+    abbrev entries : List SetEntry
+    entries = row_entries (places input) labels
+
+    abbrev over : ℕ → List ℕ
+    over x = labels_over entries x
+
+    -- each configuration has an image
+    images : (configs : List (List ℕ)) (rest : List ℕ) → AllByRecursion (λ (config : List ℕ). length config ≡ d) configs → length rest ≡ length configs * d → are_images problem.active problem.labels configs rest ≡ true
+        → ((e : SetEntry) → In e (row_entries (singles (joined configs)) rest) → In e entries) → (config : List ℕ) → In config configs → IsAllowed problem.active (map over config)
+    images [] rest sizes size are there config at = absurd at
+    images (first ∷ configs) rest sizes size are there config at =
+        let long : d ≤ length rest = omega (arith, size) in
+        let both = and-true (is_image problem.active first (take d rest)) (are_images problem.active problem.labels configs (drop d rest)) (sym (are_images-split problem.active problem.labels first configs rest long) ∙ are) in
+        let image = and-true (is_in_order first (take d rest)) (has_config problem.active (take d rest)) both.0 in
+        go long image.1 at (λ later. images configs (drop d rest) sizes.1 (length-drop d rest ∙ (let z : length rest - d ≡ length configs * d = omega (arith, size) in z)) both.1
+        (λ e held. there e (entries-behind first (joined configs) rest e (subst (λ m. In e (row_entries (singles (joined configs)) (drop m rest))) (sym sizes.0) held))) config later)
+      where
+        go : d ≤ length rest → has_config problem.active (take d rest) ≡ true → In config (first ∷ configs) → (In config configs → IsAllowed problem.active (map over config)) → IsAllowed problem.active (map over config)
+        go long is_image (inl here) others =
+            let same : take d rest ≡ take (length first) rest = ap (λ m. take m rest) (sym sizes.0) in
+            let size_is : length (take d rest) ≡ length first = length-take d rest ∙ (let z : min d (length rest) ≡ length first = omega (arith, long, sizes.0) in z) in
+            subst (λ c. IsAllowed problem.active (map over c)) (sym here) (
+              take d rest,
+              choice-over entries first (take d rest) size_is (λ e held. there e (entries-first first (joined configs) rest e (subst (λ l. In e (row_entries (singles first) l)) same held))),
+              has_config-Has problem.active (take d rest) is_image,
+            )
+        go long is_image (inr later) others = others later
+
+    allowed : (config : List ℕ) → Contains input.active.configs config → IsAllowed problem.active (map over config)
+    allowed config held =
+        images (ordered input) labels counts (count ∙ places_are) (and-true (are_images problem.active problem.labels (ordered input) labels) (keep_allowed input.passive problem.passive entries) test).0
+        (λ e at. at) config (Contains-In config (ordered input) (by_last-held input.active input.labels config is_input.is_problem.active held))
+
+    filled : (x : ℕ) → OccursIn input.passive x → 0 < length (over x)
+    filled x occurs =
+        let (config, held, at) = (both_occur problem input is_input x).1 occurs in
+        let (image, chosen, has) = allowed config held in
+        choice-filled over config image x chosen at
+
+    good : (config : List ℕ) → Contains input.passive.configs config → IsGood problem.passive (map over config)
+    good config held =
+        let fits : IsConfig input.passive.degree input.labels config = AllByRecursion-contains (IsConfig input.passive.degree input.labels) input.passive.configs config is_input.is_problem.passive.configs held in
+        record {
+          count = length-map config over ∙ fits.count ∙ is_input.passive_degree;
+          filled = filled-each over config (λ x at. filled x (config, held, at));
+          choice = λ ys chosen. (keeps_allowed_law input.labels input.passive problem.passive entries is_input.is_problem.passive).0
+              (allowed-kept input.passive problem.passive entries (and-true (are_images problem.active problem.labels (ordered input) labels) (keep_allowed input.passive problem.passive entries) test).1) config ys held chosen;
+        }
+
+    -- as a list of sets
+    listed : (constraint : Constraint) → IsConstraint input.labels constraint → (config : List ℕ) → Contains constraint.configs config → map (set_at (sets_for input labels)) config ≡ map over config
+    listed constraint is_constraint config held = map-alike (set_at (sets_for input labels)) over config (λ z at.
+        let below : z < input.labels = AllByRecursion-contains (λ x. x < input.labels) config z (AllByRecursion-contains (IsConfig constraint.degree input.labels) constraint.configs config is_constraint.configs held).below at in
+        get_or-map over (count_from 0 input.labels) z 0 [] (omega (arith, below, length-count_from 0 input.labels)) ∙ ap over (let e : get_or (count_from 0 input.labels) z 0 ≡ 0 + z = get_or-count_from 0 input.labels z 0 below in omega (arith, e)))
+
+    sets-fit : AllByRecursion (λ label. label < problem.labels) labels → IsFitting problem input (sets_for input labels)
+    sets-fit low = record {
+      count = length-map' over (count_from 0 input.labels) ∙ length-count_from 0 input.labels;
+      below = AllByRecursion-from_contains (AllByRecursion (λ label. label < problem.labels)) (sets_for input labels) (λ set held.
+          let (x, at, same) = Contains-map_cases over (count_from 0 input.labels) set held in
+          subst (AllByRecursion (λ label. label < problem.labels)) same (AllByRecursion-from_contains (λ label. label < problem.labels) (over x) (λ y in_set. over-low problem.labels (places input) labels x y low in_set)));
+      upper = record {
+        active_degree = is_input.passive_degree;
+        passive_degree = is_input.active_degree;
+        good = λ config held. subst (IsGood problem.passive) (sym (listed input.passive is_input.is_problem.passive config held)) (good config held);
+        choice = λ config held. subst (IsAllowed problem.active) (sym (listed input.active is_input.is_problem.active config held)) (allowed config held);
+      };
+    }
+
+  none-zero : NonePasses (passes problem input) problem.labels (length (places input)) → ZeroGiven problem input → ⊥
+  none-zero none (sets, upper) =
+      let (labels, assignment, test) = passing_labels problem input is is_input sets upper in
+      true≢false (sym test ∙ none labels assignment)
+
+  told : (w : Walk) → Tells (passes problem input) problem.labels (length (places input)) w → TellsGiven problem input w
+  told (found labels) first = sets-fit labels first.assignment.0 first.meets first.assignment.1
+  told nowhere none = none-zero none
+  told cut h = tt
+
+pub fit_walk_law : FitWalkLaw
+fit_walk_law problem input tries is is_input =
+    told problem input is is_input (fit_walk problem input tries) (walk_law (passes problem input) problem.labels (length (places input)) tries (beginnings problem input is is_input))

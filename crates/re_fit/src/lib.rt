@@ -1,0 +1,19 @@
+//! Sets of labels for the labels of an input problem: whether a problem is solvable without communication where a solution of the input
+//! problem is given.
+#![tactic(auto)]
+
+mod finding;
+mod inputs;
+mod ordering;
+mod passing;
+
+ghost use Rattle.re_fit.specs.Laws.{FitWalkLaw};
+
+pub use finding::{FitFault, find_fit, find_fit_after};
+pub use inputs::{InputFault, input_fault};
+
+/// The sets of the first labels that pass are such that an upper step leads to the exchanged input problem by them; where none pass, the
+/// problem isn't zero given the input problem.
+pub fn fit_walk_law()
+    ensures { FitWalkLaw }
+{}

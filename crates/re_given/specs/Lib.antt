@@ -1,0 +1,11 @@
+pub mod Examples
+pub mod Given
+pub mod Identifiers
+pub mod InputExamples
+pub mod InputViews
+pub mod Inputs
+pub mod Laws
+pub mod Unavoidable
+pub mod UpSets
+pub mod ProductLaws
+pub mod Products

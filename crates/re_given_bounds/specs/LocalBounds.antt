@@ -1,0 +1,42 @@
+-- What certificates of bounds say of local algorithms, whose nodes have unique identifiers.
+use Rattle.std.specs.Prelude.{◌≡◌, ℕ, ◌<◌, true}
+use Rattle.std.specs.List.{AllByRecursion}
+use Rattle.re_cert.specs.Bounds.{Bound, is_bound, next_problems}
+use Rattle.re_cert.specs.declared.certificate.Kind.TheVariants.{Fixed, Lower, Upper}
+use Rattle.re_check.specs.Verdicts.{verdict_of}
+use Rattle.re_check.specs.declared.verdict.Verdict.{Verdict}
+use Rattle.re_check.specs.declared.verdict.Verdict.TheVariants.{Accepted, Refused}
+use Rattle.re_given.specs.Identifiers.{IdGraph}
+use Rattle.re_given_bounds.specs.GivenBounds.{HasFewLabels}
+use Rattle.re_local.specs.LocalAlgorithms.{SolvableLabelled}
+use Rattle.re_local.specs.Separating.{Separates}
+use Rattle.re_problem.specs.NamedProblems.{IsNamedProblem, unnamed}
+use Rattle.re_problem.specs.Problems.{Problem}
+use Rattle.re_separating.specs.Laws.{IsBeyondLocal}
+
+-- what a verdict says of local algorithms of T rounds with N identifiers: after a lower bound of more than T steps none solves the first
+-- problem, nor after a fixed point
+abbrev pub MeansLocal : Verdict → Problem → ℕ → ℕ → Type 0
+MeansLocal (Accepted Lower steps) problem N T = T < steps → SolvableLabelled problem N T → ⊥
+MeansLocal (Accepted Upper steps) problem N T = Unit {0}
+MeansLocal (Accepted Fixed steps) problem N T = SolvableLabelled problem N T → ⊥
+MeansLocal (Refused step clause) problem N T = Unit {0}
+
+-- so it is where passive nodes are edges, no problem of the bound has more than n labels, and there is a graph of identifiers for T rounds and
+-- lists below n
+abbrev pub LocalBoundLaw : Type 0
+LocalBoundLaw = (bound : Bound) (n N T : ℕ) (graph : IdGraph) → is_bound bound ≡ true → IsNamedProblem bound.first → AllByRecursion IsNamedProblem (next_problems bound.steps) →
+    bound.first.passive.degree ≡ 2 → HasFewLabels n bound → Separates bound.first.active.degree N n T graph → MeansLocal (verdict_of bound) (unnamed bound.first) N T
+
+-- what a verdict says of algorithms with unique identifiers: after a fixed point, for each number T of rounds there is a number of identifiers
+-- from which on no local algorithm of T rounds solves the first problem; after a lower bound, for each T below its number of steps
+abbrev pub MeansUnique : Verdict → Problem → Type 0
+MeansUnique (Accepted Lower steps) problem = (T : ℕ) → T < steps → IsBeyondLocal problem T
+MeansUnique (Accepted Upper steps) problem = Unit {0}
+MeansUnique (Accepted Fixed steps) problem = (T : ℕ) → IsBeyondLocal problem T
+MeansUnique (Refused step clause) problem = Unit {0}
+
+-- so it is where passive nodes are edges
+abbrev pub UniqueIdentifiersLaw : Type 0
+UniqueIdentifiersLaw = (bound : Bound) → is_bound bound ≡ true → IsNamedProblem bound.first → AllByRecursion IsNamedProblem (next_problems bound.steps) →
+    bound.first.passive.degree ≡ 2 → MeansUnique (verdict_of bound) (unnamed bound.first)

@@ -1,0 +1,6 @@
+pub mod Answering
+mod Building
+mod EndSearch
+mod Fronts
+mod Meaning
+mod Worked

@@ -1,0 +1,4 @@
+pub mod Building
+pub mod Examples
+pub mod Solving
+pub mod GraphTexts

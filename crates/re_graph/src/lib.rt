@@ -1,0 +1,29 @@
+//! Finite graphs as data, the search for a solution on one, and their texts.
+#![tactic(auto)]
+
+mod finding;
+mod graph;
+mod passing;
+mod printing;
+mod solving;
+mod standing;
+
+ghost use Rattle.re_graph.specs.Examples.{IndependentSetLaw};
+ghost use Rattle.re_graph.specs.Solving.{SolutionWalkLaw};
+
+pub use finding::{Found, find_cover};
+pub use graph::{Graph, MAX_NODES, MAX_PASSIVE, PassiveEnds};
+pub use printing::push_graph;
+pub use re_cover::GraphEnd;
+pub use solving::{SolveFault, solve};
+pub use standing::{has_end, stands};
+
+/// The labels that a walk goes over pass where all of them are there exactly where they are a solution, and then those in front do, too.
+pub fn solution_walk_law()
+    ensures { SolutionWalkLaw }
+{}
+
+/// No number of rounds finds a maximal independent set in degree 3: there is none on two nodes with an edge between them and a loop at each.
+pub fn independent_set_law()
+    ensures { IndependentSetLaw }
+{}

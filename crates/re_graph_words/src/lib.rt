@@ -1,0 +1,16 @@
+//! The words `solve` and `cover`: solutions on finite graphs, and graphs without one.
+#![tactic(auto)]
+
+mod answering;
+mod covering;
+mod ends;
+mod faults;
+mod lines;
+mod solving;
+mod texts;
+mod words;
+
+pub use faults::{GraphFault, ReadFault};
+pub use solving::MAX_TRIES;
+pub use texts::{GraphText, read_graph_text};
+pub use words::{GraphWord, graph_help, graph_word};

@@ -1,0 +1,163 @@
+//! The input problems.
+ghost use Rattle.re_config.specs.Configs.{sorted};
+ghost use Rattle.re_config.specs.Orders.{multisets};
+ghost use Rattle.re_families.specs.Families.{family_of, out_of_range};
+ghost use Rattle.re_inputs.specs.NamedInputs.{fits, input_of, may_stand, named, oriented, oriented_constraint, turned};
+ghost use Rattle.re_labels.specs.ListSets.{with_list};
+ghost use Rattle.re_problem.specs.NamedProblems.{IsNamedProblem};
+ghost use Rattle.std.specs.List.{AllByRecursion};
+ghost use Rattle.std.specs.Prelude.{◌≡◌, ◌≤◌, ◌<◌, IfOk, None, OnOk, length, true};
+
+use crate::kinds::InputKind;
+use arrayvec::ArrayVec;
+use re_config::{Config, Multisets};
+use re_families::{Family, FamilyFault, family};
+use re_labels::{MAX_LABELS, Names, NoMemory};
+use re_problem::Problem;
+use re_table::{Constraint, InsertFault, MAX_CONFIGURATIONS};
+use std::alloc::Global;
+
+// The problem of a family with these degrees and this number.
+fn family_problem(
+    alloc: Global,
+    kind: Family,
+    active: u8,
+    passive: u8,
+    number: u8,
+) -> Result<Problem, NoMemory>
+    requires { out_of_range kind active passive number ≡ None }
+    ensures { IfOk result (λ problem. problem ≡ family_of kind active passive number) }
+{
+    match family(alloc, kind, active, passive, number) {
+        Ok(problem) => Ok(problem),
+        Err(FamilyFault::OutOfRange(_)) => unreachable!(),
+        Err(FamilyFault::NoMemory) => Err(NoMemory),
+    }
+}
+
+// Whether the edges of an active node may be directed so: in any way, or edges lead into it and out of it.
+fn may_stand(mixed: bool, config: &Config) -> bool
+    ensures { result ≡ may_stand mixed config.now }
+{
+    !mixed || config.support().count() == 2
+}
+
+// The configuration of these labels.
+fn config_of(labels: &[u16]) -> Config
+    requires two { 2 ≤ length labels.now }
+    requires six { length labels.now ≤ 6 }
+    requires below { AllByRecursion (λ label. label < MAX_LABELS) labels.now }
+    ensures { result ≡ sorted labels.now }
+{
+    let mut held: ArrayVec<u8, 6> = ArrayVec::new();
+    for label in labels {
+        held.push(*label as u8);
+    }
+    Config::from_labels(held.as_slice())
+}
+
+// One configuration more, where there is room.
+fn put(constraint: &mut Constraint, config: Config) -> Result<(), NoMemory>
+    requires degree { length config ≡ constraint.old.degree }
+    requires room { length constraint.old.configs < MAX_CONFIGURATIONS }
+    ensures degree { constraint.new.degree ≡ constraint.old.degree }
+    ensures configs { OnOk result (constraint.new.configs ≡ with_list constraint.old.configs config) }
+{
+    match constraint.insert(config) {
+        Ok(_) => Ok(()),
+        Err(InsertFault::NoMemory) => Err(NoMemory),
+        Err(InsertFault::TooManyConfigurations) => unreachable!(),
+    }
+}
+
+// How the edges of an active node may be directed.
+fn oriented_constraint(alloc: Global, mixed: bool, degree: u8) -> Result<Constraint, NoMemory>
+    requires least { 2 ≤ degree }
+    requires most { degree ≤ 6 }
+    ensures { IfOk result (λ constraint. constraint ≡ oriented_constraint mixed degree) }
+{
+    let mut constraint = Constraint::new(alloc, degree);
+    for picks in Multisets::new(degree as usize, 2) {
+        let config = config_of(picks.numbers());
+        if !may_stand(mixed, &config) {
+            continue;
+        }
+        put(&mut constraint, config)?;
+    }
+    Ok(constraint)
+}
+
+// The problem of these parts.
+fn problem_of(active: Constraint, passive: Constraint, names: Names) -> Problem
+    requires { IsNamedProblem (named names active passive) }
+    ensures { result ≡ named names active passive }
+{
+    match Problem::build(active, passive, names) {
+        Some(problem) => problem,
+        None => unreachable!(),
+    }
+}
+
+/// The problem with its two sides exchanged.
+pub fn turned(alloc: Global, problem: &Problem) -> Result<Problem, NoMemory>
+    ensures { IfOk result (λ next. next ≡ turned problem.now) }
+{
+    let active = problem.passive().copy()?;
+    let passive = problem.active().copy()?;
+    let names = problem.names().copy()?;
+    Ok(problem_of(active, passive, names))
+}
+
+fn edges(alloc: Global, active: u8, passive: u8) -> Result<Problem, NoMemory>
+    requires { fits InputKind.Edges active passive 0 ≡ true }
+    ensures { IfOk result (λ problem. problem ≡ input_of InputKind.Edges active passive 0) }
+{
+    let nodes = family_problem(alloc, Family::Colouring, passive, active, active)?;
+    turned(alloc, &nodes)
+}
+
+fn oriented(alloc: Global, mixed: bool, active: u8, passive: u8) -> Result<Problem, NoMemory>
+    requires { fits InputKind.Orientation active passive 0 ≡ true }
+    ensures { IfOk result (λ problem. problem ≡ oriented mixed active passive) }
+{
+    let sinkless = family_problem(alloc, Family::Orientation, active, passive, 0)?;
+    let active = oriented_constraint(alloc, mixed, active)?;
+    let passive = sinkless.passive().copy()?;
+    let names = sinkless.names().copy()?;
+    Ok(problem_of(active, passive, names))
+}
+
+fn nothing(alloc: Global, active: u8, passive: u8) -> Result<Problem, NoMemory>
+    requires { fits InputKind.Nothing active passive 0 ≡ true }
+    ensures { IfOk result (λ problem. problem ≡ input_of InputKind.Nothing active passive 0) }
+{
+    let one = family_problem(alloc, Family::Colouring, active, passive, 1)?;
+    let other = family_problem(alloc, Family::Colouring, passive, active, 1)?;
+    let first = one.active().copy()?;
+    let second = other.active().copy()?;
+    let names = one.names().copy()?;
+    Ok(problem_of(first, second, names))
+}
+
+/// The input problem of a kind with these degrees and this number, as `fits` says. Its labels have the names `1` to `9`, or `01` to `16`
+/// where there are more than 9 colours; `I` for an edge that leads into its active node and `O` for one that leads out of it; or `1` where
+/// there is one label.
+pub fn input(
+    alloc: Global,
+    kind: InputKind,
+    active: u8,
+    passive: u8,
+    number: u8,
+) -> Result<Problem, NoMemory>
+    requires { fits kind active passive number ≡ true }
+    ensures { IfOk result (λ problem. problem ≡ input_of kind active passive number) }
+{
+    match kind {
+        InputKind::Colouring => family_problem(alloc, Family::Colouring, active, passive, number),
+        InputKind::Edges => edges(alloc, active, passive),
+        InputKind::Sides => family_problem(alloc, Family::Colouring, active, 2, 2),
+        InputKind::Orientation => oriented(alloc, false, active, passive),
+        InputKind::Both => oriented(alloc, true, active, passive),
+        InputKind::Nothing => nothing(alloc, active, passive),
+    }
+}

@@ -1,5 +1,0 @@
-use Rattle.re_lines.proofs.Unique.{closure_unique_law as law}
-use Rattle.re_lines.proofs.closure_unique_law.Goals as goal
-
-pub returns : goal.returns
-returns c = law

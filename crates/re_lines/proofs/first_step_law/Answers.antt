@@ -1,5 +1,0 @@
-use Rattle.re_lines.proofs.FirstSteps.{first_step_law as law}
-use Rattle.re_lines.proofs.first_step_law.Goals as goal
-
-pub returns : goal.returns
-returns c = law

@@ -1,5 +1,0 @@
-use Rattle.re_lines.proofs.MaximalLines.{maximal_lines_law as law}
-use Rattle.re_lines.proofs.maximal_lines_law.Goals as goal
-
-pub returns : goal.returns
-returns c = law

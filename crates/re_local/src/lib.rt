@@ -1,0 +1,61 @@
+//! What lower bounds say of local algorithms, whose nodes have unique identifiers: laws alone, no code.
+#![tactic(auto)]
+
+ghost use Rattle.re_local.specs.Examples.{SinklessLocalLaw};
+ghost use Rattle.re_local.specs.Laws.{ColouredLocalLaw, CompleteLaw, CompleteLimitLaw, FewerIdentifiersLaw, FewerRoundsLaw, FixedPointLocalLaw, IdentifiersInputLaw, LabelledLaw, LocalGivenLaw, ShorterBoundLocalLaw};
+
+/// What a local algorithm solves is solved where the labels of identifiers are known too.
+pub fn labelled_law()
+    ensures { LabelledLaw }
+{}
+
+/// Identifiers are a proper colouring, so what is solvable given one has a local algorithm.
+pub fn coloured_local_law()
+    ensures { ColouredLocalLaw }
+{}
+
+/// More identifiers make it no easier.
+pub fn fewer_identifiers_law()
+    ensures { FewerIdentifiersLaw }
+{}
+
+/// Where the trees of a graph of identifiers show different ones, a local algorithm solves a problem given the identifiers.
+pub fn local_given_law()
+    ensures { LocalGivenLaw }
+{}
+
+/// Identifiers, of which there is one, are an input problem where passive nodes are edges, and each identifier has an edge at each port.
+pub fn identifiers_input_law()
+    ensures { IdentifiersInputLaw }
+{}
+
+/// Lower steps that come back exclude a local algorithm of as many rounds as there is a graph of identifiers for.
+pub fn fixed_point_local_law()
+    ensures { FixedPointLocalLaw }
+{}
+
+/// With one round less, lower steps exclude a local algorithm of as many rounds as there is a graph of identifiers for.
+pub fn shorter_bound_local_law()
+    ensures { ShorterBoundLocalLaw }
+{}
+
+/// A graph of identifiers for some rounds is one for fewer.
+pub fn fewer_rounds_law()
+    ensures { FewerRoundsLaw }
+{}
+
+/// For 0 rounds the graph that joins all different identifiers will do, where there are more of them than lists.
+pub fn complete_law()
+    ensures { CompleteLaw }
+{}
+
+/// From one round on it won't: two neighbours of a node may be one identifier.
+pub fn complete_limit_law()
+    ensures { CompleteLimitLaw }
+{}
+
+/// No local algorithm of as many rounds as there is a graph of identifiers for solves the relaxation of sinkless orientation (`I I O` / `I I`,
+/// `I O`); none of 0 rounds does with more than 8 identifiers.
+pub fn sinkless_local_law()
+    ensures { SinklessLocalLaw }
+{}

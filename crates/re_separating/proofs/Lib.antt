@@ -1,0 +1,4 @@
+mod Apart
+mod Matched
+mod Pruned
+pub mod Separated

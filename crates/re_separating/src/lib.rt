@@ -1,0 +1,16 @@
+//! Graphs of identifiers on whose trees all identifiers that a node of so many rounds sees are different: laws alone, no code.
+#![tactic(auto)]
+
+ghost use Rattle.re_separating.specs.Laws.{SeparatingLaw, SinklessUniqueLaw};
+
+/// For each number of ports from 1 on, of labels and of rounds there is a graph of identifiers that separates: the edges of a hypergraph without
+/// short closed walks, each with a pair of its points for each two ports, and without the identifiers that lack an edge at a port.
+pub fn separating_law()
+    ensures { SeparatingLaw }
+{}
+
+/// For each number of rounds there is a number of identifiers from which on no local algorithm of so many rounds solves the relaxation of
+/// sinkless orientation (`I I O` / `I I`, `I O`).
+pub fn sinkless_unique_law()
+    ensures { SinklessUniqueLaw }
+{}

@@ -1,0 +1,5 @@
+mod Amalgam
+mod Ascending
+pub mod Sparse
+mod Stages
+pub mod Walks

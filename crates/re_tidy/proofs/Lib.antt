@@ -1,2 +1,0 @@
-pub mod StableSorts
-pub mod TidiedBounds

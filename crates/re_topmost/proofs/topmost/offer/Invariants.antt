@@ -1,6 +1,0 @@
-use Rattle.std.proofs.Common.{take}
-use Rattle.re_topmost.specs.Kept.{AreOffered}
-use Rattle.re_topmost.proofs.topmost.offer.Given as goal
-
-abbrev pub invariant-loop-line : goal.invariant-loop-line
-invariant-loop-line l = AreOffered l.kept (take l.line-index l.found) l.initial.waiting.items l.waiting.items

@@ -1,0 +1,4 @@
+mod CutLines
+mod ProblemLines
+mod Splits
+mod Wholes

@@ -1,0 +1,124 @@
+//! The reading of a bound and a problem.
+ghost use Rattle.re_io.specs.declared.read.TheConstants.{MAX_BYTES};
+ghost use Rattle.re_problem.specs.ProblemTexts.{lines_of};
+ghost use Rattle.re_problem.specs.TextReading.{IsFed};
+ghost use Rattle.re_two_texts.specs.TwoTexts.{BoundGives, ProblemGives, ReadGives, ReadRefuses, SectionRefuses, at_line, has_line};
+ghost use Rattle.std.specs.Prelude.{◌≡◌, ◌<◌, ◌≤◌, ◌+◌, false, length};
+
+use crate::cutting::cut_at;
+use re_cert::{Certificate, read_certificate};
+use re_chain_texts::{is_certificate_text, problem_chain};
+use re_problem::{InputFault, Problem, TextFault, TextReader, cut_line, read_problem};
+use re_sections::begins_section;
+use std::alloc::Global;
+
+/// A bound, and the problem behind it.
+#[derive(Drop)]
+pub struct TwoTexts {
+    pub bound: Certificate,
+    pub problem: Problem,
+}
+
+/// The bound that a text writes: that of its certificate, or the lower bound without steps of its problem. `Bad` comes exactly where the
+/// text has a fault, with its first one.
+pub fn read_bound(alloc: Global, text: &[u8]) -> Result<Certificate, TextFault>
+    requires { length text.now ≤ MAX_BYTES }
+    ensures { BoundGives text.now result }
+{
+    if is_certificate_text(text) {
+        return read_certificate(alloc, text);
+    }
+    match read_problem(alloc, text) {
+        Ok(problem) => Ok(problem_chain(alloc, problem)),
+        Err(fault) => Err(fault),
+    }
+}
+
+// The fault of the bound's text, where the line behind it has this number.
+fn at_line(number: u32, fault: InputFault) -> InputFault
+    ensures { result ≡ at_line number fault }
+{
+    match fault {
+        InputFault::EarlyEnd => InputFault::BadSection(number),
+        _ => fault,
+    }
+}
+
+// The fault where a section line of this number stands behind the lines that were read.
+fn section_fault(reader: TextReader, number: u32) -> TextFault
+    requires { IsFed reader }
+    ensures { SectionRefuses reader number result }
+{
+    match reader.finish() {
+        Ok(_) => {}
+        Err(fault) => return fault,
+    }
+    TextFault::Bad(InputFault::BadSection(number))
+}
+
+/// The problem of the lines up to the end of the text, of which the first stands at this byte and has this number. `Bad` comes exactly where they
+/// have a fault, with the first one; a section line among them is one.
+pub fn read_problem_at(
+    alloc: Global,
+    byte: usize,
+    number: u32,
+    text: &[u8],
+) -> Result<Problem, TextFault>
+    requires counted { number ≤ byte + 1 }
+    requires first { 1 ≤ number }
+    requires within { 0 < length text.now → byte + length text.now ≤ MAX_BYTES }
+    ensures { ProblemGives byte number (lines_of text.now) result }
+{
+    if text.is_empty() {
+        return Err(TextFault::Bad(InputFault::MissingBlock(number)));
+    }
+    let mut reader = TextReader::new(alloc, byte as u32, number);
+    let mut current = number;
+    let mut rest = text;
+    'lines: while !rest.is_empty() {
+        let (line, behind) = cut_line(rest);
+        if begins_section(line) {
+            return Err(section_fault(reader, current));
+        }
+        match reader.feed(line) {
+            Ok(()) => {}
+            Err(fault) => return Err(fault),
+        }
+        current += 1;
+        rest = behind;
+    }
+    reader.finish()
+}
+
+// The fault of a text without the line.
+#[tactic(auto, unfolding(crate::specs::TwoTexts::two_fault))]
+fn end_fault(alloc: Global, name: &[u8], text: &[u8]) -> TextFault
+    requires few { length text.now ≤ MAX_BYTES }
+    requires none { has_line name.now text.now ≡ false }
+    ensures { ReadRefuses name.now text.now result }
+{
+    match read_bound(alloc, text) {
+        Ok(_) => TextFault::Bad(InputFault::EarlyEnd),
+        Err(fault) => fault,
+    }
+}
+
+/// The bound and the problem that a text writes, with a line `==` and the name between them. `Bad` comes exactly where the text has a
+/// fault, with its first one.
+pub fn read_two(alloc: Global, name: &[u8], text: &[u8]) -> Result<TwoTexts, TextFault>
+    requires { length text.now ≤ MAX_BYTES }
+    ensures { ReadGives name.now text.now result }
+{
+    let Some(cut) = cut_at(name, text) else {
+        return Err(end_fault(alloc, name, text));
+    };
+    let bound = match read_bound(alloc, cut.front) {
+        Ok(bound) => bound,
+        Err(TextFault::Bad(fault)) => return Err(TextFault::Bad(at_line(cut.number - 1, fault))),
+        Err(TextFault::NoMemory) => return Err(TextFault::NoMemory),
+    };
+    match read_problem_at(alloc, cut.byte, cut.number, cut.behind) {
+        Ok(problem) => Ok(TwoTexts { bound, problem }),
+        Err(fault) => Err(fault),
+    }
+}

@@ -1,0 +1,4 @@
+pub mod ConfigBeginnings
+pub mod LabelsBelow
+pub mod Raising
+pub mod WalkLemmas

@@ -1,0 +1,10 @@
+use Rattle.std.proofs.Common.{◌≡◌, ◌++◌, ◌∙◌, ap}
+use Rattle.re_printing.proofs.Appending.{first2, then, then2_ok}
+use Rattle.re_why.proofs.lines.push_extends.Goals as goal
+
+pub returns : goal.returns
+returns c =
+    let e0 = first2 c.args.text.now.items c.push_place.new.text.items _ _ c.in_ok-push_place.ensures in
+    let e1 = then c.args.text.now.items c.push_place.new.text.items c.push_words.new.text.items _ _ e0 (c.in_ok-push_words.ensures) in
+    let e2 = then c.args.text.now.items c.push_words.new.text.items c.push_label_of.new.text.items _ _ e1 (c.in_ok-push_label_of.ensures) in
+    then2_ok c.push_place-2.result c.args.text.now.items c.push_label_of.new.text.items c.push_place-2.new.text.items _ _ _ e2 c.push_place-2.ensures

@@ -1,9 +1,0 @@
-use Rattle.std.proofs.Common.{◌≡◌, ◌++◌, ◌∙◌, ap}
-use Rattle.re_printing.proofs.Appending.{then_ok}
-use Rattle.std.specs.Prelude.{codes}
-use Rattle.re_witness_text.proofs.lines.push_missing_row.Goals as goal
-
-pub returns : goal.returns
-returns c =
-    let e0 : c.push_words.new.text.items ≡ c.args.text.now.items ++ codes "maximal row that is missing: " = c.in_ok-push_words.ensures in
-    then_ok c.push_row_of.result c.args.text.now.items c.push_words.new.text.items c.push_row_of.new.text.items _ _ e0 c.push_row_of.ensures

@@ -1,0 +1,11 @@
+//! Worked rows of the tool: what it answers to words and bytes. The arguments name the files that have the rows, one after another; standard
+//! output gets a line for each row that isn't as it should be, and how many are.
+#![tactic(auto)]
+
+use row_script::report_files;
+use std::{env, io};
+
+fn main(rt: HostRuntime) -> io::Result<()> {
+    let arguments: Vec<String> = env::args(&rt)?.collect(rt.alloc())?;
+    report_files(&rt, rt.alloc(), arguments.get(1..).unwrap_or(&[]))
+}

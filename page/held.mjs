@@ -1,0 +1,13 @@
+// What workbench.html holds: its programs as WebAssembly modules.
+import {readFileSync} from 'fs';
+import {dirname, join} from 'path';
+import {fileURLToPath} from 'url';
+import {inflateRawSync} from 'zlib';
+
+export const pageFolder = dirname(fileURLToPath(import.meta.url));
+export const pageFile = join(pageFolder, 'workbench.html');
+export const html = () => readFileSync(pageFile, 'utf8');
+
+// The programs as they stand in the page: {name: packed}.
+export const programsIn = page => JSON.parse(/<script [^>]*id="programs">([^]*?)<\/script>/.exec(page)[1]);
+export const unpacked = packed => inflateRawSync(Buffer.from(packed, 'base64'));

@@ -1,0 +1,87 @@
+// A finite graph as a picture: squares are active nodes, circles passive ones, small numbers are ports. And its window.
+import {button, copy, download, element, hint, replace} from './dom.js';
+import {openWideDialog} from './dialogs.js';
+import {graphInput, graphPlaces, readGraph, readSolution} from './graphs.js';
+import {pictureFile, svg} from './pictures.js';
+
+const MARGIN = 30;
+
+// `text` is what `solve` reads; `ask(text)` answers what it prints.
+export function openGraphDialog(text, ask) {
+    const {problem, lines} = readGraph(text),
+                    input = () => graphInput(problem, area.value.split('\n').map(row => row.trim()).filter(Boolean));
+    const line = element('p', {role: 'status'}), box = element('div.picture', {});
+    const area = element(
+        'textarea', {rows: Math.min(10, lines.length + 1), spellcheck: false, 'aria-label': 'graph: one line for each passive node'});
+    area.value = lines.join('\n');
+    const draw = async () => {
+        const now = input(), graph = readGraph(now);
+        replace(line, hint('asking…'));
+        const {line: said, labels} = readSolution((await ask(now).catch(error => ({text: error.message}))).text);
+        if (now !== input()) return;
+        replace(line, element('span.line', {}, said), hint(' explore solve'));
+        replace(box, graph ? graphPicture(graph, labels) : null);
+    };
+    const save = () => {
+        const drawn = box.querySelector('svg');
+        if (drawn) download('graph.svg', pictureFile(drawn), 'image/svg+xml');
+    };
+    openWideDialog('A finite graph', line, box,
+        hint(
+            'Squares are active nodes, circles passive ones; small numbers are ports. Nodes with equal views output the same, so an algorithm for the tree gives a solution here.'),
+        element('label.below', {}, hint('One line for each passive node: its ends, port q of active node u as u.q'), area),
+        element('footer', {}, button('Solve', draw, {class: 'primary'}),
+            button('Copy problem and graph', event => copy(input(), event.currentTarget)),
+            button('SVG', save, {'aria-label': 'download the graph as SVG'})));
+    draw();
+}
+
+// `labels` are those of a solution, for each active node in the order of its ports, or null.
+export function graphPicture(graph, labels = null) {
+    const {active, passive} = graphPlaces(graph), all = [...active, ...passive], xs = all.map(({x}) => x), ys = all.map(({y}) => y);
+    const [left, top] = [Math.min(...xs) - MARGIN, Math.min(...ys) - MARGIN],
+                 size = [Math.max(...xs) + MARGIN - left, Math.max(...ys) + MARGIN - top].map(n => n.toFixed(0));
+    const title = `${active.length} active nodes; passive nodes: ${graph.lines.join('; ')}`;
+    const picture = svg('svg', {
+        class: 'run graph',
+        viewBox: `${left.toFixed(0)} ${top.toFixed(0)} ${size.join(' ')}`,
+        width: size[0],
+        height: size[1],
+        role: 'img'
+    },
+        svg('title', {}, title));
+    graph.passive.forEach((ends, s) => ends.forEach((end, i) => picture.append(...endNodes(active[end.node - 1], passive[s],
+                                                        bendOf(ends, i), end.port, i + 1, labels?.[end.node - 1]?.[end.port - 1]))));
+    active.forEach(({x, y}, u) => picture.append(svg('rect', {class: 'active', x: x - 11, y: y - 11, width: 22, height: 22, rx: 3}),
+                       svg('text', {x, y: y + 5, 'text-anchor': 'middle'}, String(u + 1))));
+    passive.forEach(({x, y}, s) => picture.append(svg(
+                        'circle', {class: 'passive', cx: x, cy: y, r: 8}, svg('title', {}, `passive node ${s + 1}: ${graph.lines[s]}`))));
+    return picture;
+}
+
+// How far an end bends aside: several ends of one passive node at the same active node part.
+function bendOf(ends, i) {
+    const same = ends.map((end, k) => ({node: end.node, k})).filter(({node}) => node === ends[i].node),
+          at = same.findIndex(({k}) => k === i);
+    return (at - (same.length - 1) / 2) * 44;
+}
+
+function endNodes(from, to, bend, port, passivePort, label) {
+    const dx = to.x - from.x, dy = to.y - from.y, d = Math.hypot(dx, dy) || 1,
+          middle = {x: (from.x + to.x) / 2 - dy / d * bend, y: (from.y + to.y) / 2 + dx / d * bend};
+    const at = (t, aside) => ({
+        x: (1 - t) ** 2 * from.x + 2 * t * (1 - t) * middle.x + t ** 2 * to.x - dy / d * aside,
+        y: (1 - t) ** 2 * from.y + 2 * t * (1 - t) * middle.y + t ** 2 * to.y + dx / d * aside + 4
+    });
+    const aside = bend < 0 ? -8 : 8, small = (place, text) => svg('text', {class: 'small', ...place, 'text-anchor': 'middle'}, text);
+    const parts = [
+        svg('path', {
+            class: 'line',
+            d: `M ${from.x.toFixed(1)} ${from.y.toFixed(1)} Q ${middle.x.toFixed(1)} ${middle.y.toFixed(1)} ${to.x.toFixed(1)} ${
+                to.y.toFixed(1)}`
+        }),
+        small(at(.28, aside), String(port)), small(at(.8, aside), String(passivePort))
+    ];
+    if (label) parts.push(svg('text', {class: 'output', ...at(.48, aside * 1.5), 'text-anchor': 'middle'}, label));
+    return parts;
+}

@@ -1,0 +1,92 @@
+// The report of `explore describe` on the chain that is shown, beside the cards; and all of it on paper.
+import {$, button, code, copy, download, element, faulty, hint, replace} from './dom.js';
+import {blocksOfReport, latexOfReport, partsOfText} from './reports.js';
+import {fileNameOf} from './texts.js';
+import {titleOf} from './chains.js';
+
+// A longer report is cut on the page; Copy and Download give all.
+const MOST_BLOCKS = 1500;
+
+export class ReportView {
+    constructor(workbench) {
+        Object.assign(this, {workbench, isOpen: false, text: ''});
+        this.content = element('div.paper', {tabIndex: 0, role: 'group', 'aria-label': 'the report'});
+        const give = run => event => {
+            if (this.text) run(event.currentTarget);
+        };
+        replace($('#report-box'),
+            element('header.group', {}, element('h2', {}, 'Report'), button('Copy Markdown', give(from => copy(this.text, from))),
+                button('Copy LaTeX', give(from => copy(latexOfReport(this.text), from))),
+                button('Download', give(() => download(`${fileNameOf(titleOf(this.path[0]))}.md`, this.text, 'text/markdown'))),
+                button('Print', () => this.print(), {title: 'the chain, its diagrams, the claim and this report on paper (Ctrl+P)'}),
+                button('×', () => this.open(false), {class: 'quiet close', 'aria-label': 'close the report'})),
+            this.content);
+    }
+
+    get isOffered() { return this.workbench.words.has('describe'); }
+
+    open(isOpen) {
+        this.isOpen = isOpen;
+        $('#report-box').hidden = !isOpen;
+        $('#report').setAttribute('aria-expanded', String(isOpen));
+        document.body.classList.toggle('reading', isOpen);
+        if (isOpen) this.fill(this.path, this.verdict);
+        else $('#report').focus();
+    }
+
+    // The chain with its verdict; where there is no bound, the first problem alone.
+    async fill(path, verdict) {
+        Object.assign(this, {path, verdict});
+        if (!path?.length && this.isOpen) this.open(false);
+        if (!this.isOpen || !path?.length) return;
+        const turn = this.turn = {}, {claim, engine} = this.workbench;
+        this.text = '';
+        replace(this.content, hint(verdict ? 'asking…' : 'The chain is not judged yet.'));
+        if (!verdict) return;
+        const job = engine.start('explore', ['describe'], verdict.certificate || path[0].problem, {title: 'describe'});
+        const answer = await claim.forThis(job).catch(error => ({status: 1, text: error.message}));
+        if (turn !== this.turn) return;
+        if (answer.status !== 0) {
+            replace(this.content, faulty(answer.text.trim()));
+            return;
+        }
+        this.text = answer.text;
+        const blocks = blocksOfReport(answer.text);
+        replace(this.content,
+            verdict.certificate ? null : hint('This chain is neither a lower nor an upper bound: the report is of its first problem.'),
+            blocks.slice(0, MOST_BLOCKS).map(blockNode),
+            blocks.length > MOST_BLOCKS ? hint('Cut here: Copy and Download give all.') : null);
+    }
+
+    // Everything that the paper shows is drawn first.
+    async print() {
+        const path = this.workbench.cards.path();
+        if (!path.length || this.isPrinting) return;
+        this.isPrinting = true;
+        const views = path.map(card => this.workbench.view(card)), open = views.map(view => view.isOpen);
+        try {
+            await Promise.all(views.map(view => {
+                view.open(true);
+                return view.comeNear();
+            }));
+            window.print();
+        } finally {
+            this.isPrinting = false;
+            views.forEach((view, i) => view.open(open[i]));
+        }
+    }
+}
+
+const PART_NODES = {
+    code: text => code(text),
+    bold: text => element('strong', {}, text),
+    plain: text => text
+};
+const textNodes = text => partsOfText(text).map(part => PART_NODES[part.kind](part.text));
+
+function blockNode({kind, level, text, items}) {
+    if (kind === 'heading') return element(level === 1 ? 'h3' : 'h4', {}, ...textNodes(text));
+    if (kind === 'code') return element('pre', {tabIndex: 0}, text);
+    if (kind === 'list') return element('ul', {}, items.map(item => element('li', {}, ...textNodes(item))));
+    return element('p', {}, ...textNodes(text));
+}

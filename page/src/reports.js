@@ -1,0 +1,68 @@
+// The report of `explore describe`: its Markdown cut into blocks, and written for LaTeX.
+
+// What a bound says of rounds of the graph, out of a report; null where it says nothing of them.
+export const roundsOfGraph = report =>
+    /^The passive nodes are the edges of a graph, and two hops are one round of the graph\. (Problem 0 .*)$/m.exec(report)?.[1] || null;
+
+// Blocks {kind: 'heading', level, text}, {kind: 'code', text}, {kind: 'list', items} and {kind: 'paragraph', text}.
+export function blocksOfReport(markdown) {
+    const blocks = [];
+    let fenced = null;
+    for (const line of markdown.split('\n')) {
+        const last = blocks.at(-1), heading = /^(#+) (.*)$/.exec(line);
+        if (fenced) {
+            if (line.startsWith('```')) fenced = null;
+            else fenced.lines.push(line);
+        } else if (line.startsWith('```')) blocks.push(fenced = {kind: 'code', lines: []});
+        else if (!line.trim()) blocks.push({kind: 'gap'});
+        else if (line.startsWith('    ')) addTo(blocks, last, 'code', line.slice(4));
+        else if (heading) blocks.push({kind: 'heading', level: heading[1].length, lines: [heading[2]]});
+        else if (line.startsWith('- ')) addTo(blocks, last, 'list', line.slice(2));
+        else addTo(blocks, last, 'paragraph', line);
+    }
+    return blocks.filter(({kind}) => kind !== 'gap').map(({kind,
+        level,
+        lines}) => kind === 'list' ? {kind, items: lines} : {kind, level, text: lines.join('\n')});
+}
+
+function addTo(blocks, last, kind, line) {
+    if (last?.kind === kind) last.lines.push(line);
+    else blocks.push({kind, lines: [line]});
+}
+
+// A line of text in parts {kind: 'plain', 'code' or 'bold', text}.
+export function partsOfText(text) {
+    return text.split(/(`[^`]+`|\*\*[^*]+\*\*)/).filter(Boolean).map(part => {
+        if (/^`.+`$/s.test(part)) return {kind: 'code', text: part.slice(1, -1)};
+        return /^\*\*.+\*\*$/s.test(part) ? {kind: 'bold', text: part.slice(2, -2)} : {kind: 'plain', text: part};
+    });
+}
+
+const ESCAPES = {
+    '\\': '\\textbackslash{}',
+    '^': '\\textasciicircum{}',
+    '~': '\\textasciitilde{}',
+    '<': '\\textless{}',
+    '>': '\\textgreater{}'
+};
+const escaped = text => text.replace(/[\\^~<>#$%&_{}]/g, c => ESCAPES[c] || `\\${c}`);
+const PART_LATEX = {
+    code: text => `\\texttt{${text}}`,
+    bold: text => `\\textbf{${text}}`,
+    plain: text => text
+};
+const latexOfText = text => partsOfText(text).map(part => PART_LATEX[part.kind](escaped(part.text))).join('');
+
+// The report for a paper's appendix.
+export function latexOfReport(markdown) {
+    return blocksOfReport(markdown)
+               .map(block => {
+                   if (block.kind === 'heading') return `\\${block.level === 1 ? 'section' : 'subsection'}*{${latexOfText(block.text)}}`;
+                   if (block.kind === 'code') return `\\begin{verbatim}\n${block.text}\n\\end{verbatim}`;
+                   if (block.kind === 'list')
+                       return `\\begin{itemize}\n${block.items.map(item => `\\item ${latexOfText(item)}`).join('\n')}\n\\end{itemize}`;
+                   return latexOfText(block.text);
+               })
+               .join('\n\n') +
+        '\n';
+}

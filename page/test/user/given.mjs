@@ -1,0 +1,120 @@
+// What the nodes are given: a field of the chain, judged by `explore given`, and on the cards by `explore fit`.
+import {wordsIn} from '../../src/words.js';
+import {answer, example, natively} from '../place.mjs';
+import {cardsAre, drawn, MIS} from '../user.mjs';
+import {wait} from '../browser.mjs';
+
+const explored = wordsIn(natively('explore', ['help']).text), hasInput = explored.has('input');
+const line = `document.querySelector('#given-line .line')?.textContent`;
+const given = (text, input) => natively('explore', ['given'], `${text}== given\n${input}`).text.split('\n', 1)[0];
+const choose = (page, says) => page.choose('#given-kind', says);
+
+const sessions = {
+    async 'a colouring is given'(user, page, checks, picture) {
+        await user.openProblem(...MIS);
+        for (const n of [2, 3]) await user.step(n);
+        await user.says('accepted: not solvable in 2 or fewer rounds');
+        await choose(page, 'a colouring');
+        const four = answer(['family', 'colouring', '3', '2', '4']);
+        checks.equal('the line of explore given', await page.until(line), given(await user.certificate(), four));
+        checks.equal('it is accepted', await page.until(line), 'accepted: given that input, not solvable in 2 or fewer rounds');
+        await user.says('accepted: not solvable in 2 or fewer rounds');
+        checks.check('on the card',
+            (await page.until(`document.querySelector('.card.last .badges').textContent.includes('0 rounds given: no') && 'no'`)) === 'no');
+        await picture('given');
+        // Another number of colours.
+        await page.fill('#given input', '2');
+        await page.until(`bench.cards.path()[0].given.count === 2`);
+        const two = answer(['family', 'colouring', '3', '2', '2']);
+        checks.equal('two colours',
+            await page.until(
+                `bench.claim.verdict?.certificate && ${line} === ${JSON.stringify(given(await user.certificate(), two))} && ${line}`),
+            given(await user.certificate(), two));
+        // What the program doesn't print: it says so, and what was given stays.
+        await page.fill('#given input', '99');
+        await page.until(`document.querySelector('#message.fault')?.textContent.endsWith(' colouring 3 2 99: words: not a command')`);
+        checks.equal('what was given stays', await page.value('bench.cards.path()[0].given.count'), 2);
+        await choose(page, 'nothing');
+        await page.until(`!bench.cards.path()[0].given && !document.querySelector('#given-line').textContent`);
+        checks.check('and nothing on the card',
+            await page.value(
+                `[...document.querySelectorAll('.card .badge')].every(badge => badge.hidden || !badge.textContent.includes('given'))`));
+    },
+
+    async 'what is given solves it: the map at the labels'(user, page, checks) {
+        await user.openProblem('1^3\n2^3\n3^3', '1 2\n1 3\n2 3');
+        await choose(page, 'a colouring');
+        await page.until(`bench.cards.path()[0].given`);
+        await page.fill('#given input', '3');
+        await page.until(`document.querySelector('.card.last .fit .list')`);
+        const input = answer(['family', 'colouring', '3', '2', '3']),
+              fit = natively('explore', ['fit'], `${await user.problem()}== given\n${input}`).text.trim().split('\n').slice(1);
+        const shown = await page.value(`[...document.querySelectorAll('.card.last .fit .meaning')].map(node => node.textContent)`);
+        checks.equal('the lines of explore fit', shown, fit.map(row => row.replace(/ (= )?/, ' → ')));
+        checks.check(
+            'solvable', (await page.value(`document.querySelector('.card.last .badges').textContent`)).includes('0 rounds given: yes'));
+        checks.check('the second line', (await page.until(line)).startsWith('refused: given that input'));
+        // It is kept with the session: undo, a reload, a file.
+        await page.until(`location.hash.length > 20`);
+        await wait(400);
+        const session = await page.value(`engine.work('sessionText', bench.cards.state)`);
+        await page.ask('Page.reload');
+        await wait(300);
+        await page.until(`document.body?.classList.contains('ready') && ${
+            cardsAre(
+                1)} && document.querySelector('#given-kind').value === 'colouring' && document.querySelector('#given input').value === '3'`);
+        checks.check('the line again', (await page.until(line)).startsWith('refused: given that input'));
+        await page.key('z', {modifiers: 2});
+        await user.openText(session);
+        await page.until(`bench.cards.path()[0].given?.count === 3`);
+        // A foreign session: what is given has to be a problem.
+        const foreign = JSON.parse(session);
+        foreign.cards[0].given.problem = 'nonsense';
+        await user.openText(JSON.stringify(foreign));
+        checks.equal('a foreign one', await page.until(`document.querySelector('dialog .state .faulty')?.textContent`),
+            'card 1 of the session: what is given is no canonical text');
+        await page.key('Escape');
+    },
+
+    async 'a problem of the own is given'(user, page, checks) {
+        await user.openProblem('O [IO]^2', 'I O');
+        await choose(page, 'a problem…');
+        await page.until(`document.querySelector('dialog textarea')`);
+        await page.fill('dialog textarea', '[IO]^3', 0);
+        await page.fill('dialog textarea', 'I O', 1);
+        await page.until(`!document.querySelector('dialog footer button').disabled`);
+        await page.click('dialog footer button', 'Use it');
+        const orientation = answer(['read'], '[IO]^3\n\nI O\n');
+        checks.equal('an orientation as a problem', await page.until(line), given(await user.certificate(), orientation));
+        await user.step(2);
+        checks.equal('behind a step',
+            await page.until(`bench.claim.verdict?.certificate && ${
+                line} === 'accepted: given that input, not solvable in 1 or fewer rounds' && ${line}`),
+            given(await user.certificate(), orientation));
+        await page.click('#given button', 'Change');
+        await page.until(`document.querySelector('dialog textarea')?.value`);
+        await page.fill('dialog textarea', 'A B^2', 0);
+        await page.fill('dialog textarea', 'A^2', 1);
+        await page.until(`!document.querySelector('dialog footer button').disabled`);
+        await page.click('dialog footer button', 'Use it');
+        checks.equal('one that is no input', await page.until(`${line}?.startsWith('no') && ${line}`), 'no: not an input: B');
+    },
+
+    async 'inputs that explore names'(user, page, checks) {
+        await user.openText(example('gallery/sinkless-orientation-3.txt'));
+        await user.says('accepted: not solvable in any number of rounds');
+        const offered = await page.value(`[...document.querySelectorAll('#given-kind option')].map(option => option.value)`);
+        checks.equal('those that the programs print', offered,
+            hasInput ? ['nothing', 'colouring', 'edges', 'sides', 'orientation', 'both', 'problem'] : ['nothing', 'colouring', 'problem']);
+        for (const kind of offered.filter(name => !['nothing', 'problem'].includes(name))) {
+            await page.value(`(() => { const list = document.querySelector('#given-kind'); list.value = '${
+                kind}'; list.dispatchEvent(new Event('change')); })()`);
+            await page.until(`bench.cards.path()[0].given?.kind === '${kind}'`);
+            const input = await page.value('bench.cards.path()[0].given.problem'), wanted = given(await user.certificate(), input);
+            checks.equal(kind, await page.until(`${line} === ${JSON.stringify(wanted)} && ${line}`), wanted);
+        }
+        await page.until(drawn);
+    },
+};
+
+export const givenSessions = explored.has('given') ? sessions : {};

@@ -1,0 +1,105 @@
+// Searches: in the background, stopped, asked again with more, and what they say meanwhile.
+import {wordsIn} from '../../src/words.js';
+import {wait} from '../browser.mjs';
+import {answer, natively} from '../place.mjs';
+import {cardsAre, MIS} from '../user.mjs';
+
+const explored = wordsIn(natively('explore', ['help']).text);
+const state = `document.querySelector('#jobs .hint')?.textContent`;
+
+export const searchingSessions = {
+    async 'a search, stopped'(user, page, checks) {
+        await user.openProblem(...MIS);
+        await user.search('lower', 8, 2);
+        await page.until(`!document.querySelector('#jobs').hidden`);
+        await wait(1200);
+        // The page lives meanwhile.
+        await user.act('Universal rows');
+        await page.until(`document.querySelector('.card.last .note pre')`);
+        checks.check('elapsed time', /\d\.\d s/.test(await page.value(`document.querySelector('#jobs .time').textContent`)));
+        await page.click('#jobs button', 'Stop');
+        await page.until(`document.querySelector('#jobs').hidden`);
+        checks.check('it is said on the card',
+            (await page.until(`document.querySelector('.card.last .remarks').textContent`)).includes('lower 8 2 from problem 0: stopped.'));
+        await user.search('lower', 4, 0);
+        await user.says('accepted: not solvable in 4 or fewer rounds');
+    },
+
+    async 'words of explore that go on from a card'(user, page, checks) {
+        await user.openProblem('O [IO]^2', 'I O');
+        await user.step(2);
+        const offered = ['longest', 'cycle', 'closure', 'cover'],
+              shown = await page.value(`[...document.querySelectorAll('.card.last .ask')].map(ask => ask.dataset.search)`);
+        checks.equal(
+            'those that it has are offered', shown.filter(word => offered.includes(word)), offered.filter(word => explored.has(word)));
+        await user.search('longest', 2, 10);
+        await user.says('accepted: not solvable in 3 or fewer rounds');
+        checks.equal('longest', await page.value('bench.cards.path().length'), 4);
+        await user.search('cycle', 2, 0);
+        await user.says('accepted: not solvable in any number of rounds');
+        await page.click('#undo');
+        await user.says(`accepted: not solvable in 3 or fewer rounds`);
+        await user.search('closure');
+        await user.says('accepted: not solvable in any number of rounds');
+    },
+
+    async 'what is found elsewhere is offered'(user, page, checks) {
+        await user.openProblem(...MIS);
+        await user.search('lower', 5, 0);
+        await page.choose('#gallery', 'two colouring 3');
+        await page.until(`bench.cards.cards.some(card => card.title === 'lower 5 0') && bench.cards.path()[0].title === 'two colouring 3'`);
+        await page.click('#card-list .other button', '0 M^3');
+        await page.until(`bench.cards.path()[0].title === undefined`);
+        await user.says('accepted: not solvable in 5 or fewer rounds');
+    },
+
+    async 'longer and longer lower bounds'(user, page, checks) {
+        await user.openProblem('1^2\n2^2\n3^2', '1 2\n1 3\n2 3');
+        await user.searchOn('lower', 2, 0);
+        await user.says('accepted: not solvable in 3 or fewer rounds');
+        checks.check('what was found is listed',
+            (await page.until(`document.querySelector('.card .written table')?.textContent`)).includes('lower 4 0'));
+    },
+
+    async 'longest, with more until it is stopped'(user, page, checks) {
+        await user.openProblem(...MIS);
+        await user.searchOn('longest', 2, 6);
+        // Asked again with twice as many steps, or labels.
+        await page.until(`/best so far: [3-9] further steps; now longest/.test(${state})`);
+        await page.click('#jobs button', 'Stop');
+        const line = await user.verdict();
+        await page.until(`bench.cards.path().length > 3`);
+        const found = await page.until(`bench.claim.verdict?.accepted && bench.claim.verdict.line`);
+        checks.check(`Stop keeps the best: ${line}, ${found}`, /not solvable in ([3-9]|\d\d) or fewer/.test(found));
+        checks.equal('by the program', answer(['check'], await user.certificate()).trim(), found);
+    },
+
+    async 'cycle, with more until one is found'(user, page, checks) {
+        await user.openExample('no sinks no sources');
+        await user.searchOn('cycle', 1, 0);
+        await user.says('accepted: not solvable in any number of rounds');
+        const tried = await page.value(`document.querySelector('.card .written table').textContent`);
+        checks.check('what was tried on the way', tried.includes('cycle 1 0 20000') && tried.includes('cycle 2 1 20000'));
+    },
+
+    async 'closure, here or a few steps on'(user, page, checks) {
+        await user.openProblem('1^3\n2^3\n3^3', '1 2\n1 3\n2 3');
+        await user.search('closure');
+        await user.says('accepted: not solvable in any number of rounds');
+        await user.openProblem(...MIS);
+        await user.search('closure');
+        await page.until(
+            `document.querySelector('.card.last .written table')?.textContent.includes('closure after 3 steps') && document.querySelector('#jobs').hidden`);
+        checks.check('each is told',
+            (await page.value(`document.querySelector('.card.last .remarks').textContent`)).includes('closure after 1 step'));
+        await page.until(cardsAre(1));
+    },
+
+    async 'longest does what a heuristic did'(user, page, checks) {
+        await user.openProblem(...MIS);
+        await user.search('longest', 6, 10);
+        await page.until(`bench.cards.path().length > 4`);
+        const found = await page.until(`bench.claim.verdict?.accepted && bench.claim.verdict.line`);
+        checks.check(found, /not solvable in ([4-9]|\d\d) or fewer/.test(found));
+    },
+};

@@ -1,0 +1,142 @@
+// What is known of a problem: `settle` and the commands that show it, graphs without a solution, the catalogue, merges in a first
+// problem. Words that the program doesn't have yet are answered here in its place, so that the page is tested before it has them.
+import {wordsIn} from '../../src/words.js';
+import {answer, natively} from '../place.mjs';
+import {cardsAre, MIS} from '../user.mjs';
+
+const explored = wordsIn(natively('explore', ['help']).text), quoted = value => JSON.stringify(value);
+const MIS_GRAPH = '1.1 1.2\n2.1 2.2\n1.3 2.3', NO = 'no: no solution on this graph, so not solvable in any number of rounds';
+
+// Gives the page words, with their answers {'settle': [status, text]} whatever is read, until the page is opened anew.
+async function teach(page, answers) {
+    await page.value(`(() => {
+        const taught = ${quoted(answers)}, start = engine.start.bind(engine);
+        for (const words of Object.keys(taught)) bench.words.add(words.split(' ')[0]);
+        engine.start = (program, words, input, options) => {
+            const given = program === 'explore' && taught[words.join(' ')];
+            return given ? {title: words.join(' '), started: 0, isOver: true, stop() {}, answer: Promise.resolve({status: given[0], text: given[1]})} : start(program, words, input, options);
+        };
+    })()`);
+}
+const teachMissing = (page, answers) =>
+    teach(page, Object.fromEntries(Object.entries(answers).filter(([words]) => !explored.has(words.split(' ')[0]))));
+const note = `document.querySelector('.card.last .note')?.textContent`;
+
+export const settlingSessions = {
+    async 'settle, and what shows it'(user, page, checks, picture) {
+        await teachMissing(page, {settle: [0, 'exactly 1 (1 rounds of the graph)\nby: re lower 0 0\nby: re upper 1 0\n']});
+        await user.openExample('orientation');
+        checks.equal('the first button', await page.value(`document.querySelector('.card.last .actions button').textContent`), 'Settle');
+        await user.act('Settle');
+        const said = await page.until(note);
+        checks.check(said, said.startsWith('settle: exactly 1'));
+        if (explored.has('settle'))
+            checks.check('its first line', said.includes(natively('explore', ['settle'], await user.problem()).text.split('\n', 1)[0]));
+        checks.check(
+            'it is listed', (await page.value(`document.querySelector('.card.last .written table').textContent`)).startsWith('settle'));
+        await page.click('.card.last .note button', 're upper');
+        await user.says('accepted: solvable in 1 rounds');
+        await picture('settle');
+    },
+
+    async 'never, by a fixed point'(user, page, checks) {
+        await teachMissing(page, {settle: [0, 'not solvable in any number of rounds\nby: explore closure\n']});
+        await user.openProblem('1^3\n2^3\n3^3', '1 2\n1 3\n2 3');
+        await user.act('Settle');
+        checks.check('the line', (await page.until(note)).startsWith('settle: not solvable in any number of rounds'));
+        await page.click('.card.last .note .by button');
+        await user.says('accepted: not solvable in any number of rounds');
+    },
+
+    async 'never, by a graph'(user, page, checks, picture) {
+        const problem = answer(['read'], MIS.join('\n\n'));
+        await teachMissing(page, {
+            settle: [0, 'not solvable in any number of rounds\nby: explore cover 3\n'],
+            'cover 3': [0, `${problem}== graph\n${MIS_GRAPH}\n`],
+            solve: [1, `${NO}\n`]
+        });
+        await user.openProblem(...MIS);
+        await user.act('Settle');
+        await page.until(note);
+        await page.click('.card.last .note .by button', 'cover');
+        await page.until(`document.querySelector('dialog svg.graph') && document.querySelector('dialog .line')`);
+        checks.equal('the line of solve', await page.value(`document.querySelector('dialog .line').textContent`), NO);
+        const lines = (await page.value(`document.querySelector('dialog textarea').value`)).split('\n'),
+              ends = lines.flatMap(line => line.split(' '));
+        if (explored.has('solve'))
+            checks.equal(
+                'by the native program', natively('explore', ['solve'], `${problem}== graph\n${lines.join('\n')}\n`).text.trim(), NO);
+        const seen = await page.value(
+            `(() => { const count = selector => document.querySelectorAll('dialog svg.graph ' + selector).length; return [count('rect.active'), count('circle'), count('path')]; })()`);
+        checks.equal(
+            'active nodes, passive nodes, ends', seen, [new Set(ends.map(end => end.split('.')[0])).size, lines.length, ends.length]);
+        checks.check('nodes stand apart',
+            await page.value(
+                `(() => { const boxes = [...document.querySelectorAll('dialog svg.graph rect, dialog svg.graph circle')].map(node => node.getBoundingClientRect());
+            return boxes.every((a, i) => boxes.every((b, k) => k <= i || a.right < b.left || b.right < a.left || a.bottom < b.top || b.bottom < a.top)); })()`));
+        await picture('graph', 'dialog');
+        await user.watchCopies();
+        await page.click('dialog button', 'Copy problem and graph');
+        checks.equal('what solve reads', await user.copied(), `${problem}== graph\n${lines.join('\n')}\n`);
+        await page.click('dialog button.close');
+        checks.check('on the card', (await page.until(note)).includes(NO));
+    },
+
+    async 'graphs of many forms are drawn'(user, page, checks) {
+        for (const [lines, count] of [['1.1 1.2 1.3', 3], ['1.1 1.2\n1.3 2.1\n2.2 2.3', 6], ['1.1 2.1\n1.2 2.2\n1.3 2.3', 6],
+                 ['1.1 2.1 3.1\n1.2 2.2 3.2\n1.3 2.3 3.3', 9], ['1.1 2.1\n1.2 3.1\n1.3 4.1\n2.2 3.2\n2.3 4.2\n3.3 4.3', 12],
+                 ['1.1 1.2\n1.3 1.4\n1.5 1.6', 6]]) {
+            await teach(page, {solve: [0, `yes:\n${'A '.repeat(6).trim()}\n`.repeat(1)]});
+            await page.value(`bench.settling.draw(${quoted(`A B\n\nA B\n== graph\n${lines}\n`)})`);
+            await page.until(`document.querySelectorAll('dialog svg.graph path').length === ${count}`);
+            checks.check(`${lines.replaceAll('\n', ', ')}: nodes stand apart`,
+                await page.value(
+                    `(() => { const places = [...document.querySelectorAll('dialog svg.graph rect, dialog svg.graph circle')].map(node => node.getBBox()).map(box => [box.x + box.width / 2, box.y + box.height / 2]);
+                return places.every(([x, y], i) => places.every(([u, v], k) => k <= i || Math.hypot(x - u, y - v) > 20)); })()`));
+            await page.click('dialog button.close');
+            await page.until(`!document.querySelector('dialog')`);
+        }
+        // A text of another form is drawn as none, and the program says why.
+        await teach(page, {solve: [3, 'input: line 6: not a list of items\n']});
+        await page.value(`bench.settling.draw('A B\\n\\nA B\\n== graph\\n1.1 1.2\\n')`);
+        await page.until(`document.querySelector('dialog svg.graph')`);
+        await page.fill('dialog textarea', 'nonsense');
+        await page.click('dialog button', 'Solve');
+        await page.until(
+            `!document.querySelector('dialog svg.graph') && document.querySelector('dialog .line').textContent.startsWith('input: ')`);
+    },
+
+    async 'the line of the catalogue'(user, page, checks) {
+        const table =
+            '1\tAAA / AA\texactly 0\tre upper 0 0\n2\tAAA AAB ABB / AB\tnot solvable in any number of rounds\tre fixed 3 0; explore closure\n';
+        await page.value(
+            `(() => { bench.catalogue.packed['2-3-2'] = ''; bench.catalogue.tables['2-3-2'] = Promise.resolve(${quoted(table)}); })()`);
+        await user.openProblem('O [IO]^2', 'I O');
+        const shown = await page.until(
+            `[...document.querySelectorAll('.card.last .body > div')].map(node => node.textContent).find(text => text.includes('catalogue'))`);
+        checks.equal(
+            'its line', shown, 'Number 2 of the catalogue 2-3-2:not solvable in any number of roundsshown byre fixed 3 0explore closure');
+        await page.click('.card.last .by button', 'fixed');
+        await user.says('accepted: not solvable in any number of rounds');
+        await user.openProblem(...MIS);
+        checks.check('none where there is no table',
+            !(await page.value(`document.querySelector('.card.last').textContent`)).includes('of the catalogue 2-'));
+    },
+
+    async 'a merge in the first problem, and a step'(user, page, checks) {
+        await user.openExample('no sinks no sources');
+        await user.select('I', 'O');
+        const can = natively('explore', ['merge', 'A', 'B'], 'A B\n\nA B\n').text.startsWith('==');
+        checks.equal('only where the program does it', await page.value(`bench.changes.canMergeFirst()`), can);
+        const chain = natively('explore', ['step'], await user.problem()).text;
+        if (!can) await teach(page, {'merge A B': [0, '== certificate\n'], 'merge O I': [0, chain]});
+        await page.click('.card.last .selection button', 'Clear');
+        await user.select('I', 'O');
+        await page.click('.card.last .selection button', 'O into I, and step');
+        await page.until(cardsAre(2));
+        checks.equal('it is judged', answer(['check'], await user.certificate()).trim(), await user.verdict());
+        checks.check('and speaks of the problem itself',
+            (await user.certificate()).includes(await page.value('bench.cards.path()[0].problem')) ||
+                (await user.certificate()).startsWith('== certificate'));
+    },
+};

@@ -1,8 +1,6 @@
 -- What an algorithm outputs on a graph with a solution of an input problem is a solution.
 use Rattle.std.proofs.Common.{◌≡◌, ℕ, suc, pred, ◌+◌, ◌<◌, List, [], ◌∷◌, map, length, get_or, refl, sym, ◌∙◌, ap, subst, arith, one-add}
 use Rattle.std.proofs.lemmas.List.{get_or-map}
-use Rattle.re_config.proofs.Sorting.{length-sorted}
-use Rattle.re_config.specs.Configs.{IsConfig, sorted}
 use Rattle.re_cover.specs.declared.ends.GraphEnd.{GraphEnd}
 use Rattle.re_cover.specs.Graphs.{IsActiveEnd, IsGraph, IsGraphOf, IsSolution, PortGraph, active_end, label_at, no_end, passive_end}
 use Rattle.re_cover.proofs.Outputs.{all-at, all-places, map-places}
@@ -12,18 +10,14 @@ use Rattle.re_cover.specs.GivenGraphs.{GivenGraphLaw, GivenOutputsLaw, GivenSeen
 use Rattle.re_given.specs.Given.{answer_known, around_known}
 use Rattle.re_given.specs.InputViews.{Fits, InputView, known}
 use Rattle.re_given.specs.Inputs.{IsInput}
-use Rattle.re_labels.proofs.Membership.{AllByRecursion-contains, get_or-count_from, length-count_from}
+use Rattle.re_labels.proofs.Membership.{get_or-count_from, length-count_from}
 use Rattle.re_labels.specs.Lists.{count_from}
+use Rattle.re_laws.proofs.Mapping.{count_of}
 use Rattle.re_laws.proofs.Ports.{AllByRecursion-count, length-ports, map-at_port}
 use Rattle.re_laws.specs.Algorithms.{at_port}
 use Rattle.re_problem.specs.Problems.{Problem}
-use Rattle.re_table.specs.Constraints.{Constraint, Has, IsConstraint}
+use Rattle.re_table.specs.Constraints.{Has}
 use Rattle.re_views.specs.Trees.{IsView, backs, shift}
-
-length-of : (n : ℕ) (constraint : Constraint) (labels : List ℕ) → IsConstraint n constraint → Has constraint labels → length labels ≡ constraint.degree
-length-of n constraint labels is has =
-    let config : IsConfig constraint.degree n (sorted labels) = AllByRecursion-contains (IsConfig constraint.degree n) constraint.configs (sorted labels) is.configs has in
-    sym (length-sorted labels) ∙ config.count
 
 -- what is listed by the ports of a list is the list
 by-ports : (labels : List ℕ) (d : ℕ) → length labels ≡ d → map (at_port labels) (count_from 1 d) ≡ labels
@@ -38,7 +32,7 @@ module _ (problem input : Problem) (graph : PortGraph) (inputs : List (List ℕ)
   active-has : (node : ℕ) → node < graph.nodes → Has input.active (map (λ port. label_at inputs (record { node = node; port = port })) (count_from 1 graph.active_degree))
   active-has node less =
       let has : Has input.active (get_or inputs node []) = all-at (Has input.active) [] inputs node given.active (omega (arith, less, given.count)) in
-      let count : length (get_or inputs node []) ≡ graph.active_degree = length-of input.labels input.active (get_or inputs node []) is.is_problem.active has ∙ is.active_degree ∙ sym of.active_degree in
+      let count : length (get_or inputs node []) ≡ graph.active_degree = count_of input.labels input.active (get_or inputs node []) is.is_problem.active has ∙ is.active_degree ∙ sym of.active_degree in
       subst (Has input.active) (sym (by-ports (get_or inputs node []) graph.active_degree count)) has
 
   -- and around a passive one

@@ -20,7 +20,7 @@ use Rattle.re_entry_clauses.specs.LabelsOver.{labels_over}
 use Rattle.re_entry_clauses.specs.RowEntries.{row_entries}
 use Rattle.re_clauses.specs.Clauses.{keep_allowed}
 use Rattle.re_given.proofs.AllInputViews.{Has-below}
-use Rattle.re_given.proofs.ZeroGiven.{Has-count}
+use Rattle.re_laws.proofs.Mapping.{count_of}
 use Rattle.re_given.specs.Inputs.{IsInput, exchanged}
 use Rattle.re_bridge.proofs.Meeting.{kept-allowed}
 use Rattle.re_walks.specs.Walking.{IsAssignment}
@@ -80,7 +80,7 @@ module _ (problem input : Problem) (is : IsProblem problem) (is_input : IsInput 
       let (labels, chosen, has) = upper.choice config held in
       let (moved, again, order, rises) = in_order sets config labels chosen in
       let is_there : Has problem.active moved = Has-Rearranged problem.active order has in
-      let size : length moved ≡ problem.active.degree = Has-count problem.labels problem.active moved is.active is_there in
+      let size : length moved ≡ problem.active.degree = count_of problem.labels problem.active moved is.active is_there in
       let same : length moved ≡ length config = length-AllZip IsIn moved (map sets config) again ∙ length-map config sets in
       let front : take problem.active.degree (moved ++ rest.labels) ≡ moved = take-front problem.active.degree moved rest.labels size in
       let back : drop problem.active.degree (moved ++ rest.labels) ≡ rest.labels = drop-front problem.active.degree moved rest.labels size in

@@ -11,7 +11,7 @@ use Rattle.re_given.proofs.AllInputViews.{Has-below}
 use Rattle.re_given.proofs.ChainGiven.{IsInput-lower, SolvableGiven-lower, SolvableGiven-none, SolvableGiven-up, exchanged_by-add, exchanged_by-twice, lower_bound_given}
 use Rattle.re_given.proofs.MappingGiven.{IsInput-same, SolvableGiven-relaxed}
 use Rattle.re_given.proofs.SlowGiven.{choice_from, choice_is, good_choice}
-use Rattle.re_given.proofs.ZeroGiven.{Has-count}
+use Rattle.re_laws.proofs.Mapping.{count_of}
 use Rattle.re_given.specs.Given.{SolvableGiven, ZeroGiven}
 use Rattle.re_given.specs.Inputs.{IsInput, exchanged, exchanged_by}
 use Rattle.re_given.specs.Unavoidable.{IsUnavoidable, reached}
@@ -41,7 +41,7 @@ module _ (problem input : Problem) (is : IsProblem problem) (is_input : IsInput 
   image_count : (config : List ℕ) → Contains input.active.configs config → (length (image config) ≡ input.active.degree) × AllByRecursion (λ x. x < problem.labels) (image config)
   image_count config held =
       let (chosen, has) = image_is config held in (
-        Has-count problem.labels problem.active (image config) is.active has ∙ sym is_input.active_degree,
+        count_of problem.labels problem.active (image config) is.active has ∙ sym is_input.active_degree,
         AllByRecursion-from_contains (λ x. x < problem.labels) (image config) (Has-below problem.labels problem.active (image config) is.active has),
       )
 

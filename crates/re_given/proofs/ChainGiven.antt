@@ -7,7 +7,7 @@ use Rattle.re_given.proofs.SlowGiven.{SolvableGiven-upper, SolvableGiven-zero}
 use Rattle.re_given.proofs.ZeroGiven.{ZeroGiven-from}
 use Rattle.re_given.specs.Given.{SolvableGiven, ZeroGiven, answer_known}
 use Rattle.re_given.specs.Inputs.{IsInput, exchanged, exchanged_by}
-use Rattle.re_laws.proofs.ChainRounds.{IsProblem-lower}
+use Rattle.re_laws.proofs.ChainRounds.{IsProblem-lower, derived_by-suc}
 use Rattle.re_laws.specs.Chains.{IsLowerChain, IsUpperChain}
 use Rattle.re_laws.specs.Chains as chain
 use Rattle.re_problem.proofs.DerivedProblem.{IsProblem-derived, IsUpper-derived}
@@ -52,11 +52,6 @@ SolvableGiven-speedup problem input T is is_input = (SolvableGiven-derived probl
 
 pub SolvableGiven-none : (problem input : Problem) → IsProblem problem → IsInput problem input → SolvableGiven problem input 0 ↔ ZeroGiven problem input
 SolvableGiven-none problem input is is_input = (λ h. ZeroGiven-from problem input (answer_known h.0) is is_input h.1.solves, SolvableGiven-zero problem input is_input)
-
--- derived k times and once more is derived once and k times more
-derived_by-suc : (problem : Problem) (k : ℕ) → derived_by (suc k) problem ≡ derived_by k (derived problem)
-derived_by-suc problem zero = refl
-derived_by-suc problem (suc k) = ap derived (derived_by-suc problem k)
 
 pub SolvableGiven-rounds : (problem input : Problem) (k : ℕ) → IsProblem problem → IsInput problem input → SolvableGiven problem input k ↔ ZeroGiven (derived_by k problem) (exchanged_by k input)
 SolvableGiven-rounds problem input zero is is_input = SolvableGiven-none problem input is is_input

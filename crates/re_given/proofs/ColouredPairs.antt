@@ -8,7 +8,8 @@ use Rattle.std.proofs.lemmas.Nat.{pow_pos}
 use Rattle.re_config.proofs.Sorting.{sorted_again}
 use Rattle.re_given.proofs.AvoidedInputs.{lower_bound_unavoidable}
 use Rattle.re_given.proofs.ChainGiven.{exchanged_by-twice}
-use Rattle.re_given.proofs.Colourings.{IsInput-colouring, alike_rise, colour_there, colours_there, pigeonhole}
+use Rattle.re_families.proofs.Whole.{alike_rise}
+use Rattle.re_given.proofs.Colourings.{IsInput-colouring, colour_there, colours_there, pigeonhole}
 use Rattle.re_given.specs.Given.{SolvableGiven}
 use Rattle.re_given.specs.Inputs.{IsInput, exchanged}
 use Rattle.re_given.specs.Unavoidable.{IsMet, IsUnavoidable, colouring}

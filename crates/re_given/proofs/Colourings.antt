@@ -3,7 +3,6 @@ use Rattle.std.proofs.Common.{◌≡◌, ℕ, zero, suc, ◌+◌, ◌-◌, ◌*�
 use Rattle.std.specs.Prelude.{Contains, not, replicate, ◌⊎◌}
 use Rattle.std.specs.List.{AllByRecursion, AllZip, list_any}
 use Rattle.std.proofs.Math.Nat.{mul-suc}
-use Rattle.std.proofs.lemmas.Bool.{le-ltb}
 use Rattle.std.proofs.lemmas.Bool.Decides.{nat_tests}
 use Rattle.std.proofs.lemmas.List.{get_or-replicate, length-map, length-replicate, map-id}
 use Rattle.std.proofs.lemmas.List.Elements.{Contains-get_or}
@@ -15,6 +14,7 @@ use Rattle.re_config.proofs.Sorting.{Rearranged-sorted, length-sorted, sorted_ag
 use Rattle.re_config.specs.Configs.{IsConfig, sorted, support_of}
 use Rattle.re_config.specs.Orders.{multisets}
 use Rattle.re_config.specs.Rearranging.{Rearranged, chained, kept, swapped, unmoved}
+use Rattle.re_families.proofs.Whole.{alike_rise, alike_support}
 use Rattle.re_given.proofs.AvoidedInputs.{fixed_point_unavoidable, lower_bound_unavoidable, shorter_bound_unavoidable}
 use Rattle.re_given.proofs.ChainGiven.{exchanged_by-twice}
 use Rattle.re_given.specs.Given.{SolvableGiven}
@@ -33,7 +33,7 @@ use Rattle.re_problem.specs.NamedProblems.{OccursIn}
 use Rattle.re_problem.specs.Problems.{IsProblem, Problem}
 use Rattle.re_problem.specs.Steps.{Becomes, IsRelaxed}
 use Rattle.re_problem.specs.Zero.{Zero}
-use Rattle.re_table.specs.Constraints.{Constraint, IsConstraint}
+use Rattle.re_table.specs.Constraints.{IsConstraint}
 
 -- ---- many numbers with one image
 length-parts : (t : ℕ → Bool) (xs : List ℕ) → length (filter t xs) + length (filter (λ x. not (t x)) xs) ≡ length xs
@@ -81,20 +81,6 @@ pigeonhole f m c (y ∷ ys) xs set each l = go (ltb m (length these)) refl (λ f
     go false more further = further (grind (arith, nat_tests))
 
 -- ---- colours
-pub alike_rise : (d x : ℕ) → IsRising (λ x y. x ≤ y) (replicate d x)
-alike_rise zero x = tt
-alike_rise (suc zero) x = tt
-alike_rise (suc (suc d)) x = (omega arith, alike_rise (suc d) x)
-
-once : (x : ℕ) → with_label (x ∷ []) x ≡ x ∷ []
-once x =
-    let below : ltb x x ≡ false = le-ltb x x (omega arith) in
-    λ i. cond (below i) (x ∷ x ∷ []) (cond (eqb-same x i) (x ∷ []) (x ∷ x ∷ []))
-
-alike_support : (d x : ℕ) → support_of (replicate (suc d) x) ≡ x ∷ []
-alike_support zero x = refl
-alike_support (suc d) x = ap (λ s. with_label s x) (alike_support d x) ∙ once x
-
 rising_support : (xs : List ℕ) → IsRising (λ x y. x < y) xs → support_of xs ≡ xs
 rising_support [] h = refl
 rising_support (x ∷ []) h = refl
@@ -102,7 +88,7 @@ rising_support (x ∷ y ∷ xs) h =
     let below : ltb x y ≡ true = true-below x y h.0 in
     ap (λ s. with_label s x) (rising_support (y ∷ xs) h.1) ∙ ap (λ b. cond b (x ∷ y ∷ xs) (cond (eqb x y) (y ∷ xs) (y ∷ with_label xs x))) below
 
-rising_weakly : (xs : List ℕ) → IsRising (λ x y. x < y) xs → IsRising (λ x y. x ≤ y) xs
+pub rising_weakly : (xs : List ℕ) → IsRising (λ x y. x < y) xs → IsRising (λ x y. x ≤ y) xs
 rising_weakly [] h = tt
 rising_weakly (x ∷ []) h = tt
 rising_weakly (x ∷ y ∷ xs) h = (let l = h.0 in omega arith, rising_weakly (y ∷ xs) h.1)
@@ -367,6 +353,7 @@ pub colouring_unavoidable : (a p c n : ℕ) → 1 ≤ a → (p - 1) * n < c → 
 colouring_unavoidable a p c n some many image each = colour_met a p c n some many image each
 
 -- ---- an input problem
+-- the multisets that pass a test are a constraint
 pub filtered_constraint : (d c : ℕ) (test : List ℕ → Bool) → 2 ≤ d → d ≤ 6 → IsConstraint c (record { degree = d; configs = filter test (multisets d 0 c) })
 filtered_constraint d c test low high =
     let law = multisets_law d c in

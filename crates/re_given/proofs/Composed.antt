@@ -10,7 +10,7 @@ use Rattle.re_labels.specs.Lists.{count_from}
 use Rattle.re_laws.proofs.Ports.{back_range, map-count, over_view}
 use Rattle.re_laws.proofs.Tables.{Solvable-by}
 use Rattle.re_laws.specs.Algorithms.{Plain, Solvable, SolvesBy, answer, around, at_port, back_at}
-use Rattle.re_given.proofs.ZeroGiven.{Has-count}
+use Rattle.re_laws.proofs.Mapping.{count_of}
 use Rattle.re_problem.specs.Problems.{IsProblem, Problem}
 use Rattle.re_table.proofs.Goodness.{Has-Rearranged}
 use Rattle.re_table.specs.Constraints.{Constraint, Has}
@@ -220,7 +220,7 @@ module _ (input : Problem) (is : IsProblem input) (S : ℕ) (B : Plain → List 
     still = λ u r v k view some l m. ap (λ x. at_port (B x) (suc k)) (cut-cut S u v (omega arith));
     fits = λ r v view some.
         let here : IsView input.active.degree input.passive.degree S (cut S v) = IsTree-cut input.active.degree input.passive.degree r S input.active.degree v view (omega arith) in
-        let count : length (B (cut S v)) ≡ input.active.degree = Has-count input.labels input.active (B (cut S v)) is.active (solves.active (cut S v) here) in
+        let count : length (B (cut S v)) ≡ input.active.degree = count_of input.labels input.active (B (cut S v)) is.active (solves.active (cut S v) here) in
         subst (Has input.active) (sym (all_of (B (cut S v)) input.active.degree count)) (solves.active (cut S v) here);
   }
     where

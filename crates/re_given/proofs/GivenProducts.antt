@@ -7,7 +7,7 @@ use Rattle.re_given.proofs.GivenTables.{SolvableGiven-by}
 use Rattle.re_given.proofs.KnownViews.{payloads-known}
 use Rattle.re_given.proofs.MappingGiven.{IsInput-same, SolvableGiven-mapped, SolvableGiven-relaxed}
 use Rattle.re_given.proofs.SlowGiven.{Has-root, payload-shift, payloads-child}
-use Rattle.re_given.proofs.ZeroGiven.{Has-count}
+use Rattle.re_laws.proofs.Mapping.{count_of}
 use Rattle.re_given.specs.Given.{SolvableGiven, SolvesGivenBy, answer_known, around_known}
 use Rattle.re_given.specs.InputViews.{Fits, InputView, known, payloads}
 use Rattle.re_given.specs.Inputs.{IsInput}
@@ -37,8 +37,8 @@ at-paired' d m xs ys (suc k) low high = at-paired d m xs ys k (omega arith)
 -- pairs of a configuration of one constraint and one of the other
 Has-paired : (n m d : ℕ) (own given : Constraint) (xs ys : List ℕ) → IsConstraint n own → IsConstraint m given → own.degree ≡ d → given.degree ≡ d → Has own xs → Has given ys → Has (pairs_of n m own given) (paired d m xs ys)
 Has-paired n m d own given xs ys own_is given_is own_degree given_degree has has' =
-    let xs_count : length xs ≡ d = Has-count n own xs own_is has ∙ own_degree in
-    let ys_count : length ys ≡ d = Has-count m given ys given_is has' ∙ given_degree in
+    let xs_count : length xs ≡ d = count_of n own xs own_is has ∙ own_degree in
+    let ys_count : length ys ≡ d = count_of m given ys given_is has' ∙ given_degree in
     let low : AllByRecursion (λ y. y < m) ys = AllByRecursion-from_contains (λ y. y < m) ys (λ y held. Has-below m given ys given_is has' y held) in
     from_parts n m own given own_is given_is (paired d m xs ys)
     (subst (Has own) (sym (firsts-paired d m xs ys xs_count ys_count low)) has)

@@ -5,15 +5,17 @@ use Rattle.std.specs.List.{AllByRecursion}
 use Rattle.std.proofs.lemmas.List.{length-map}
 use Rattle.re_config.specs.Rows.{IsChoice, singles}
 use Rattle.re_given.proofs.SlowGiven.{SolvableGiven-zero}
-use Rattle.re_given.proofs.ZeroGiven.{Has-count, config-Has}
+use Rattle.re_given.proofs.ZeroGiven.{config-Has}
+use Rattle.re_laws.proofs.Mapping.{count_of}
+use Rattle.re_table.proofs.Closure.{Choice-singles}
 use Rattle.re_given.specs.Given.{SolvableGiven, ZeroGiven}
 use Rattle.re_given.specs.Inputs.{IsInput}
-use Rattle.re_labels.proofs.Membership.{Contains-cases, Contains-here, Contains-none}
+use Rattle.re_labels.proofs.Membership.{Contains-cases, Contains-none}
 use Rattle.re_problem.specs.Problems.{Problem}
 use Rattle.re_table.specs.Constraints.{Has}
 
 -- the only choice of one label each from sets of one label
-only_choice : (config labels : List ℕ) → IsChoice labels (singles config) → labels ≡ config
+pub only_choice : (config labels : List ℕ) → IsChoice labels (singles config) → labels ≡ config
 only_choice [] [] h = refl
 only_choice [] (x ∷ labels) h = absurd h
 only_choice (y ∷ config) [] h = absurd h
@@ -22,10 +24,6 @@ only_choice (y ∷ config) (x ∷ labels) h = same (Contains-cases x y [] h.0) (
     same : (x ≡ y) ⊎ Contains [] x → labels ≡ config → x ∷ labels ≡ y ∷ config
     same (inl e) rest = cc
     same (inr none) rest = absurd (Contains-none x none)
-
-own_choice : (config : List ℕ) → IsChoice config (singles config)
-own_choice [] = tt
-own_choice (x ∷ config) = (Contains-here x [], own_choice config)
 
 filled_singles : (config : List ℕ) → AllByRecursion (λ (s : List ℕ). 0 < length s) (singles config)
 filled_singles [] = tt
@@ -40,11 +38,11 @@ ZeroGiven-itself input is = (
     good = λ config held.
         let has : Has input.passive config = config-Has input.labels input.passive config is.is_problem.passive held in
         record {
-          count = length-map config (λ x. x ∷ []) ∙ Has-count input.labels input.passive config is.is_problem.passive has;
+          count = length-map config (λ x. x ∷ []) ∙ count_of input.labels input.passive config is.is_problem.passive has;
           filled = filled_singles config;
           choice = λ labels chosen. subst (Has input.passive) (sym (only_choice config labels chosen)) has;
         };
-    choice = λ config held. (config, own_choice config, config-Has input.labels input.active config is.is_problem.active held);
+    choice = λ config held. (config, Choice-singles config, config-Has input.labels input.active config is.is_problem.active held);
   },
 )
 

@@ -8,7 +8,7 @@ use Rattle.re_config.specs.Configs.{sorted}
 use Rattle.re_given.proofs.FastGiven.{back_range}
 use Rattle.re_given.proofs.Fitting.{FitsAround-shift}
 use Rattle.re_given.proofs.GivenTables.{SolvableGiven-by}
-use Rattle.re_given.proofs.ZeroGiven.{Has-count}
+use Rattle.re_laws.proofs.Mapping.{count_of}
 use Rattle.re_given.specs.Given.{SolvableGiven, SolvesGivenBy, answer_known, around_known}
 use Rattle.re_given.specs.InputViews.{Fits, InputView, known}
 use Rattle.re_given.specs.Inputs.{IsInput}
@@ -40,7 +40,7 @@ module _ (problem next input : Problem) (image : List ℕ → List ℕ) (T : ℕ
       let config : List ℕ = sorted labels in
       let held : Contains problem.active.configs config = solves.active v view fits in
       let count : length config ≡ length (image config) =
-      length-sorted labels ∙ Has-count problem.labels problem.active labels is.active held ∙ sym mapped.active_degree ∙ sym (Has-count next.labels next.active (image config) is_next.active (mapped.active config held)) in
+      length-sorted labels ∙ count_of problem.labels problem.active labels is.active held ∙ sym mapped.active_degree ∙ sym (count_of next.labels next.active (image config) is_next.active (mapped.active config held)) in
       AllZip-carried (Becomes problem.active image) (Rearranged-sym (Rearranged-sorted labels)) (image config)
       (AllZip-beside (Becomes problem.active image) config (image config) count (λ x y beside. (config, held, beside)))
 
@@ -56,7 +56,7 @@ module _ (problem next input : Problem) (image : List ℕ → List ℕ) (T : ℕ
           let u : InputView = shift (suc T) v (suc k) in
           let u_view : IsView problem.active.degree problem.passive.degree (suc T) u = IsView-shift problem.passive.degree problem.active.degree (suc T) v (suc k) c view (omega arith) (omega arith) at child in
           let u_fits : Fits input.active input.passive u = FitsAround-shift input.passive input.active problem.passive.degree problem.active.degree (suc T) v (suc k) c at child fits in
-          let count : length (f (known T u)) ≡ problem.active.degree = Has-count problem.labels problem.active (f (known T u)) is.active (solves.active u u_view u_fits) in
+          let count : length (f (known T u)) ≡ problem.active.degree = count_of problem.labels problem.active (f (known T u)) is.active (solves.active u u_view u_fits) in
           AllZip-at (Becomes problem.active image) (f (known T u)) (dealt image (f (known T u))) (pred (at_port (backs v) (suc k))) 0 0 (becomes_here u u_view u_fits) (omega arith)
 
   dealt_active : (labels : List ℕ) → Has problem.active labels → Has next.active (dealt image labels)

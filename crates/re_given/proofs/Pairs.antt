@@ -1,5 +1,5 @@
 -- Which pairs stand around the nodes of a product.
-use Rattle.std.proofs.Common.{◌≡◌, ℕ, suc, ◌+◌, ◌*◌, ◌/◌, ◌%◌, ◌≤◌, ◌<◌, Bool, List, filter, map, length, refl, sym, ◌∙◌, arith, one-add, subst}
+use Rattle.std.proofs.Common.{◌≡◌, ℕ, suc, ◌+◌, ◌*◌, ◌/◌, ◌%◌, ◌≤◌, ◌<◌, List, map, length, refl, sym, ◌∙◌, arith, one-add, subst}
 use Rattle.std.specs.Prelude.{Contains}
 use Rattle.std.specs.List.{AllByRecursion}
 use Rattle.std.proofs.Math.Nat.{mul_comm}
@@ -9,16 +9,16 @@ use Rattle.std.proofs.lemmas.Nat.{div-add-mod', div-mul-add, mod-mul-add, mul-ad
 use Rattle.re_config.proofs.LawsOfRows.{multisets_law}
 use Rattle.re_config.proofs.Rearranging.{Rearranged-map, Rearranged-sym}
 use Rattle.re_config.proofs.Sorting.{IsConfig-sorted, Rearranged-sorted}
-use Rattle.re_config.specs.Configs.{IsConfig, sorted}
+use Rattle.re_config.specs.Configs.{sorted}
 use Rattle.re_config.specs.Orders.{multisets}
 use Rattle.re_given.proofs.AllInputViews.{Has-below}
-use Rattle.re_given.proofs.ZeroGiven.{Has-count, config-Has}
+use Rattle.re_given.proofs.Colourings.{filtered_constraint}
+use Rattle.re_given.proofs.ZeroGiven.{config-Has}
+use Rattle.re_laws.proofs.Mapping.{count_of}
 use Rattle.re_given.specs.Inputs.{IsInput}
-use Rattle.re_labels.proofs.Before.{IsBefore-trans}
 use Rattle.re_labels.proofs.Membership.{AllByRecursion-contains, AllByRecursion-from_contains, Contains-filter, Contains-filter_cases, Contains-map}
-use Rattle.re_labels.proofs.Rising.{rising-filter}
 use Rattle.re_labels.proofs.Tests.{and-true, true-and}
-use Rattle.re_labels.specs.Lists.{IsBefore, count_from}
+use Rattle.re_labels.specs.Lists.{count_from}
 use Rattle.re_laws.proofs.Ports.{map-at_port, map-count}
 use Rattle.re_laws.specs.Algorithms.{at_port}
 use Rattle.re_problem.proofs.StepLaws.{map-map}
@@ -27,17 +27,6 @@ use Rattle.re_problem.specs.Steps.{IsRelaxed}
 use Rattle.re_given.specs.Products.{are_pairs, firsts, pairs_of, product, seconds}
 use Rattle.re_table.proofs.Goodness.{Has-Rearranged, Has-has_config, has_config-Has}
 use Rattle.re_table.specs.Constraints.{Constraint, Has, IsConstraint, has_config}
-
--- the multisets that pass a test are a constraint
-filtered_constraint : (d c : ℕ) (test : List ℕ → Bool) → 2 ≤ d → d ≤ 6 → IsConstraint c (record { degree = d; configs = filter test (multisets d 0 c) })
-filtered_constraint d c test low high =
-    let law = multisets_law d c in
-    record {
-      least = low;
-      most = high;
-      configs = AllByRecursion-from_contains (IsConfig d c) (filter test (multisets d 0 c)) (λ config held. (law.1 config).0 (Contains-filter_cases test (multisets d 0 c) config held).0);
-      ascends = rising-filter IsBefore IsBefore-trans test (multisets d 0 c) law.0;
-    }
 
 pair_below : (x n m : ℕ) → x / m < n → x % m < m → x < n * m
 pair_below x n m l r =
@@ -63,7 +52,7 @@ module _ (n m : ℕ) (own given : Constraint) where
       (Has-has_config given (seconds m (sorted pairs)) (Has-Rearranged given (Rearranged-map (λ pair. pair % m) (Rearranged-sorted pairs)) has')))
     where
       count : length pairs ≡ own.degree
-      count = sym (length-map pairs (λ pair. pair / m)) ∙ Has-count n own (firsts m pairs) own_is has
+      count = sym (length-map pairs (λ pair. pair / m)) ∙ count_of n own (firsts m pairs) own_is has
 
       below : AllByRecursion (λ x. x < n * m) pairs
       below = AllByRecursion-from_contains (λ x. x < n * m) pairs (λ x held. pair_below x n m

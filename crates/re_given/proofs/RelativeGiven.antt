@@ -11,7 +11,7 @@ use Rattle.re_given.proofs.Fitting.{FitsAround-shift}
 use Rattle.re_given.proofs.GivenTables.{SolvableGiven-by}
 use Rattle.re_given.proofs.MappingGiven.{IsInput-same}
 use Rattle.re_given.proofs.SlowGiven.{at_port-around, choice_from, choice_is, chosen_within, good_choice}
-use Rattle.re_given.proofs.ZeroGiven.{Has-count}
+use Rattle.re_laws.proofs.Mapping.{count_of}
 use Rattle.re_given.specs.Given.{SolvableGiven, SolvesGivenBy, ZeroGiven, answer_known, around_known}
 use Rattle.re_given.specs.InputViews.{Fits, InputView, known}
 use Rattle.re_given.specs.Inputs.{IsInput, exchanged, exchanged_by}
@@ -55,7 +55,7 @@ module _ (problem input given : Problem) (S : ℕ) (A : InputView → List ℕ) 
           let high : c.back ≤ problem.active.degree = child.most in
           let u_view : IsView problem.active.degree problem.passive.degree (suc S) u = IsView-shift problem.passive.degree problem.active.degree (suc S) s (suc k) c view (omega arith) (omega arith) at child in
           let u_fits : Fits given.active given.passive u = FitsAround-shift given.passive given.active problem.passive.degree problem.active.degree (suc S) s (suc k) c at child fits in
-          let count : length (A (known S u)) ≡ problem.active.degree = Has-count input.labels input.active (A (known S u)) is.active (solved_active u u_view u_fits) ∙ upper.passive_degree in
+          let count : length (A (known S u)) ≡ problem.active.degree = count_of input.labels input.active (A (known S u)) is.active (solved_active u u_view u_fits) ∙ upper.passive_degree in
           let row_count : length row ≡ problem.passive.degree = length-ports (λ port. at_port (A (known S (shift (suc S) s port))) (at_port (backs s) port)) 1 problem.passive.degree in
           let back_is : at_port (backs s) (suc k) ≡ c.back = backs-child k c s at in
           let label_is : at_port (A (known S u)) c.back ≡ get_or row k 0 = sym (at_port-around problem.passive.degree S A s (suc k) (omega arith) (omega arith) ∙ ap (at_port (A (known S u))) back_is) in

@@ -1,8 +1,7 @@
 -- An orientation that is given, and the relaxation of sinkless orientation given colourings.
-use Rattle.std.proofs.Common.{◌<◌, ℕ, zero, suc, List, [], ◌∷◌, map, refl, sym, subst, arith, inl, inr, ◌≤◌, ◌≡◌}
+use Rattle.std.proofs.Common.{◌<◌, ℕ, zero, suc, List, [], ◌∷◌, map, refl, sym, subst, arith, inl, inr, ◌≤◌}
 use Rattle.std.specs.Prelude.{Contains, replicate}
-use Rattle.std.specs.List.{AllByRecursion}
-use Rattle.re_config.specs.Configs.{IsConfig, sorted}
+use Rattle.re_config.specs.Configs.{sorted}
 use Rattle.re_config.proofs.Rearranging.{Contains-Rearranged, Rearranged-sym}
 use Rattle.re_config.proofs.Sorting.{Rearranged-sorted}
 use Rattle.re_config.specs.Rows.{IsChoice}
@@ -13,7 +12,7 @@ use Rattle.re_given.specs.Examples.{edge_colouring}
 use Rattle.re_given.specs.Given.{SolvableGiven, ZeroGiven}
 use Rattle.re_given.specs.Inputs.{IsInput}
 use Rattle.re_given.specs.Unavoidable.{colouring}
-use Rattle.re_labels.proofs.Membership.{AllByRecursion-contains, Contains-cases, Contains-none}
+use Rattle.re_labels.proofs.Membership.{Contains-cases, Contains-none}
 use Rattle.re_laws.specs.Chains as chain
 use Rattle.re_laws.specs.Chains.{IsLowerChain}
 use Rattle.re_problem.proofs.DerivedProblem.{IsProblem-derived}
@@ -71,7 +70,7 @@ orientation_given = SolvableGiven-itself orientation IsInput-orientation
 
 -- ---- the relaxation of sinkless orientation
 -- what it is derived twice
-abbrev turned : Problem
+abbrev pub turned : Problem
 turned = record {
   labels = 2;
   active = record { degree = 3; configs = (0 ∷ 1 ∷ 1 ∷ []) ∷ [] };
@@ -79,11 +78,11 @@ turned = record {
 }
 
 -- with the labels exchanged it is the first problem
-turn : ℕ → ℕ
+pub turn : ℕ → ℕ
 turn zero = 1
 turn (suc x) = 0
 
-turned_relaxed : IsRelaxed turned relaxed_sinkless turn
+pub turned_relaxed : IsRelaxed turned relaxed_sinkless turn
 unfolding turn
 turned_relaxed = record {
   active_degree = refl;
@@ -101,19 +100,19 @@ turned_relaxed = record {
   ];
 }
 
-back_relaxed : IsRelaxed (derived_by 2 relaxed_sinkless) relaxed_sinkless turn
+pub back_relaxed : IsRelaxed (derived_by 2 relaxed_sinkless) relaxed_sinkless turn
 back_relaxed = subst (λ last. IsRelaxed last relaxed_sinkless turn) (sym relaxed_sinkless_twice) turned_relaxed
 
-once_is : IsProblem (derived relaxed_sinkless)
+pub once_is : IsProblem (derived relaxed_sinkless)
 once_is = IsProblem-derived relaxed_sinkless IsProblem-relaxed_sinkless
 
-twice_is : IsProblem (derived_by 2 relaxed_sinkless)
+pub twice_is : IsProblem (derived_by 2 relaxed_sinkless)
 twice_is = IsProblem-derived (derived relaxed_sinkless) once_is
 
 itself : (problem : Problem) → IsProblem problem → IsMapped problem problem (map (λ x. x))
 itself problem is = IsMapped-relaxed problem problem (λ x. x) (IsRelaxed-itself problem is)
 
-abbrev two_steps : IsLowerChain relaxed_sinkless 2 (derived_by 2 relaxed_sinkless)
+abbrev pub two_steps : IsLowerChain relaxed_sinkless 2 (derived_by 2 relaxed_sinkless)
 two_steps =
     chain.IsLowerChain.step once_is (itself (derived relaxed_sinkless) once_is)
     (chain.IsLowerChain.step twice_is (itself (derived_by 2 relaxed_sinkless) twice_is) chain.IsLowerChain.done)

@@ -5,8 +5,8 @@ use Rattle.std.specs.List.{AllZip, list_any}
 use Rattle.std.proofs.lemmas.List.{get_or_default, length-map}
 use Rattle.std.proofs.lemmas.List.Elements.{Contains-get_or, same_from_all_zip}
 use Rattle.re_config.proofs.Rearranging.{AllZip-flip, Rearranged-sym, length-AllZip}
-use Rattle.re_config.proofs.Sorting.{length-sorted, sorted_again}
-use Rattle.re_config.specs.Configs.{IsConfig, sorted}
+use Rattle.re_config.proofs.Sorting.{sorted_again}
+use Rattle.re_config.specs.Configs.{IsConfig}
 use Rattle.re_config.specs.Rows.{IsChoice}
 use Rattle.re_given.proofs.AllInputViews.{Contains-fitting, Has-below, fitting-IsView, fitting_views}
 use Rattle.re_given.proofs.Fitting.{Rearranged-front}
@@ -44,10 +44,6 @@ config-Has n constraint config is held =
     let config_is : IsConfig constraint.degree n config = AllByRecursion-contains (IsConfig constraint.degree n) constraint.configs config is.configs held in
     rw (sorted_again config config_is.ascends) held
 
-pub Has-count : (n : ℕ) (constraint : Constraint) (labels : List ℕ) → IsConstraint n constraint → Has constraint labels → length labels ≡ constraint.degree
-Has-count n constraint labels is has =
-    sym (length-sorted labels) ∙ (AllByRecursion-contains (IsConfig constraint.degree n) constraint.configs (sorted labels) is.configs has).count
-
 -- a set with a label isn't empty
 pub some : (set : List ℕ) (x : ℕ) → Contains set x → 0 < length set
 some [] x (j, m, e) = absurd (omega arith)
@@ -55,7 +51,7 @@ some (y ∷ set) x held = omega arith
 
 module _ (problem input : Problem) (is : IsProblem problem) (is_input : IsInput problem input) (r : ℕ) (f : InputView → List ℕ) (solves : SolvesGivenBy problem input r f) where
   pub count_is : (u : InputView) → IsView problem.active.degree problem.passive.degree (suc r) u → Fits input.active input.passive u → length (f (known r u)) ≡ problem.active.degree
-  count_is u view fits = Has-count problem.labels problem.active (f (known r u)) is.active (solves.active u view fits)
+  count_is u view fits = count_of problem.labels problem.active (f (known r u)) is.active (solves.active u view fits)
 
   -- what a node that passes puts there is among them
   pub beside_at : (test : InputView → ℕ → Bool) (u : InputView) (q : ℕ) → IsView problem.active.degree problem.passive.degree (suc r) u → Fits input.active input.passive u → 1 ≤ q → q ≤ problem.active.degree → test u q ≡ true
@@ -123,13 +119,13 @@ module _ (problem input : Problem) (is : IsProblem problem) (is_input : IsInput 
   view_of : (config : List ℕ) → Contains input.active.configs config → IsView problem.active.degree problem.passive.degree 1 (list_view config) × Fits input.active input.passive (list_view config)
   view_of config held =
       let has : Has input.active config = config-Has input.labels input.active config is_input.is_problem.active held in
-      let count : length config ≡ problem.active.degree = Has-count input.labels input.active config is_input.is_problem.active has ∙ is_input.active_degree in (
+      let count : length config ≡ problem.active.degree = count_of input.labels input.active config is_input.is_problem.active has ∙ is_input.active_degree in (
         subst (λ n. IsTree problem.active.degree problem.passive.degree 1 n (list_view config)) count (IsTree-list_view problem.active.degree problem.passive.degree config passive_some),
         FitsAround-list_view input.active input.passive config [] (subst (Has input.active) (sym (append-nil config)) has),
       )
 
   count_of : (config : List ℕ) → Contains input.active.configs config → length config ≡ problem.active.degree
-  count_of config held = Has-count input.labels input.active config is_input.is_problem.active (config-Has input.labels input.active config is_input.is_problem.active held) ∙ is_input.active_degree
+  count_of config held = count_of input.labels input.active config is_input.is_problem.active (config-Has input.labels input.active config is_input.is_problem.active held) ∙ is_input.active_degree
 
   -- what stands at a place of a configuration is put beside the input label there
   put_beside : (config : List ℕ) → Contains input.active.configs config → (k : ℕ) → k < problem.active.degree → Contains (sets_given (get_or config k 0)) (at_port (f (known 0 (list_view config))) (suc k))
@@ -173,7 +169,7 @@ module _ (problem input : Problem) (is : IsProblem problem) (is_input : IsInput 
       has = config-Has input.labels input.passive config is_input.is_problem.passive held
 
       count : length config ≡ problem.passive.degree
-      count = Has-count input.labels input.passive config is_input.is_problem.passive has ∙ is_input.passive_degree
+      count = count_of input.labels input.passive config is_input.is_problem.passive has ∙ is_input.passive_degree
 
       go : (near : List Neighbour) × (length near ≡ problem.passive.degree) × ((k : ℕ) → k < problem.passive.degree → Puts (at_port config (1 + k)) (get_or labels k 0) (get_or near k no_neighbour)) → Has problem.passive labels
       go (near, near_count, each) = subst (Has problem.passive) shown (solves.passive (joined near) view fits)
@@ -212,7 +208,7 @@ module _ (problem input : Problem) (is : IsProblem problem) (is_input : IsInput 
     good = λ config held.
         let has : Has input.passive config = config-Has input.labels input.passive config is_input.is_problem.passive held in
         record {
-          count = length-map config sets_given ∙ (Has-count input.labels input.passive config is_input.is_problem.passive has ∙ is_input.passive_degree);
+          count = length-map config sets_given ∙ (count_of input.labels input.passive config is_input.is_problem.passive has ∙ is_input.passive_degree);
           filled = AllByRecursion-from_contains (λ (s : List ℕ). 0 < length s) (map sets_given config) (λ s at.
               let (z, z_in, same) = Contains-map_cases sets_given config s at in
               subst (λ (s : List ℕ). 0 < length s) same (given_some z ((both_occur problem input is_input z).1 (config, held, z_in))));

@@ -1,5 +1,5 @@
 -- Identifiers are an input problem where each has an edge at each port.
-use Rattle.std.proofs.Common.{◌≡◌, ℕ, zero, suc, ◌+◌, ◌-◌, ◌*◌, ◌/◌, ◌%◌, ◌≤◌, ◌<◌, Bool, true, false, cond, leb, ◌||◌, List, [], ◌∷◌, map, filter, length, refl, sym, subst, arith, inl, inr}
+use Rattle.std.proofs.Common.{◌≡◌, ℕ, zero, suc, ◌+◌, ◌-◌, ◌*◌, ◌/◌, ◌%◌, ◌≤◌, ◌<◌, Bool, true, false, cond, leb, ◌||◌, [], ◌∷◌, map, filter, length, refl, sym, subst, arith, inl, inr}
 use Rattle.std.specs.Prelude.{Contains}
 use Rattle.std.proofs.Math.Nat.{le-mul_of_pos_right, mul_comm}
 use Rattle.std.proofs.lemmas.Nat.{div-add-mod', div-mul-add, div_below, mod-mul-add, mod_below, mul-add-lt}
@@ -11,20 +11,16 @@ use Rattle.re_given.proofs.GrownInputs.{Has-occurs}
 use Rattle.re_given.specs.Identifiers.{IdGraph, JoinsAlike, are_joined, id_labels, identifiers}
 use Rattle.re_given.specs.Inputs.{IsInput}
 use Rattle.re_labels.proofs.Before.{IsBefore-head, IsBefore-trans}
-use Rattle.re_labels.proofs.Membership.{AllByRecursion-contains, AllByRecursion-from_contains, Contains-count_from, Contains-filter, Contains-filter_cases, Contains-here, Contains-map, Contains-map_cases, count_from_range, length-count_from}
+use Rattle.re_labels.proofs.Membership.{AllByRecursion-from_contains, Contains-count_from, Contains-filter, Contains-filter_cases, Contains-here, Contains-map, Contains-map_cases, count_from_range, length-count_from}
+use Rattle.re_given.proofs.Colourings.{rising_weakly}
 use Rattle.re_labels.proofs.Numbers.{IsLabelSet-count_from}
 use Rattle.re_labels.proofs.Rising.{rising-filter, rising-map}
 use Rattle.re_labels.proofs.Tests.{or-left, or-right, or-true}
-use Rattle.re_labels.specs.Lists.{IsBefore, IsRising, count_from}
+use Rattle.re_labels.specs.Lists.{IsBefore, count_from}
 use Rattle.re_local.specs.Separating.{HasEdge}
 use Rattle.re_problem.specs.NamedProblems.{OccursIn}
 use Rattle.re_problem.specs.Problems.{IsProblem, Problem}
-use Rattle.re_table.specs.Constraints.{Constraint, Has, IsConstraint}
-
-rising_weakly : (xs : List ℕ) → IsRising (λ x y. x < y) xs → IsRising (λ x y. x ≤ y) xs
-rising_weakly [] h = tt
-rising_weakly (x ∷ []) h = tt
-rising_weakly (x ∷ y ∷ xs) h = (let l = h.0 in omega arith, rising_weakly (y ∷ xs) h.1)
+use Rattle.re_table.specs.Constraints.{Has, IsConstraint}
 
 module _ (a N : ℕ) (graph : IdGraph) where
   labels_is : (x : ℕ) → x < N → IsConfig a (a * N) (id_labels a x)

@@ -1,11 +1,11 @@
 -- The relaxation of sinkless orientation, where nodes have identifiers.
-use Rattle.std.proofs.Common.{◌<◌, ℕ, zero, suc, List, [], ◌∷◌, map, refl, sym, subst, arith, inl, inr, ◌≤◌, ◌≡◌}
+use Rattle.std.proofs.Common.{◌<◌, ℕ, ◌∷◌, refl, sym, subst, arith, ◌≤◌, ◌≡◌}
 use Rattle.std.specs.List.{AllByRecursion}
 use Rattle.re_config.specs.Orders.{placements}
 use Rattle.re_labels.specs.Sets.{set_of}
+use Rattle.re_given.proofs.Worked.{back_relaxed, turn, twice_is, two_steps}
 use Rattle.re_given.specs.Identifiers.{IdGraph}
 use Rattle.re_given.specs.Unavoidable.{reached}
-use Rattle.re_labels.proofs.Membership.{Contains-cases, Contains-none}
 use Rattle.re_laws.proofs.SlowRounds.{Solvable-from_derived}
 use Rattle.re_laws.proofs.Worked.{relaxed_sinkless_not_solvable}
 use Rattle.re_laws.proofs.ZeroRounds.{Solvable-zero}
@@ -16,63 +16,11 @@ use Rattle.re_local.proofs.LocalBounds.{fixed_point_local}
 use Rattle.re_local.proofs.LocalGiven.{SolvableLabelled-local}
 use Rattle.re_local.specs.LocalAlgorithms.{SolvableLocal}
 use Rattle.re_local.specs.Separating.{Separates, complete}
-use Rattle.re_problem.proofs.DerivedProblem.{IsProblem-derived}
 use Rattle.re_problem.proofs.Examples.{IsProblem-relaxed_sinkless, relaxed_sinkless_twice}
-use Rattle.re_problem.proofs.StepLaws.{IsMapped-relaxed, IsRelaxed-itself}
 use Rattle.re_problem.specs.Derived.{derived, derived_by}
 use Rattle.re_problem.specs.Examples.{relaxed_sinkless}
-use Rattle.re_problem.specs.Problems.{IsProblem, Problem}
-use Rattle.re_problem.specs.Steps.{IsMapped, IsRelaxed}
+use Rattle.re_problem.specs.Problems.{Problem}
 use Rattle.re_problem.specs.Zero.{Zero}
-use Rattle.re_table.specs.Constraints.{Has}
-
--- what it is derived twice
-abbrev turned : Problem
-turned = record {
-  labels = 2;
-  active = record { degree = 3; configs = (0 ∷ 1 ∷ 1 ∷ []) ∷ [] };
-  passive = record { degree = 2; configs = (0 ∷ 1 ∷ []) ∷ (1 ∷ 1 ∷ []) ∷ [] };
-}
-
--- with the labels exchanged it is the first problem
-turn : ℕ → ℕ
-turn zero = 1
-turn (suc x) = 0
-
-turned_relaxed : IsRelaxed turned relaxed_sinkless turn
-unfolding turn
-turned_relaxed = record {
-  active_degree = refl;
-  passive_degree = refl;
-  active = λ config held. elim (Contains-cases config (0 ∷ 1 ∷ 1 ∷ []) [] held) [
-    | inl e ↦ subst (λ (c : List ℕ). Has relaxed_sinkless.active (map turn c)) (sym e) (0, omega arith, refl)
-    | inr none ↦ absurd (Contains-none config none)
-  ];
-  passive = λ config held. elim (Contains-cases config (0 ∷ 1 ∷ []) ((1 ∷ 1 ∷ []) ∷ []) held) [
-    | inl e ↦ subst (λ (c : List ℕ). Has relaxed_sinkless.passive (map turn c)) (sym e) (1, omega arith, refl)
-    | inr more ↦ elim (Contains-cases config (1 ∷ 1 ∷ []) [] more) [
-      | inl e ↦ subst (λ (c : List ℕ). Has relaxed_sinkless.passive (map turn c)) (sym e) (0, omega arith, refl)
-      | inr none ↦ absurd (Contains-none config none)
-    ]
-  ];
-}
-
-back_relaxed : IsRelaxed (derived_by 2 relaxed_sinkless) relaxed_sinkless turn
-back_relaxed = subst (λ last. IsRelaxed last relaxed_sinkless turn) (sym relaxed_sinkless_twice) turned_relaxed
-
-once_is : IsProblem (derived relaxed_sinkless)
-once_is = IsProblem-derived relaxed_sinkless IsProblem-relaxed_sinkless
-
-twice_is : IsProblem (derived_by 2 relaxed_sinkless)
-twice_is = IsProblem-derived (derived relaxed_sinkless) once_is
-
-itself : (problem : Problem) → IsProblem problem → IsMapped problem problem (map (λ x. x))
-itself problem is = IsMapped-relaxed problem problem (λ x. x) (IsRelaxed-itself problem is)
-
-abbrev two_steps : IsLowerChain relaxed_sinkless 2 (derived_by 2 relaxed_sinkless)
-two_steps =
-    chain.IsLowerChain.step once_is (itself (derived relaxed_sinkless) once_is)
-    (chain.IsLowerChain.step twice_is (itself (derived_by 2 relaxed_sinkless) twice_is) chain.IsLowerChain.done)
 
 once_few : (derived relaxed_sinkless).labels ≤ 2
 unfolding set_of placements

@@ -109,7 +109,7 @@ once_is = IsProblem-derived relaxed_sinkless IsProblem-relaxed_sinkless
 pub twice_is : IsProblem (derived_by 2 relaxed_sinkless)
 twice_is = IsProblem-derived (derived relaxed_sinkless) once_is
 
-itself : (problem : Problem) → IsProblem problem → IsMapped problem problem (map (λ x. x))
+pub itself : (problem : Problem) → IsProblem problem → IsMapped problem problem (map (λ x. x))
 itself problem is = IsMapped-relaxed problem problem (λ x. x) (IsRelaxed-itself problem is)
 
 abbrev pub two_steps : IsLowerChain relaxed_sinkless 2 (derived_by 2 relaxed_sinkless)

@@ -22,6 +22,7 @@ use Rattle.re_labels.proofs.Numbers.{IsLabelSet-count_from, IsLabelSet-filter}
 use Rattle.re_labels.proofs.Tests.{and-true, eqb-same, eqb-true, true-and}
 use Rattle.re_labels.specs.Lists.{count_from}
 use Rattle.re_labels.specs.Sets.{IsIn, IsLabelSet}
+use Rattle.re_laws.proofs.Mapping.{count_of}
 use Rattle.re_laws.proofs.FastRounds.{collected}
 use Rattle.re_laws.proofs.Ports.{AllZip-count, map-at_port}
 use Rattle.re_laws.specs.Algorithms.{at_port}
@@ -124,8 +125,8 @@ module _ (problem input : Problem) (is : IsProblem problem) (is_input : IsInput 
         FitsAround-list_view input.active input.passive config [] (subst (Has input.active) (sym (append-nil config)) has),
       )
 
-  count_of : (config : List ℕ) → Contains input.active.configs config → length config ≡ problem.active.degree
-  count_of config held = count_of input.labels input.active config is_input.is_problem.active (config-Has input.labels input.active config is_input.is_problem.active held) ∙ is_input.active_degree
+  ports_count : (config : List ℕ) → Contains input.active.configs config → length config ≡ problem.active.degree
+  ports_count config held = count_of input.labels input.active config is_input.is_problem.active (config-Has input.labels input.active config is_input.is_problem.active held) ∙ is_input.active_degree
 
   -- what stands at a place of a configuration is put beside the input label there
   put_beside : (config : List ℕ) → Contains input.active.configs config → (k : ℕ) → k < problem.active.degree → Contains (sets_given (get_or config k 0)) (at_port (f (known 0 (list_view config))) (suc k))
@@ -137,7 +138,7 @@ module _ (problem input : Problem) (is : IsProblem problem) (is_input : IsInput 
   given_some : (z : ℕ) → OccursIn input.active z → 0 < length (sets_given z)
   given_some z (config, held, (k, l, e)) =
       let at : get_or config k 0 ≡ z = get_or_default config k 0 z l ∙ e in
-      some (sets_given z) (at_port (f (known 0 (list_view config))) (suc k)) (subst (λ y. Contains (sets_given y) (at_port (f (known 0 (list_view config))) (suc k))) at (put_beside config held k (omega (arith, count_of config held))))
+      some (sets_given z) (at_port (f (known 0 (list_view config))) (suc k)) (subst (λ y. Contains (sets_given y) (at_port (f (known 0 (list_view config))) (suc k))) at (put_beside config held k (omega (arith, ports_count config held))))
 
   allowed_given : (config : List ℕ) → Contains input.active.configs config → IsAllowed problem.active (map sets_given config)
   allowed_given config held =
@@ -148,7 +149,7 @@ module _ (problem input : Problem) (is : IsProblem problem) (is_input : IsInput 
       AllZip-count (λ set x. IsIn x set) (λ port. sets_given (at_port config port)) 1 problem.active.degree labels count (λ k d l.
       let default : get_or labels k 0 ≡ get_or labels k d = get_or_default labels k 0 d (omega (arith, count)) in
       rw (one-add, ← default) (put_beside config held k l)) in
-      let chosen : AllZip (λ set x. IsIn x set) (map sets_given config) labels = subst (λ row. AllZip (λ set x. IsIn x set) row labels) (map-at_port sets_given config problem.active.degree (count_of config held)) zip in
+      let chosen : AllZip (λ set x. IsIn x set) (map sets_given config) labels = subst (λ row. AllZip (λ set x. IsIn x set) row labels) (map-at_port sets_given config problem.active.degree (ports_count config held)) zip in
       (labels, AllZip-flip (λ set x. IsIn x set) (map sets_given config) labels chosen, solves.active (list_view config) view fits)
 
   -- a neighbour on an edge with that input label that puts that label on it

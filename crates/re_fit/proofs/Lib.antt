@@ -4,5 +4,4 @@ pub mod Images
 pub mod InOrder
 pub mod Judged
 pub mod LastLabels
-pub mod Loops
 pub mod Told

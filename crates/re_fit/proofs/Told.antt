@@ -22,6 +22,7 @@ use Rattle.re_entry_clauses.specs.LabelsOver.{labels_over}
 use Rattle.re_entry_clauses.specs.RowEntries.{row_entries}
 use Rattle.re_entry_clauses.specs.StepClauses.{KeepsAllowed}
 use Rattle.re_clauses.specs.Clauses.{keep_allowed}
+use Rattle.re_given.proofs.ZeroGiven.{some}
 use Rattle.re_given.proofs.GrownInputs.{both_occur}
 use Rattle.re_given.specs.Given.{ZeroGiven}
 use Rattle.re_given.specs.Inputs.{IsInput}
@@ -81,10 +82,6 @@ over-low n sets labels x y low held =
     let (there, holds) = Contains-filter_cases (λ (f : SetEntry). has f.set x) entries e among in
     subst (λ z. z < n) same (entry-low n sets labels e low (Contains-In e entries there))
 
-some_in : (set : List ℕ) (x : ℕ) → Contains set x → 0 < length set
-some_in [] x held = absurd (Contains-none x held)
-some_in (y ∷ set) x held = omega arith
-
 -- each set of which there is a choice has a label
 choice-filled : (sets : ℕ → List ℕ) (config labels : List ℕ) (x : ℕ) → IsChoice labels (map sets config) → Contains config x → 0 < length (sets x)
 choice-filled sets [] labels x chosen held = absurd (Contains-none x held)
@@ -92,7 +89,7 @@ choice-filled sets (y ∷ config) [] x chosen held = absurd chosen
 choice-filled sets (y ∷ config) (l ∷ labels) x chosen held = go (Contains-cases x y config held) (λ later. choice-filled sets config labels x chosen.1 later)
   where
     go : (x ≡ y) ⊎ Contains config x → (Contains config x → 0 < length (sets x)) → 0 < length (sets x)
-    go (inl same) others = subst (λ z. 0 < length (sets z)) (sym same) (some_in (sets y) l chosen.0)
+    go (inl same) others = subst (λ z. 0 < length (sets z)) (sym same) (some (sets y) l chosen.0)
     go (inr later) others = others later
 
 filled-each : (sets : ℕ → List ℕ) (config : List ℕ) → ((x : ℕ) → Contains config x → 0 < length (sets x)) → AllByRecursion (λ (s : List ℕ). 0 < length s) (map sets config)

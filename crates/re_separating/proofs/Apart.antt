@@ -17,8 +17,8 @@ use Rattle.re_local.specs.LocalAlgorithms.{AreDifferent, behind_active, behind_p
 use Rattle.re_local.specs.Separating.{AreApart}
 use Rattle.re_separating.proofs.Matched.{matched, matched_edge, one_place, one_place_below, other_place, other_place_below, places, port_of, port_one, port_other}
 use Rattle.re_separating.proofs.Pruned.{renamed}
-use Rattle.re_sparse.proofs.Walks.{joined, turned}
-use Rattle.re_sparse.specs.Hypergraphs.{Hyper, IsHyper, IsSparse, On, Walk, one, step}
+use Rattle.re_separating.proofs.Walks.{joined, turned}
+use Rattle.re_separating.specs.Hypergraphs.{Hyper, IsHyper, IsSparse, On, Walk, one, step}
 use Rattle.re_table.specs.Constraints.{Has}
 use Rattle.re_views.specs.Trees.{IsTree, IsView, end, leaf, more}
 

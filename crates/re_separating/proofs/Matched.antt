@@ -9,7 +9,7 @@ use Rattle.re_labels.proofs.Membership.{Contains-count_from, any_found, any_true
 use Rattle.re_labels.proofs.Tests.{and-true, eqb-same, eqb-true, true-and}
 use Rattle.re_labels.specs.Lists.{count_from}
 use Rattle.re_separating.proofs.Pruned.{IsJoined, JoinsWithin}
-use Rattle.re_sparse.specs.Hypergraphs.{Hyper, IsHyper, IsUncolourable}
+use Rattle.re_separating.specs.Hypergraphs.{Hyper, IsHyper, IsUncolourable}
 
 -- the two places of the pair for ports i and j, of a ports
 abbrev pub one_place : ℕ → ℕ → ℕ → ℕ

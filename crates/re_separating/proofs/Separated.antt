@@ -9,7 +9,7 @@ use Rattle.re_separating.proofs.Apart.{AreApart-matched}
 use Rattle.re_separating.proofs.Matched.{JoinsAlike-within, matched, matched_joins, places}
 use Rattle.re_separating.proofs.Pruned.{Pruned, pruned, renamed}
 use Rattle.re_separating.specs.Laws.{IsBeyondLocal, SeparatingLaw, SinklessUniqueLaw}
-use Rattle.re_sparse.proofs.Sparse.{sparse_hyper}
+use Rattle.re_separating.proofs.Sparse.{sparse_hyper}
 
 pub separating : SeparatingLaw
 separating a n T some =

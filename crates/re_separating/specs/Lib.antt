@@ -1,1 +1,2 @@
+pub mod Hypergraphs
 pub mod Laws

@@ -1,7 +1,15 @@
-//! Graphs of identifiers on whose trees all identifiers that a node of so many rounds sees are different: laws alone, no code.
+//! Hypergraphs without short closed walks that few colours don't colour properly; and of them graphs of identifiers on whose trees all
+//! identifiers that a node of so many rounds sees are different: laws alone, no code.
 #![tactic(auto)]
 
+ghost use Rattle.re_separating.specs.Hypergraphs.{SparseLaw};
 ghost use Rattle.re_separating.specs.Laws.{SeparatingLaw, SinklessUniqueLaw};
+
+/// For all r, m and g there is a hypergraph, each of whose edges has r different points, without closed walks of up to g steps, such that each
+/// colouring of its points with m colours has an edge of one colour (Erdős and Hajnal; by Nešetřil and Rödl's amalgamation of partite systems).
+pub fn sparse_law()
+    ensures { SparseLaw }
+{}
 
 /// For each number of ports from 1 on, of labels and of rounds there is a graph of identifiers that separates: the edges of a hypergraph without
 /// short closed walks, each with a pair of its points for each two ports, and without the identifiers that lack an edge at a port.

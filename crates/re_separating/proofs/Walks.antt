@@ -1,6 +1,6 @@
 -- Walks in hypergraphs.
 use Rattle.std.proofs.Common.{◌≡◌, ℕ, ◌+◌, ◌≤◌, sym, subst, arith}
-use Rattle.re_sparse.specs.Hypergraphs.{Hyper, On, Walk, one, step}
+use Rattle.re_separating.specs.Hypergraphs.{Hyper, On, Walk, one, step}
 
 module _ {V : Type 0} {r : ℕ} {hyper : Hyper V} where
   pub walk_some : {k e l : ℕ} {x y : V} → Walk r hyper k e l x y → 1 ≤ k

@@ -3,8 +3,8 @@ use Rattle.std.proofs.Common.{◌≡◌, ℕ, zero, suc, ◌+◌, ◌*◌, ◌/�
 use Rattle.std.specs.Prelude.{◌⊎◌}
 use Rattle.std.proofs.lemmas.Bool.Decides.{eqb_tells}
 use Rattle.std.proofs.lemmas.Nat.{div-add-mod', div_below, mod_below, same_from_place}
-use Rattle.re_sparse.proofs.Walks.{joined, walk_first, walk_last, walk_some}
-use Rattle.re_sparse.specs.Hypergraphs.{Hyper, IsHyper, IsSparse, On, Walk, one, step}
+use Rattle.re_separating.proofs.Walks.{joined, walk_first, walk_last, walk_some}
+use Rattle.re_separating.specs.Hypergraphs.{Hyper, IsHyper, IsSparse, On, Walk, one, step}
 
 -- a point of a system: its part, and its number in the part
 abbrev pub Point : Type 0

@@ -3,8 +3,8 @@ use Rattle.std.proofs.Common.{◌≡◌, ℕ, zero, suc, ◌+◌, ◌*◌, ◌/�
 use Rattle.std.proofs.Math.Nat.{pow-succ', pow-zero}
 use Rattle.std.proofs.lemmas.Bool.Decides.{eqb_tells, leb_tells, nat_tests}
 use Rattle.std.proofs.lemmas.Nat.{div-mul-add, mod-mul-add, mod_below, mul-add-lt}
-use Rattle.re_sparse.proofs.Walks.{walk_some}
-use Rattle.re_sparse.specs.Hypergraphs.{Hyper, IsHyper, IsSparse, Walk, one, step}
+use Rattle.re_separating.proofs.Walks.{walk_some}
+use Rattle.re_separating.specs.Hypergraphs.{Hyper, IsHyper, IsSparse, Walk, one, step}
 
 -- however all numbers are coloured with m colours, some edge has all its points of one colour
 abbrev pub IsUncoloured : ℕ → ℕ → Hyper ℕ → Type 0

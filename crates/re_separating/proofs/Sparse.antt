@@ -2,11 +2,11 @@
 use Rattle.std.proofs.Common.{◌≡◌, ℕ, zero, suc, ◌+◌, ◌*◌, ◌<◌, true, cond, ltb, inl, inr, refl, sym, ◌∙◌, ap, subst, arith, lt-ltb}
 use Rattle.std.proofs.lemmas.Bool.Decides.{leb_tells}
 use Rattle.std.proofs.lemmas.Nat.{mul-add-lt, same_from_place}
-use Rattle.re_sparse.proofs.Amalgam.{IsPartite, Point, same_point}
-use Rattle.re_sparse.proofs.Ascending.{IsHyper-ascending, IsUncoloured, ascending_edges, ascending_sparse, ascending_uncoloured}
-use Rattle.re_sparse.proofs.Stages.{IsUncolouredFrom, Stage, Uncoloured, stage}
-use Rattle.re_sparse.proofs.Walks.{walk_first, walk_last}
-use Rattle.re_sparse.specs.Hypergraphs.{Hyper, IsHyper, IsSparse, IsUncolourable, On, SparseLaw, Walk, one, step}
+use Rattle.re_separating.proofs.Amalgam.{IsPartite, Point, same_point}
+use Rattle.re_separating.proofs.Ascending.{IsHyper-ascending, IsUncoloured, ascending_edges, ascending_sparse, ascending_uncoloured}
+use Rattle.re_separating.proofs.Stages.{IsUncolouredFrom, Stage, Uncoloured, stage}
+use Rattle.re_separating.proofs.Walks.{walk_first, walk_last}
+use Rattle.re_separating.specs.Hypergraphs.{Hyper, IsHyper, IsSparse, IsUncolourable, On, SparseLaw, Walk, one, step}
 
 -- ---- points as numbers
 abbrev number : ℕ → Point → ℕ

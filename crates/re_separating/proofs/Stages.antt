@@ -2,10 +2,10 @@
 use Rattle.std.proofs.Common.{◌≡◌, ℕ, zero, suc, ◌+◌, ◌*◌, ◌/◌, ◌%◌, ◌≤◌, ◌<◌, cond, eqb, inl, inr, refl, sym, ◌∙◌, ap, subst, arith, mul_comm, eq-or-lt_of_le}
 use Rattle.std.proofs.lemmas.Bool.Decides.{eqb_tells}
 use Rattle.std.proofs.lemmas.Nat.{div-mul-add, div_below, mod-mul-add, mod_below, mul-add-lt}
-use Rattle.re_sparse.proofs.Amalgam.{IsPartite, Point, amalgam, amalgam_sparse, copied, positive}
-use Rattle.re_sparse.proofs.Ascending.{IsUncoloured}
-use Rattle.re_sparse.proofs.Walks.{walk_first}
-use Rattle.re_sparse.specs.Hypergraphs.{Hyper, IsHyper, IsSparse, Walk, one, step}
+use Rattle.re_separating.proofs.Amalgam.{IsPartite, Point, amalgam, amalgam_sparse, copied, positive}
+use Rattle.re_separating.proofs.Ascending.{IsUncoloured}
+use Rattle.re_separating.proofs.Walks.{walk_first}
+use Rattle.re_separating.specs.Hypergraphs.{Hyper, IsHyper, IsSparse, Walk, one, step}
 
 -- ---- disjoint edges over those of a hypergraph, whose points are the parts
 abbrev pub spread : Hyper ℕ → Hyper Point

@@ -1,5 +1,0 @@
-mod Amalgam
-mod Ascending
-pub mod Sparse
-mod Stages
-pub mod Walks

@@ -1,10 +1,10 @@
 #!/bin/sh
 # Writes the rows of what the pages show, README.md, the tutorial and the gallery, into crates/rows/data/pages.txt.
-# And the rows that damage the files of the examples, at the end of crates/fault_rows/stdin.
+# And the rows that damage the files of the examples, into crates/rows/data/damaged_files.txt.
 #
 #     examples/rows.sh
 #
-# Run it whenever a page, a file that it reads or a file of rows has changed: it writes the numbers of rows into the two files stdout.
+# Run it whenever a page, a file that it reads or a file of rows has changed: it writes the number of rows into crates/rows/stdout.
 # It needs no built program.
 # Taken are the lines `$ re WORDS < FILE` and `$ re WORDS < FILE | re WORDS` of the blocks ```console, also without a file, with `explore` in
 # place of any `re`. Lines with other programs are run by session.sh alone. The exit code follows from the first line of the answer.
@@ -72,23 +72,12 @@ rows_of() {
     ' "$@"
 }
 
-written=$(mktemp)
-trap 'rm -f "$written"' EXIT
-
-# Says how many rows the files have, and writes it into the stdout of their crate.
-count_rows() {
-    crate=$1
-    shift
-    echo "rows as they should be: $(cat "$@" | grep -c '^[=~!]')" | tee "crates/$crate/stdout"
-}
-
 {
     echo '# == What the pages show: made by examples/rows.sh.'
     echo
     rows_of README.md docs/TUTORIAL.md docs/TUTORIAL-tables.md
     rows_of examples/gallery/README.md
 } > crates/rows/data/pages.txt
-count_rows rows $(sed 's|^|crates/rows/data/|' crates/rows/args)
 
 # The files, each with the words that read it, and with how many places apart it is damaged: at each place where it is short.
 # The drawing of a tree is for readers and left out.
@@ -130,13 +119,10 @@ examples_of() {
     '
 }
 
-rows=crates/fault_rows/stdin
-made='# == The files of the examples, damaged: made by examples/rows.sh.'
-awk -v made="$made" '$0 == made { exit } { print }' "$rows" > "$written"
 {
-    echo "$made"
+    echo '# == The files of the examples, damaged: made by examples/rows.sh.'
     echo
     examples_of examples
-} >> "$written"
-cp "$written" "$rows"
-count_rows fault_rows "$rows"
+} > crates/rows/data/damaged_files.txt
+
+echo "rows as they should be: $(sed 's|^|crates/rows/data/|' crates/rows/args | xargs cat | grep -c '^[=~!]')" | tee crates/rows/stdout

@@ -20,10 +20,14 @@ export class Given {
         this.count = element('input', {type: 'number', oninput: () => this.chooseSoon()});
         this.countBox = element('label', {}, this.count, element('span', {}));
         this.edit = button('Change…', () => this.openProblem(), {class: 'link'});
+        this.product = button('Product', () => this.openProduct(), {
+            class: 'link',
+            title: 'explore product: opens the problem whose labels are pairs of a label of this problem and one of what is given'
+        });
         this.line = element('span', {id: 'given-line', role: 'status'});
         replace($('#given'),
             element('label', {title: 'what nodes know besides port numbers: a solution of this problem'}, 'Given', this.kind),
-            this.countBox, this.edit, this.line);
+            this.countBox, this.edit, this.product, this.line);
     }
 
     get isOffered() { return this.workbench.words.has('given'); }
@@ -41,6 +45,7 @@ export class Given {
         if (this.kind.value !== kind) this.kind.value = 'problem';
         this.countBox.hidden = !counts;
         this.edit.hidden = this.kind.value !== 'problem';
+        this.product.hidden = !given || !this.workbench.words.has('product');
         if (counts) {
             Object.assign(this.count, {min: String(counts.least), max: String(counts.most)});
             this.count.setAttribute('aria-label', counts.label);
@@ -107,6 +112,15 @@ export class Given {
         dialog.addEventListener('close', () => this.show(workbench.cards.path()));
         await editor.setText(first.given?.problem || workbench.facts.of(first.problem).text);
         editor.focus();
+    }
+
+    // The product of the first problem and what is given, as a chain of its own.
+    async openProduct() {
+        const {first, workbench: {cards, engine, sessions}} = this, {given} = cards.get(first.id);
+        const {status, text} = await engine.ask('explore', ['product'], givenInput(first.problem, given.problem), {title: 'product'})
+                                   .catch(error => ({status: 1, text: error.message}));
+        if (status !== 0) say(`explore product: ${text.trim().split('\n', 1)[0]}`, true);
+        else await sessions.openText(text, `${first.title || 'a problem'} and ${given.kind}`);
     }
 
     // ---- What the program says.

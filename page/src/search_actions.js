@@ -51,8 +51,8 @@ const SEARCHES = [
     {
         name: 'closure',
         word: 'closure',
-        title: 'a fixed point by right-closed sets, of this problem or after up to 3 more steps',
-        numbers: []
+        title: 'a fixed point by right-closed sets, of this problem or after up to K more steps',
+        numbers: [{name: 'k', least: 0, most: 8, start: 3, label: 'K, the most further steps'}]
     },
     {
         name: 'cover',

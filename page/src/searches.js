@@ -11,8 +11,6 @@ const MOST_STEPS = 64, MOST_LABELS = 128, MOST_MERGES = 8, MOST_PROBLEMS = 10000
 const FEW_PROBLEMS = 20000;
 // So many steps it takes before more merges are tried.
 const DEEP = 16;
-// Of so many further steps the closure is tried.
-const CLOSED_AFTER = 3;
 
 const isFound = answer => answer.text.startsWith('==');
 const stepsIn = certificate => certificate.split('\n== step').length - 1;
@@ -30,7 +28,7 @@ export class Searches {
             rounds: () => this.rounds(card, view, k),
             longest: () => this.longest(card, view, k, l, goesOn),
             cycle: () => this.cycle(card, view, k, m, goesOn),
-            closure: () => this.closure(card, view),
+            closure: () => this.closure(card, view, k),
             cover: () => this.workbench.settling.cover(card, view, m),
         };
         await search[name]();
@@ -132,21 +130,13 @@ export class Searches {
         });
     }
 
-    // The closure of the problem, else that after one, two or three steps.
-    closure(card, view) {
+    // The closure of the problem, else that of what 1, 2, .. k further steps lead to.
+    closure(card, view, k) {
+        const words = k ? ['closure', String(k)] : ['closure'], what = words.join(' ');
         return this.fromChain(card, view, 'closure', false, async (task, chain) => {
-            for (let steps = 0; steps <= CLOSED_AFTER; steps++) {
-                const what = steps ? `closure after ${steps} ${steps === 1 ? 'step' : 'steps'}` : 'closure';
-                task.state = steps ? `nothing so far; now ${what}` : '';
-                const answer = await task.ask('explore', ['closure'], chain);
-                await this.tried(view, task, what, answer);
-                if (isFound(answer)) return {what, certificate: answer.text};
-                if (!/^(not found|limit)/.test(answer.text)) return null;
-                const next = await task.ask('explore', ['step'], chain);
-                if (!isFound(next)) return null;
-                chain = next.text;
-            }
-            return null;
+            const answer = await task.ask('explore', words, chain);
+            await this.tried(view, task, what, answer);
+            return isFound(answer) ? {what, certificate: answer.text} : null;
         });
     }
 

@@ -1,5 +1,5 @@
 -- What is given to a chain, case by case, and what may be said.
-use Rattle.std.proofs.Common.{◌≡◌, ℕ, suc, ◌<◌, Bool, true, false, List, length, refl, ap, ◌∙◌, codes, Option, Some, None}
+use Rattle.std.proofs.Common.{◌≡◌, ℕ, suc, ◌<◌, Bool, true, false, List, length, refl, ap, ◌∙◌, subst, codes, Option, Some, None}
 use Rattle.std.specs.Prelude.{if◌then◌else◌, nat_lt}
 use Rattle.re_labels.proofs.Tests.{true-below}
 use Rattle.re_problem.specs.NamedProblems.{NamedProblem}
@@ -8,17 +8,19 @@ use Rattle.re_cert.specs.declared.certificate.Kind.{Kind}
 use Rattle.re_cert.specs.declared.certificate.Kind.TheVariants.{Fixed, Lower, Upper}
 use Rattle.re_cert.specs.declared.certificate.TheConstants.{MAX_STEPS}
 use Rattle.re_check.specs.declared.verdict.Verdict.{Verdict}
-use Rattle.re_chain_texts.proofs.WordsGiven.{or_fault_says}
+use Rattle.re_chain_texts.proofs.WordsGiven.{certificate_says, or_fault_says}
 use Rattle.re_chain_texts.specs.OverChains.{or_refusal, steps_refusal}
 use Rattle.re_frame.proofs.Said.{check_says}
 use Rattle.re_frame.specs.Outcomes.{Outcome, limit}
 use Rattle.re_frame.specs.Runs.{MaySay}
 use Rattle.re_frame.specs.StepLimits.{limit_line}
+use Rattle.re_frame.specs.declared.status.Status.TheVariants.{Done}
 use Rattle.re_step.specs.declared.derivation.StepLimit.TheVariants.{Rows}
 use Rattle.re_bridge.specs.Bridges.{Bridge, bridge_of, cut_off, has_many_rows, missing, over}
 use Rattle.re_chain_parts.specs.Chains.{chain_of}
 use Rattle.re_two_texts.specs.TwoTexts.{back_problem, front_bound, two_fault}
-use Rattle.re_bridge_words.specs.BridgeWords.{bridge_outcome, kind_outcome, over_bridge, sound_outcome, text_outcome}
+use Rattle.re_bridge_words.specs.Bridged.{bridged}
+use Rattle.re_bridge_words.specs.BridgeWords.{BridgeWorth, MayGive, bridge_outcome, kind_outcome, over_bridge, sound_outcome, text_outcome}
 use Rattle.re_bridge_words.specs.declared.answering.TheConstants.{MAX_TRIES}
 
 -- ---- by cases
@@ -43,7 +45,7 @@ module _ (next : NamedProblem) (chain : Bound) where
 
 -- ---- what may be said
 over_says : (bridge : Bridge) (next : NamedProblem) (chain : Bound) → MaySay (over_bridge bridge next chain).status true
-over_says (over map) next chain = tt
+over_says (over map) next chain = certificate_says (bridged chain next map) true
 over_says missing next chain = refl
 over_says cut_off next chain = tt
 
@@ -74,3 +76,7 @@ unfolding text_outcome
 text_says bytes =
     or_fault_says (two_fault (codes "to") bytes) (sound_outcome (back_problem (codes "to") bytes) (chain_of (front_bound (codes "to") bytes))) true
     (sound_says (back_problem (codes "to") bytes) (chain_of (front_bound (codes "to") bytes)))
+
+-- ---- what may be given
+pub may_give : (bytes text : List ℕ) (outcome : Outcome) → bytes ≡ text → outcome ≡ text_outcome bytes → (outcome.status ≡ Done → BridgeWorth bytes outcome.text) → MayGive text outcome
+may_give bytes text outcome same one worth = subst (λ b. MayGive b outcome) same (record { one = one; worth = worth })

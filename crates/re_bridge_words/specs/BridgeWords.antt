@@ -1,5 +1,5 @@
 -- The word `bridge`, and what it answers.
-use Rattle.std.specs.Prelude.{ℕ, suc, Bool, false, nat_lt, List, [], ◌∷◌, codes, length, if◌then◌else◌}
+use Rattle.std.specs.Prelude.{◌≡◌, ℕ, suc, Bool, false, nat_lt, List, [], ◌∷◌, codes, length, if◌then◌else◌, Some}
 use Rattle.std.specs.Str.{bytes_eq}
 use Rattle.re_problem.specs.NamedProblems.{NamedProblem}
 use Rattle.re_cert.specs.Bounds.{Bound, last_problem}
@@ -7,12 +7,13 @@ use Rattle.re_cert.specs.declared.certificate.Kind.{Kind}
 use Rattle.re_cert.specs.declared.certificate.Kind.TheVariants.{Upper}
 use Rattle.re_cert.specs.declared.certificate.TheConstants.{MAX_STEPS}
 use Rattle.re_chain_parts.specs.Chains.{chain_of}
-use Rattle.re_chain_texts.specs.OverChains.{certificate_outcome, or_fault, or_refusal, steps_refusal}
+use Rattle.re_chain_texts.specs.OverChains.{IsTextOf, certificate_outcome, or_fault, or_refusal, steps_refusal}
 use Rattle.re_frame.specs.Outcomes.{Outcome, limit, refused}
 use Rattle.re_frame.specs.StepLimits.{limit_line}
+use Rattle.re_frame.specs.declared.status.Status.TheVariants.{Done}
 use Rattle.re_step.specs.declared.derivation.StepLimit.TheVariants.{Rows}
 use Rattle.re_bridge.specs.Bridges.{Bridge, bridge_of, cut_off, has_many_rows, missing, over}
-use Rattle.re_bridge_words.specs.Bridged.{bridged}
+use Rattle.re_bridge_words.specs.Bridged.{IsBridged, bridged}
 use Rattle.re_two_texts.specs.TwoTexts.{back_problem, front_bound, two_fault}
 use Rattle.re_bridge_words.specs.declared.answering.TheConstants.{MAX_TRIES}
 
@@ -51,3 +52,16 @@ sound_outcome next chain = or_refusal (steps_refusal chain) (kind_outcome chain.
 -- what the word gives to a text: a bound, a line `== to` and a problem; a fixed point stands for the chain of its steps
 unfoldable pub text_outcome : List ℕ → Outcome
 text_outcome bytes = or_fault (two_fault (codes "to") bytes) (sound_outcome (back_problem (codes "to") bytes) (chain_of (front_bound (codes "to") bytes)))
+
+-- ---- what is known of the text of an answer Done
+-- it is read as a chain, and that is the given one with the step to the next problem by the map of the bridge, and sound
+abbrev pub IsBridgedText : NamedProblem → Bound → List ℕ → Type 0
+IsBridgedText next chain text = (longer : Bound) × IsTextOf longer text × IsBridged chain next MAX_TRIES (Some longer)
+
+unfoldable pub BridgeWorth : List ℕ → List ℕ → Type 0
+BridgeWorth bytes text = IsBridgedText (back_problem (codes "to") bytes) (chain_of (front_bound (codes "to") bytes)) text
+
+-- what the word may answer to a text: one outcome alone, and this is known of its text
+pub record MayGive (bytes : List ℕ) (outcome : Outcome) : Type 0 where
+  pub one : outcome ≡ text_outcome bytes
+  pub worth : outcome.status ≡ Done → BridgeWorth bytes outcome.text

@@ -1,12 +1,12 @@
 //! The word, and what it answers.
 ghost use Rattle.re_bridge.specs.Bridges.{has_many_rows};
-ghost use Rattle.re_bridge_words.specs.BridgeWords.{bridge_help, bridge_outcome, kind_outcome, names_bridge, sound_outcome, text_outcome};
+ghost use Rattle.re_bridge_words.specs.BridgeWords.{BridgeWorth, IsBridgedText, bridge_help, bridge_outcome, kind_outcome, names_bridge, sound_outcome, text_outcome};
 ghost use Rattle.re_cert.specs.Bounds.{last_problem};
 ghost use Rattle.re_cert.specs.declared.certificate.Kind.TheVariants.{Fixed, Lower};
 ghost use Rattle.re_cert.specs.declared.certificate.TheConstants.{MAX_STEPS};
 ghost use Rattle.re_chain_parts.specs.Chains.{IsSound, chain_of};
-ghost use Rattle.re_chain_texts.specs.OverChains.{IsSoundText};
 ghost use Rattle.re_frame.specs.Outcomes.{limit as limited_by, outcome_of};
+ghost use Rattle.re_frame.specs.declared.status.Status.TheVariants.{Done};
 ghost use Rattle.re_io.specs.declared.read.TheConstants.{MAX_BYTES};
 ghost use Rattle.std.specs.Prelude.{◌≡◌, ◌<◌, ◌≤◌, IfOk, length, map, string_bytes, suc};
 
@@ -16,7 +16,7 @@ use re_cert::{Certificate, Kind, MAX_STEPS};
 use re_chain_parts::chain;
 use re_chain_texts::{certificate_output, steps_refusal};
 use re_frame::{
-    Answer, Answering, Output, begun, fault_output, limit_output, refused, verdict_output,
+    Answer, Finding, Output, begun, fault_output, limit_output, refused, verdict_output,
 };
 use re_labels::NoMemory;
 use re_problem::{Problem, TextFault};
@@ -77,7 +77,7 @@ fn found_output(alloc: Global, chain: &Certificate, to: &Problem) -> Result<Outp
     requires sound { IsSound chain.now }
     requires room { length chain.now.steps < MAX_STEPS }
     ensures output { IfOk result (λ output. outcome_of output ≡ bridge_outcome to.now chain.now) }
-    ensures worth { IfOk result (λ output. output.answer ≡ Answer.Done → IsSoundText output.text.items) }
+    ensures text { IfOk result (λ output. (outcome_of output).status ≡ Done → IsBridgedText to.now chain.now output.text.items) }
 {
     match bridge(alloc, chain, to, MAX_TRIES) {
         Ok(Some(longer)) => certificate_output(alloc, &longer),
@@ -93,7 +93,7 @@ fn lower_output(alloc: Global, chain: &Certificate, to: &Problem) -> Result<Outp
     requires kind { chain.now.kind ≡ Lower }
     requires sound { IsSound chain.now }
     ensures output { IfOk result (λ output. outcome_of output ≡ bridge_outcome to.now chain.now) }
-    ensures worth { IfOk result (λ output. output.answer ≡ Answer.Done → IsSoundText output.text.items) }
+    ensures text { IfOk result (λ output. (outcome_of output).status ≡ Done → IsBridgedText to.now chain.now output.text.items) }
 {
     if chain.steps().len() < MAX_STEPS {
         found_output(alloc, chain, to)
@@ -107,7 +107,7 @@ fn kind_output(alloc: Global, chain: &Certificate, to: &Problem) -> Result<Outpu
     requires sound { IsSound chain.now }
     requires open { chain.now.kind ≡ Fixed → ⊥ }
     ensures output { IfOk result (λ output. outcome_of output ≡ kind_outcome chain.now.kind to.now chain.now) }
-    ensures worth { IfOk result (λ output. output.answer ≡ Answer.Done → IsSoundText output.text.items) }
+    ensures text { IfOk result (λ output. (outcome_of output).status ≡ Done → IsBridgedText to.now chain.now output.text.items) }
 {
     match chain.kind() {
         Kind::Lower => lower_output(alloc, chain, to),
@@ -120,7 +120,7 @@ fn kind_output(alloc: Global, chain: &Certificate, to: &Problem) -> Result<Outpu
 fn sound_output(alloc: Global, chain: &Certificate, to: &Problem) -> Result<Output, NoMemory>
     requires { chain.now.kind ≡ Fixed → ⊥ }
     ensures output { IfOk result (λ output. outcome_of output ≡ sound_outcome to.now chain.now) }
-    ensures worth { IfOk result (λ output. output.answer ≡ Answer.Done → IsSoundText output.text.items) }
+    ensures text { IfOk result (λ output. (outcome_of output).status ≡ Done → IsBridgedText to.now chain.now output.text.items) }
 {
     match steps_refusal(chain) {
         Some(verdict) => Ok(verdict_output(alloc, verdict)?),
@@ -131,7 +131,7 @@ fn sound_output(alloc: Global, chain: &Certificate, to: &Problem) -> Result<Outp
 // What the word gives to the chain that a bound stands for.
 fn bound_output(alloc: Global, texts: &TwoTexts) -> Result<Output, NoMemory>
     ensures output { IfOk result (λ output. outcome_of output ≡ sound_outcome texts.now.problem (chain_of texts.now.bound)) }
-    ensures worth { IfOk result (λ output. output.answer ≡ Answer.Done → IsSoundText output.text.items) }
+    ensures text { IfOk result (λ output. (outcome_of output).status ≡ Done → IsBridgedText texts.now.problem (chain_of texts.now.bound) output.text.items) }
 {
     match texts.bound.kind() {
         Kind::Fixed => {
@@ -147,7 +147,7 @@ fn bound_output(alloc: Global, texts: &TwoTexts) -> Result<Output, NoMemory>
 fn text_output(alloc: Global, text: &[u8]) -> Result<Output, NoMemory>
     requires { length text.now ≤ MAX_BYTES }
     ensures output { IfOk result (λ output. outcome_of output ≡ text_outcome text.now) }
-    ensures worth { IfOk result (λ output. output.answer ≡ Answer.Done → IsSoundText output.text.items) }
+    ensures text { IfOk result (λ output. (outcome_of output).status ≡ Done → BridgeWorth text.now output.text.items) }
 {
     match read_two(alloc, TO, text) {
         Ok(texts) => bound_output(alloc, &texts),
@@ -156,20 +156,17 @@ fn text_output(alloc: Global, text: &[u8]) -> Result<Output, NoMemory>
     }
 }
 
-impl Answering for BridgeWord {
+impl Finding for BridgeWord {
     ghost use Rattle.std.specs.Prelude.{true};
-    ghost use Rattle.re_bridge_words.specs.BridgeWords.{text_outcome};
-    ghost use Rattle.re_chain_texts.specs.OverChains.{IsSoundText};
+    ghost use Rattle.re_bridge_words.specs.BridgeWords.{MayGive};
 
     ghost fits = { λ _. Unit {0} };
 
-    ghost outcome = { λ _ bytes. text_outcome bytes };
-
-    ghost worth = { λ _ text. IsSoundText text };
+    ghost may = { λ _ bytes outcome. MayGive bytes outcome };
 
     ghost judging = { λ _. true };
 
-    fn answer(&self, alloc: Global, text: Vec<u8>) -> Result<Output, NoMemory> {
+    fn find(&self, alloc: Global, text: Vec<u8>) -> Result<Output, NoMemory> {
         text_output(alloc, text.as_slice())
     }
 }

@@ -1,21 +1,26 @@
 -- What is read of a text for a word, and what words give.
-use Rattle.std.proofs.Common.{◌≡◌, ℕ, Bool, true, false, List, Option, Some, None, refl, sym, ap, ◌∙◌}
-use Rattle.std.specs.Prelude.{option_map}
+use Rattle.std.proofs.Common.{◌≡◌, ℕ, Bool, true, false, List, Option, Some, None, refl, sym, ap, ◌∙◌, subst}
+use Rattle.std.specs.Prelude.{Err, IfOk, Ok, Result, if◌then◌else◌, length, nat_lt, option_map}
 use Rattle.re_problem.specs.declared.fault.InputFault.{InputFault}
 use Rattle.re_problem.specs.declared.fault.InputFault.TheVariants as input
 use Rattle.re_cert.specs.Bounds.{Bound}
+use Rattle.re_cert.specs.CertificateTexts.{certificate_of, text_lines}
+use Rattle.re_check.specs.Verdicts.{verdict_of}
 use Rattle.re_check.specs.declared.verdict.ClauseFault.{ClauseFault}
 use Rattle.re_check.specs.declared.verdict.Verdict.{Verdict}
 use Rattle.re_frame.proofs.Said.{check_says, fault_says, said}
-use Rattle.re_frame.specs.Outcomes.{Outcome, outcome_of, status_of}
+use Rattle.re_cert_text.specs.PrintedCertificates.{certificate_text}
+use Rattle.re_frame.specs.Check.{check_outcome, judged, verdict_outcome}
+use Rattle.re_frame.specs.Outcomes.{Outcome, done, outcome_of, status_of, too_long, within_limit}
 use Rattle.re_frame.specs.Runs.{MaySay}
 use Rattle.re_frame.specs.TextFaults.{fault_outcome, fault_status}
 use Rattle.re_frame.specs.declared.output.Output.{Output}
-use Rattle.re_frame.specs.declared.status.Answer.TheVariants as answer
 use Rattle.re_frame.specs.declared.status.Status.{Status}
 use Rattle.re_frame.specs.declared.status.Status.TheVariants as status
+use Rattle.re_io.specs.declared.read.TheConstants.{MAX_BYTES}
+use Rattle.re_chain_parts.specs.Chains.{IsSoundChain}
 use Rattle.re_chain_texts.specs.ChainTexts.{chain_fault, text_chain}
-use Rattle.re_chain_texts.specs.OverChains.{IsAnswered, IsJudged, ReadsSound, or_fault, or_refusal, over_any, over_sound, refusal_of, steps_refusal}
+use Rattle.re_chain_texts.specs.OverChains.{GivesSound, GivesText, IsAnswered, IsJudged, IsTextOf, ReadsSound, certificate_outcome, or_fault, or_refusal, over_any, over_sound, refusal_of, steps_refusal}
 use Rattle.re_chain_texts.specs.declared.over_chains.ChainRead.{ChainRead}
 use Rattle.re_chain_texts.specs.declared.over_chains.ChainRead.TheVariants.{Answered, Chain}
 
@@ -39,8 +44,8 @@ fault_not_done (input.TooManyNodes line) e = cc
 fault_not_done input.EarlyEnd e = cc
 
 -- an output whose outcome isn't Done
-pub not_done : (output : Output) (outcome : Outcome) → outcome_of output ≡ outcome → (outcome.status ≡ status.Done → ⊥) → output.answer ≡ answer.Done → ⊥
-not_done output outcome is other done = other (sym (ap (λ (o : Outcome). o.status) is) ∙ ap status_of done)
+pub not_done : (output : Output) (outcome : Outcome) → outcome_of output ≡ outcome → (outcome.status ≡ status.Done → ⊥) → status_of output.answer ≡ status.Done → ⊥
+not_done output outcome is other done = other (sym (ap (λ (o : Outcome). o.status) is) ∙ done)
 
 -- ---- the reading of a text
 any_fault : (bytes : List ℕ) (fault : InputFault) → chain_fault bytes ≡ Some fault → (word : Bound → Outcome) → fault_outcome fault ≡ over_any word bytes
@@ -85,10 +90,11 @@ answered_any bytes output is = record {
   says = says_more (status_of output.answer) is.says;
 }
 
-pub judged_read : (bytes : List ℕ) (given : Bound) (read : ChainRead) → ((word : Bound → Outcome) → over_any word bytes ≡ word given) → IsJudged given read → ReadsSound bytes read
-judged_read bytes given (Chain chain) any is =
-    (is.0, λ word. sound_is word bytes ∙ any (λ c. or_refusal (steps_refusal c) (word c)) ∙ ap (λ refusal. or_refusal refusal (word given)) is.2 ∙ ap word (sym is.1))
-judged_read bytes given (Answered output) any is = record {
+pub judged_read : (bytes : List ℕ) (given : Bound) (read : ChainRead) → given ≡ text_chain bytes → ((word : Bound → Outcome) → over_any word bytes ≡ word given) → IsJudged given read
+    → ReadsSound bytes read
+judged_read bytes given (Chain chain) of_text any is =
+    (is.0, is.1 ∙ of_text, λ word. sound_is word bytes ∙ any (λ c. or_refusal (steps_refusal c) (word c)) ∙ ap (λ refusal. or_refusal refusal (word given)) is.2 ∙ ap word (sym is.1))
+judged_read bytes given (Answered output) of_text any is = record {
   outcome = λ word. is.outcome word ∙ sym (any (λ c. or_refusal (steps_refusal c) (word c))) ∙ sym (sound_is word bytes);
   not_done = is.not_done;
   says = is.says;
@@ -112,4 +118,42 @@ unfolding over_sound
 over_sound_says word bytes says =
     over_any_says (λ chain. or_refusal (steps_refusal chain) (word chain)) bytes true (λ chain. or_refusal_says (steps_refusal chain) (word chain) (says chain))
 
--- ---- the text of a sound chain
+-- ---- the text of a certificate
+limited_says : (over : Bool) (text : List ℕ) (judging : Bool) → MaySay (if over then too_long else done text).status judging
+limited_says true text judging = tt
+limited_says false text judging = tt
+
+pub certificate_says : (bound : Bound) (judging : Bool) → MaySay (certificate_outcome bound).status judging
+unfolding within_limit
+certificate_says bound judging = limited_says (nat_lt MAX_BYTES (length (certificate_text bound))) (certificate_text bound) judging
+
+-- a text that is given is that of the certificate
+short_text : (over : Bool) (text : List ℕ) (outcome : Outcome) → outcome ≡ (if over then too_long else done text) → outcome.status ≡ status.Done → outcome ≡ done text
+short_text true text outcome is finished = absurd (let wrong : status.Limit ≡ status.Done = sym (ap (λ (o : Outcome). o.status) is) ∙ finished in cc)
+short_text false text outcome is finished = is
+
+pub text_given : (bound : Bound) (outcome : Outcome) → outcome ≡ certificate_outcome bound → outcome.status ≡ status.Done → outcome ≡ done (certificate_text bound)
+unfolding within_limit
+text_given bound outcome is finished = short_text (nat_lt MAX_BYTES (length (certificate_text bound))) (certificate_text bound) outcome is finished
+
+-- `check` gives the verdict on the certificate as which a text is read
+pub text_checked : (bound : Bound) (text : List ℕ) → IsTextOf bound text → check_outcome text ≡ verdict_outcome (verdict_of bound)
+unfolding check_outcome
+text_checked bound text is = ap (λ fault. judged fault (certificate_of (text_lines text))) is.right ∙ ap (λ (b : Bound). verdict_outcome (verdict_of b)) is.read
+
+-- ---- what is known of a text that is given
+-- the text of a sound chain
+pub sound_given : (bound made chain : Bound) (outcome : Outcome) → bound ≡ made → made ≡ chain → IsSoundChain made → GivesText bound outcome → GivesSound chain outcome
+sound_given bound made chain outcome same is sound gives finished = record {
+  text_of = subst (λ b. IsTextOf b outcome.text) (same ∙ is) (gives finished);
+  sound = subst IsSoundChain is sound;
+}
+
+-- an outcome that isn't Done gives no text
+pub none_given : (chain : Bound) (outcome given : Outcome) → outcome ≡ given → (given.status ≡ status.Done → ⊥) → GivesSound chain outcome
+none_given chain outcome given is other finished = absurd (other (sym (ap (λ (o : Outcome). o.status) is) ∙ finished))
+
+-- ---- what is known of a call
+pub both_ok : {A E : Type 0} (P Q R : A → Type 0) (r : Result A E) → IfOk r P → IfOk r Q → ((x : A) → P x → Q x → R x) → IfOk r R
+both_ok P Q R (Ok x) p q make = make x p q
+both_ok P Q R (Err fault) p q make = tt

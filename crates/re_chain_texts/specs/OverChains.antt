@@ -1,18 +1,20 @@
 -- What a word gives to a text, by what it gives to the chain of the text.
-use Rattle.std.specs.Prelude.{◌≡◌, ℕ, Bool, true, false, List, Option, Some, None, option_map}
+use Rattle.std.specs.Prelude.{◌≡◌, ◌≤◌, ℕ, length, Bool, true, false, List, Option, Some, None, option_map}
 use Rattle.re_problem.specs.declared.fault.InputFault.{InputFault}
 use Rattle.re_cert.specs.Bounds.{Bound}
+use Rattle.re_cert.specs.CertificateTexts.{certificate_fault, certificate_of, text_lines}
 use Rattle.re_cert_text.specs.PrintedCertificates.{certificate_text}
 use Rattle.re_check.specs.Verdicts.{steps_fault}
 use Rattle.re_check.specs.declared.verdict.ClauseFault.{ClauseFault}
 use Rattle.re_check.specs.declared.verdict.Verdict.{Verdict}
 use Rattle.re_check.specs.declared.verdict.Verdict.TheVariants.{Refused}
 use Rattle.re_frame.specs.Check.{verdict_outcome}
-use Rattle.re_frame.specs.Outcomes.{Outcome, done, outcome_of, status_of}
+use Rattle.re_frame.specs.Outcomes.{Outcome, done, outcome_of, status_of, within_limit}
 use Rattle.re_frame.specs.Runs.{MaySay}
 use Rattle.re_frame.specs.TextFaults.{fault_outcome}
 use Rattle.re_frame.specs.declared.output.Output.{Output}
-use Rattle.re_frame.specs.declared.status.Answer.TheVariants.{Done}
+use Rattle.re_frame.specs.declared.status.Status.TheVariants.{Done}
+use Rattle.re_io.specs.declared.read.TheConstants.{MAX_BYTES}
 use Rattle.re_chain_parts.specs.Chains.{IsSoundChain}
 use Rattle.re_chain_texts.specs.ChainTexts.{chain_fault, text_chain}
 use Rattle.re_chain_texts.specs.declared.over_chains.ChainRead.{ChainRead}
@@ -50,17 +52,17 @@ over_sound outcome bytes = over_any (λ chain. or_refusal (steps_refusal chain) 
 -- the output is what each word gives that takes this up, isn't Done, and is No only to one that judges
 pub record IsAnswered (given : (Bound → Outcome) → Outcome) (judging : Bool) (output : Output) : Type 0 where
   pub outcome : (word : Bound → Outcome) → outcome_of output ≡ given word
-  pub not_done : output.answer ≡ Done → ⊥
+  pub not_done : status_of output.answer ≡ Done → ⊥
   pub says : MaySay (status_of output.answer) judging
 
--- the chain, and what each word gives is what it gives to this chain; or the output that each word gives
+-- the chain of the text, and what each word gives is what it gives to this chain; or the output that each word gives
 abbrev pub ReadsAny : List ℕ → ChainRead → Type 0
-ReadsAny bytes (Chain chain) = (word : Bound → Outcome) → over_any word bytes ≡ word chain
+ReadsAny bytes (Chain chain) = (chain ≡ text_chain bytes) × ((word : Bound → Outcome) → over_any word bytes ≡ word chain)
 ReadsAny bytes (Answered output) = IsAnswered (λ word. over_any word bytes) false output
 
 -- the same of words that take sound chains
 abbrev pub ReadsSound : List ℕ → ChainRead → Type 0
-ReadsSound bytes (Chain chain) = IsSoundChain chain × ((word : Bound → Outcome) → over_sound word bytes ≡ word chain)
+ReadsSound bytes (Chain chain) = IsSoundChain chain × (chain ≡ text_chain bytes) × ((word : Bound → Outcome) → over_sound word bytes ≡ word chain)
 ReadsSound bytes (Answered output) = IsAnswered (λ word. over_sound word bytes) true output
 
 -- a chain that was judged: it is sound, or the output is the line of `check`
@@ -69,10 +71,25 @@ IsJudged given (Chain chain) = IsSoundChain chain × (chain ≡ given) × (steps
 IsJudged given (Answered output) = IsAnswered (λ word. or_refusal (steps_refusal given) (word given)) true output
 
 -- ---- certificates as answers
--- the text of the certificate
+-- the text of the certificate, where it is no longer than a text that is read may be
 abbrev pub certificate_outcome : Bound → Outcome
-certificate_outcome bound = done (certificate_text bound)
+certificate_outcome bound = within_limit done (certificate_text bound)
 
--- the text is that of a sound chain
-abbrev pub IsSoundText : List ℕ → Type 0
-IsSoundText text = (bound : Bound) × (text ≡ certificate_text bound) × IsSoundChain bound
+-- the text is no longer than a text that is read may be, has no fault, and is read as this certificate
+pub record IsTextOf (bound : Bound) (text : List ℕ) : Type 0 where
+  pub short : length text ≤ MAX_BYTES
+  pub right : certificate_fault (text_lines text) ≡ None
+  pub read : certificate_of (text_lines text) ≡ bound
+
+-- and the certificate is a sound chain
+pub record IsSoundText (chain : Bound) (text : List ℕ) : Type 0 where
+  pub text_of : IsTextOf chain text
+  pub sound : IsSoundChain chain
+
+-- where the outcome is Done, its text is read as this certificate
+abbrev pub GivesText : Bound → Outcome → Type 0
+GivesText bound outcome = outcome.status ≡ Done → IsTextOf bound outcome.text
+
+-- and as one that is a sound chain
+abbrev pub GivesSound : Bound → Outcome → Type 0
+GivesSound chain outcome = outcome.status ≡ Done → IsSoundText chain outcome.text

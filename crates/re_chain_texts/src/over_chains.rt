@@ -1,5 +1,5 @@
 //! Words over chains: what all of them answer where the text has a fault or a step fails, and the text of a certificate as an answer.
-ghost use Rattle.re_chain_texts.specs.OverChains.{IsJudged, ReadsAny, ReadsSound, certificate_outcome, refusal_of, steps_refusal};
+ghost use Rattle.re_chain_texts.specs.OverChains.{GivesText, IsJudged, ReadsAny, ReadsSound, certificate_outcome, refusal_of, steps_refusal};
 ghost use Rattle.re_check.specs.Verdicts.{steps_fault};
 ghost use Rattle.re_frame.specs.Outcomes.{outcome_of};
 ghost use Rattle.re_io.specs.declared.read.TheConstants.{MAX_BYTES};
@@ -10,7 +10,8 @@ use re_cert::{Certificate, MAX_STEPS, Step};
 use re_cert_text::print_certificate;
 use re_chain_parts::over_problems;
 use re_check::{Verdict, step_clause};
-use re_frame::{Output, done, fault_output, verdict_output};
+use re_frame::{Output, done, fault_output, too_long, verdict_output};
+use re_io::MAX_BYTES;
 use re_labels::NoMemory;
 use re_problem::{Problem, TextFault};
 use std::alloc::Global;
@@ -82,9 +83,16 @@ pub fn read_sound(alloc: Global, text: &[u8]) -> Result<ChainRead, NoMemory>
     }
 }
 
-/// The output that is the text of a certificate.
+/// The output that is the text of a certificate, or the limit exactly where that text is longer than `MAX_BYTES` bytes, and so would be
+/// read by no word. What is put out has no fault, and is read as this certificate.
+#[tactic(auto, unfolding(re_frame::specs::Outcomes::within_limit))]
 pub fn certificate_output(alloc: Global, certificate: &Certificate) -> Result<Output, NoMemory>
-    ensures { IfOk result (λ output. outcome_of output ≡ certificate_outcome certificate.now) }
+    ensures outcome { IfOk result (λ output. outcome_of output ≡ certificate_outcome certificate.now) }
+    ensures text { IfOk result (λ output. GivesText certificate.now (outcome_of output)) }
 {
-    Ok(done(print_certificate(alloc, certificate)?))
+    let text = print_certificate(alloc, certificate)?;
+    if text.len() > MAX_BYTES {
+        return Ok(too_long(alloc)?);
+    }
+    Ok(done(text))
 }

@@ -1,5 +1,5 @@
 -- What the words give.
-use Rattle.std.specs.Prelude.{ℕ, suc, Bool, true, false, List, [], codes, length, Option, None, Some}
+use Rattle.std.specs.Prelude.{◌≡◌, ℕ, suc, Bool, true, false, List, [], codes, length, Option, None, Some}
 use Rattle.re_problem.specs.CanonicalTexts.{canonical}
 use Rattle.re_problem.specs.ProblemTexts.{first_fault, lines_of, problem_of}
 use Rattle.re_cert.specs.Bounds.{Bound, last_problem}
@@ -7,21 +7,29 @@ use Rattle.re_cert.specs.CertificateTexts.{certificate_fault, certificate_of, te
 use Rattle.re_cert.specs.declared.certificate.Kind.{Kind}
 use Rattle.re_frame.specs.Outcomes.{Outcome, done, limit}
 use Rattle.re_frame.specs.StepLimits.{limit_line}
+use Rattle.re_frame.specs.declared.status.Status.TheVariants.{Done}
 use Rattle.re_chain_parts.specs.Chains.{chain_with}
 use Rattle.re_chain_steps.specs.Stepped.{stepped, stepping_fault}
 use Rattle.re_chain_steps.specs.declared.stepping.ChainStepFault.{ChainStepFault}
 use Rattle.re_chain_steps.specs.declared.stepping.ChainStepFault.TheVariants.{Limit}
-use Rattle.re_chain_texts.specs.OverChains.{IsSoundText, certificate_outcome, or_fault, over_any, over_sound}
+use Rattle.re_chain_texts.specs.ChainTexts.{text_chain}
+use Rattle.re_chain_texts.specs.OverChains.{IsSoundText, IsTextOf, certificate_outcome, or_fault, over_any, over_sound}
+use Rattle.re_chain.specs.Dropping.{dropped}
+use Rattle.re_chain.specs.Merging.{merged}
+use Rattle.re_chain.specs.Naming.{named}
 use Rattle.re_chain.specs.Tidied.{tidied}
-use Rattle.re_chain_words.specs.Shapings.{drop_outcome, merge_outcome, name_outcome}
+use Rattle.re_chain_words.specs.Shapings.{drop_outcome, label_in, merge_outcome, name_outcome}
 use Rattle.re_chain_words.specs.declared.words.ChainWord.{ChainWord}
 use Rattle.re_chain_words.specs.declared.words.ChainWord.TheVariants.{Begin, Last, Shape, Tidy}
 use Rattle.re_chain_words.specs.declared.words.Shaping.{Shaping}
 use Rattle.re_chain_words.specs.declared.words.Shaping.TheVariants.{Drop, Merge, Name, Step}
 
 -- `begin`: the certificate of this kind without steps, of the problem of the text
+abbrev pub begun : Kind → List ℕ → Bound
+begun kind bytes = chain_with kind (problem_of (lines_of bytes)) []
+
 unfoldable pub begin_outcome : Kind → List ℕ → Outcome
-begin_outcome kind bytes = or_fault (first_fault 0 1 (lines_of bytes)) (certificate_outcome (chain_with kind (problem_of (lines_of bytes)) []))
+begin_outcome kind bytes = or_fault (first_fault 0 1 (lines_of bytes)) (certificate_outcome (begun kind bytes))
 
 -- `last`: the last problem
 unfoldable pub last_outcome : Bound → Outcome
@@ -60,8 +68,21 @@ abbrev pub is_judging : ChainWord → Bool
 is_judging (Shape shaping) = true
 is_judging word = false
 
--- what a text is worth that a word gives: that of a chain that begins or is shaped is that of a sound chain
-abbrev pub WordWorth : ChainWord → List ℕ → Type 0
-WordWorth (Begin kind) text = IsSoundText text
-WordWorth (Shape shaping) text = IsSoundText text
-WordWorth word text = Unit {0}
+-- the chain that is made of a sound chain
+abbrev pub shaped : Shaping → Bound → Bound
+shaped Step chain = stepped chain
+shaped (Merge x y) chain = merged (label_in chain x) (label_in chain y) chain
+shaped (Name x y) chain = named (label_in chain x) y.name chain
+shaped (Drop x) chain = dropped (label_in chain x) chain
+
+-- what is known of the text of an answer Done: it is read as the certificate that the word makes, and that of a chain that begins or is shaped is a sound chain
+abbrev pub WordWorth : ChainWord → List ℕ → List ℕ → Type 0
+WordWorth (Begin kind) bytes text = IsSoundText (begun kind bytes) text
+WordWorth (Shape shaping) bytes text = IsSoundText (shaped shaping (text_chain bytes)) text
+WordWorth Tidy bytes text = IsTextOf (tidied (certificate_of (text_lines bytes))) text
+WordWorth Last bytes text = Unit {0}
+
+-- what a word may answer to a text: one outcome alone, and this is known of its text
+pub record MayGive (word : ChainWord) (bytes : List ℕ) (outcome : Outcome) : Type 0 where
+  pub one : outcome ≡ word_outcome word bytes
+  pub worth : outcome.status ≡ Done → WordWorth word bytes outcome.text

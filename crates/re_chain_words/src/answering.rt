@@ -1,8 +1,12 @@
 //! What the words answer.
 ghost use Rattle.re_chain_parts.specs.Chains.{IsSoundChain, chain_with};
-ghost use Rattle.re_chain_texts.specs.OverChains.{IsSoundText, certificate_outcome, over_any, over_sound};
-ghost use Rattle.re_chain_words.specs.Answers.{WordWorth, begin_outcome, is_judging, last_outcome, shaped_outcome, tidy_outcome, word_outcome};
+ghost use Rattle.re_cert.specs.CertificateTexts.{certificate_of, text_lines};
+ghost use Rattle.re_chain.specs.Tidied.{tidied};
+ghost use Rattle.re_chain_texts.specs.ChainTexts.{text_chain};
+ghost use Rattle.re_chain_texts.specs.OverChains.{GivesSound, GivesText, certificate_outcome, over_any, over_sound};
+ghost use Rattle.re_chain_words.specs.Answers.{WordWorth, begin_outcome, begun, last_outcome, shaped, shaped_outcome, tidy_outcome, word_outcome};
 ghost use Rattle.re_frame.specs.Outcomes.{outcome_of};
+ghost use Rattle.re_frame.specs.declared.status.Status.TheVariants.{Done};
 ghost use Rattle.re_io.specs.declared.read.TheConstants.{MAX_BYTES};
 ghost use Rattle.std.specs.Prelude.{◌≡◌, ◌≤◌, [], IfOk, length};
 
@@ -12,7 +16,7 @@ use re_cert::{Certificate, Kind, read_certificate};
 use re_chain::tidy;
 use re_chain_parts::{chain_kind, over_problems};
 use re_chain_texts::{ChainRead, certificate_output, read_any, read_sound};
-use re_frame::{Answer, Answering, Output, done, fault_output};
+use re_frame::{Finding, Output, done, fault_output};
 use re_labels::NoMemory;
 use re_problem::{Problem, TextFault, print_problem, read_problem};
 use std::alloc::Global;
@@ -36,9 +40,10 @@ fn built(alloc: Global, kind: Kind, problem: Problem) -> Certificate
 // The output of the chain of this kind without steps.
 fn begun_output(alloc: Global, kind: Kind, problem: Problem) -> Result<Output, NoMemory>
     ensures output { IfOk result (λ output. outcome_of output ≡ certificate_outcome (chain_with kind problem [])) }
-    ensures worth { IfOk result (λ output. IsSoundText output.text.items) }
+    ensures text { IfOk result (λ output. GivesSound (chain_with kind problem []) (outcome_of output)) }
 {
     let chain = built(alloc, kind, problem);
+    let _kind = chain.kind();
     over_problems(&chain);
     certificate_output(alloc, &chain)
 }
@@ -47,7 +52,7 @@ fn begun_output(alloc: Global, kind: Kind, problem: Problem) -> Result<Output, N
 fn begin_output(alloc: Global, kind: Kind, text: &[u8]) -> Result<Output, NoMemory>
     requires { length text.now ≤ MAX_BYTES }
     ensures output { IfOk result (λ output. outcome_of output ≡ begin_outcome kind text.now) }
-    ensures worth { IfOk result (λ output. output.answer ≡ Answer.Done → IsSoundText output.text.items) }
+    ensures text { IfOk result (λ output. GivesSound (begun kind text.now) (outcome_of output)) }
 {
     match read_problem(alloc, text) {
         Ok(problem) => begun_output(alloc, kind, problem),
@@ -77,7 +82,8 @@ fn last_output(alloc: Global, text: &[u8]) -> Result<Output, NoMemory>
 #[tactic(auto, unfolding(crate::specs::Answers::tidy_outcome))]
 fn tidy_output(alloc: Global, text: &[u8]) -> Result<Output, NoMemory>
     requires { length text.now ≤ MAX_BYTES }
-    ensures { IfOk result (λ output. outcome_of output ≡ tidy_outcome text.now) }
+    ensures output { IfOk result (λ output. outcome_of output ≡ tidy_outcome text.now) }
+    ensures text { IfOk result (λ output. GivesText (tidied (certificate_of (text_lines text.now))) (outcome_of output)) }
 {
     match read_certificate(alloc, text) {
         Ok(certificate) => {
@@ -92,7 +98,7 @@ fn tidy_output(alloc: Global, text: &[u8]) -> Result<Output, NoMemory>
 fn shape_output(alloc: Global, shaping: &Shaping, text: &[u8]) -> Result<Output, NoMemory>
     requires { length text.now ≤ MAX_BYTES }
     ensures output { IfOk result (λ output. outcome_of output ≡ over_sound (shaped_outcome shaping.now) text.now) }
-    ensures worth { IfOk result (λ output. output.answer ≡ Answer.Done → IsSoundText output.text.items) }
+    ensures text { IfOk result (λ output. GivesSound (shaped shaping.now (text_chain text.now)) (outcome_of output)) }
 {
     match read_sound(alloc, text)? {
         ChainRead::Chain(chain) => shaped_output(alloc, shaping, &chain),
@@ -103,7 +109,7 @@ fn shape_output(alloc: Global, shaping: &Shaping, text: &[u8]) -> Result<Output,
 fn output_for(alloc: Global, word: &ChainWord, text: &[u8]) -> Result<Output, NoMemory>
     requires { length text.now ≤ MAX_BYTES }
     ensures output { IfOk result (λ output. outcome_of output ≡ word_outcome word.now text.now) }
-    ensures worth { IfOk result (λ output. output.answer ≡ Answer.Done → WordWorth word.now output.text.items) }
+    ensures text { IfOk result (λ output. (outcome_of output).status ≡ Done → WordWorth word.now text.now output.text.items) }
 {
     match word {
         ChainWord::Begin(kind) => begin_output(alloc, *kind, text),
@@ -113,18 +119,16 @@ fn output_for(alloc: Global, word: &ChainWord, text: &[u8]) -> Result<Output, No
     }
 }
 
-impl Answering for ChainWord {
-    ghost use Rattle.re_chain_words.specs.Answers.{WordWorth, is_judging, word_outcome};
+impl Finding for ChainWord {
+    ghost use Rattle.re_chain_words.specs.Answers.{MayGive, is_judging};
 
     ghost fits = { λ _. Unit {0} };
 
-    ghost outcome = { λ word bytes. word_outcome word bytes };
-
-    ghost worth = { λ word text. WordWorth word text };
+    ghost may = { MayGive };
 
     ghost judging = { λ word. is_judging word };
 
-    fn answer(&self, alloc: Global, text: Vec<u8>) -> Result<Output, NoMemory> {
+    fn find(&self, alloc: Global, text: Vec<u8>) -> Result<Output, NoMemory> {
         output_for(alloc, self, text.as_slice())
     }
 }

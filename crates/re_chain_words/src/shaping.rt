@@ -1,8 +1,12 @@
 //! The words that shape the last problem of a sound chain.
+ghost use Rattle.re_chain.specs.Dropping.{dropped};
+ghost use Rattle.re_chain.specs.Merging.{merged};
+ghost use Rattle.re_chain.specs.Naming.{named};
 ghost use Rattle.re_chain.specs.declared.refusal.Refusal.{Refusal};
 ghost use Rattle.re_chain_parts.specs.Chains.{IsSoundChain};
-ghost use Rattle.re_chain_texts.specs.OverChains.{IsSoundText};
-ghost use Rattle.re_chain_words.specs.Answers.{shaped_outcome, step_outcome};
+ghost use Rattle.re_chain_steps.specs.Stepped.{stepped};
+ghost use Rattle.re_chain_texts.specs.OverChains.{GivesSound};
+ghost use Rattle.re_chain_words.specs.Answers.{shaped, shaped_outcome, step_outcome};
 ghost use Rattle.re_chain_words.specs.LabelWords.{given_text};
 ghost use Rattle.re_chain_words.specs.Shapings.{drop_outcome, label_in, merge_outcome, name_outcome, refusal_line};
 ghost use Rattle.re_frame.specs.Outcomes.{outcome_of, refused as refused_with};
@@ -85,7 +89,7 @@ fn merge_output(
 ) -> Result<Output, NoMemory>
     requires { IsSoundChain chain.now }
     ensures output { IfOk result (λ output. outcome_of output ≡ merge_outcome first.now second.now chain.now) }
-    ensures worth { IfOk result (λ output. output.answer ≡ Answer.Done → IsSoundText output.text.items) }
+    ensures text { IfOk result (λ output. GivesSound (merged (label_in chain.now first.now) (label_in chain.now second.now) chain.now) (outcome_of output)) }
 {
     merge_law();
     let from = label_in(chain, first);
@@ -107,7 +111,7 @@ fn name_output(
 ) -> Result<Output, NoMemory>
     requires { IsSoundChain chain.now }
     ensures output { IfOk result (λ output. outcome_of output ≡ name_outcome label.now name.now chain.now) }
-    ensures worth { IfOk result (λ output. output.answer ≡ Answer.Done → IsSoundText output.text.items) }
+    ensures text { IfOk result (λ output. GivesSound (named (label_in chain.now label.now) name.now.name chain.now) (outcome_of output)) }
 {
     name_law();
     let from = label_in(chain, label);
@@ -124,7 +128,7 @@ fn name_output(
 fn drop_output(alloc: Global, chain: &Certificate, label: &LabelWord) -> Result<Output, NoMemory>
     requires { IsSoundChain chain.now }
     ensures output { IfOk result (λ output. outcome_of output ≡ drop_outcome label.now chain.now) }
-    ensures worth { IfOk result (λ output. output.answer ≡ Answer.Done → IsSoundText output.text.items) }
+    ensures text { IfOk result (λ output. GivesSound (dropped (label_in chain.now label.now) chain.now) (outcome_of output)) }
 {
     drop_law();
     let from = label_in(chain, label);
@@ -147,7 +151,7 @@ fn next_number(chain: &Certificate) -> u8
 fn step_output(alloc: Global, chain: &Certificate) -> Result<Output, NoMemory>
     requires { IsSoundChain chain.now }
     ensures output { IfOk result (λ output. outcome_of output ≡ step_outcome chain.now) }
-    ensures worth { IfOk result (λ output. output.answer ≡ Answer.Done → IsSoundText output.text.items) }
+    ensures text { IfOk result (λ output. GivesSound (stepped chain.now) (outcome_of output)) }
 {
     step_law();
     match step(alloc, chain) {
@@ -169,7 +173,7 @@ pub(crate) fn shaped_output(
 ) -> Result<Output, NoMemory>
     requires { IsSoundChain chain.now }
     ensures output { IfOk result (λ output. outcome_of output ≡ shaped_outcome shaping.now chain.now) }
-    ensures worth { IfOk result (λ output. output.answer ≡ Answer.Done → IsSoundText output.text.items) }
+    ensures text { IfOk result (λ output. GivesSound (shaped shaping.now chain.now) (outcome_of output)) }
 {
     match shaping {
         Shaping::Step => step_output(alloc, chain),

@@ -20,17 +20,19 @@ use Rattle.re_closure.specs.declared.closure.Side.{Side}
 use Rattle.re_closure.specs.declared.types.ClosureFault.{ClosureFault}
 use Rattle.re_closure.specs.declared.types.ClosureFault.TheVariants.{Limit}
 use Rattle.re_closure.specs.declared.types.ClosureLimit.{ClosureLimit}
-use Rattle.re_closure.specs.declared.types.ClosureLimit.TheVariants.{Configurations, Labels, Rows, Steps}
+use Rattle.re_closure.specs.declared.types.ClosureLimit.TheVariants.{Combinations, Configurations, Labels, Rows, Steps}
 
 module _ (problem : Problem) (active passive : Family) (closure : AreClosure problem active passive) (few : length passive.sets ≤ MAX_LABELS) where
   pub passive_passes : (passed : ClosureLimit) → SidePasses passive passed → PassesLimit problem passed
   passive_passes Rows many = absurd many
+  passive_passes Combinations many = absurd many
   passive_passes (Labels count) many = absurd many
   passive_passes Configurations many = record { active = active; passive = passive; closure = closure; labels = few; many = inl many }
   passive_passes Steps many = absurd many
 
   pub active_passes : (passed : ClosureLimit) → SidePasses active passed → PassesLimit problem passed
   active_passes Rows many = absurd many
+  active_passes Combinations many = absurd many
   active_passes (Labels count) many = absurd many
   active_passes Configurations many = record { active = active; passive = passive; closure = closure; labels = few; many = inr many }
   active_passes Steps many = absurd many
@@ -53,11 +55,10 @@ module _ (problem : Problem) (active passive : Family) (is : IsProblem problem) 
   pub between_named : IsNamedProblem (record { names = label_names n; active = P.topmost; passive = A.below })
   between_named = subst IsNamedProblem (sym between_path) (named_between problem active passive is closure few)
 
-  pub computed : length passive.lines ≤ MAX_ROWS → (made : Closure) → made.sets.items ≡ passive.sets → made.closed ≡ record { names = label_names n; active = A.topmost; passive = P.below }
+  pub computed : length passive.lines ≤ MAX_ROWS → length active.lines ≤ MAX_ROWS → (made : Closure) → made.sets.items ≡ passive.sets → made.closed ≡ record { names = label_names n; active = A.topmost; passive = P.below }
       → made.between ≡ record { names = label_names n; active = P.topmost; passive = A.below } → IsMapWithin active made.out → IsMapWithin passive made.back → Computes problem active passive made
-  computed few_lines made sets closed between out back = record {
-    small = record { closure = closure; labels = few; below_passive = p.few; below_active = a.few };
-    few_lines = few_lines;
+  computed few_passive few_active made sets closed between out back = record {
+    small = record { closure = closure; passive_lines = few_passive; active_lines = few_active; labels = few; below_passive = p.few; below_active = a.few };
     sets_are = sets;
     closed_is = closed ∙ closed_path;
     between_is = between ∙ between_path;
@@ -72,6 +73,7 @@ err_is {X} (Err f) fault passed gives e = let same : f ≡ Limit passed = cc in 
 
 pub limit_of : (chain : Bound) (passed : ClosureLimit) → HasRoom chain → PassesLimit (unnamed (last_problem chain)) passed → LimitIs chain passed
 limit_of chain Rows room told = (room, told)
+limit_of chain Combinations room told = (room, told)
 limit_of chain (Labels count) room told = (room, told)
 limit_of chain Configurations room told = (room, told)
 limit_of chain Steps room told = absurd told

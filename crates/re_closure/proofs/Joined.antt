@@ -363,6 +363,8 @@ module _ (chain : Bound) (is : is_bound chain ≡ true) (sound : IsSoundChain ch
 
   pub goes_on : GoesOn Fixed 3 MAX_LABELS chain (closed_bound chain active passive)
   goes_on = record {
+    fits = fits;
+    problems = record { first = over.first; next = overs };
     of_kind = refl;
     first = refl;
     more = more;
@@ -403,7 +405,7 @@ module _ (chain : Bound) (over : IsOverProblems chain) (closure : Closure) (of :
   pub few_first : length (max_rows (last_problem chain).passive (length (last_problem chain).names)) ≤ MAX_ROWS
   few_first =
       let few = few_maximal (unnamed (last_problem chain)) of.active of.passive (last_is chain over).problem of.computed.small.closure in
-      let lines = of.computed.few_lines in
+      let lines = of.computed.small.passive_lines in
       omega (arith, few, lines)
 
   not_zero_closed : zero_place (unnamed closure.closed) ≡ None → zero_place (problem_of of.active of.passive) ≡ None

@@ -7,3 +7,4 @@ mod Named
 mod Joined
 mod Saying
 mod OneOutcome
+mod Within

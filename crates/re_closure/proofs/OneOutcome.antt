@@ -25,10 +25,10 @@ use Rattle.re_closure.specs.Closures.{HasRoom, IsClosed, IsSolvableBy, LimitIs}
 use Rattle.re_closure.specs.Limits.{IsSmallClosure, PassesLimit}
 use Rattle.re_closure.specs.Sides.{closed_bound, entries_by, named_of, step_to}
 use Rattle.re_closure.specs.declared.types.ClosureLimit.{ClosureLimit}
-use Rattle.re_closure.specs.declared.types.ClosureLimit.TheVariants.{Configurations, Labels, Rows, Steps}
+use Rattle.re_closure.specs.declared.types.ClosureLimit.TheVariants.{Combinations, Configurations, Labels, Rows, Steps}
 use Rattle.re_frame.specs.Outcomes.{Outcome, limit, refused}
 use Rattle.re_closure.specs.ClosureWords.{closure_line, limit_line}
-use Rattle.re_closure.specs.Laws.{OneOutcomeLaw}
+use Rattle.re_closure.specs.Laws.{IsOnWay, IsWayLine, OneOutcomeLaw}
 
 module _ (problem : Problem) (a p b q : Family) (is : IsProblem problem) (one : AreClosure problem a p) (two : AreClosure problem b q) where
   a_top : AreTopmost problem.active.degree (down_lines problem) a.lines
@@ -131,13 +131,15 @@ lines problem sets others is s t =
 -- ---- limits
 room_passes : (chain : Bound) (passed : ClosureLimit) → HasRoom chain → LimitIs chain passed → PassesLimit (unnamed (last_problem chain)) passed
 room_passes chain Rows room told = told.1
+room_passes chain Combinations room told = told.1
 room_passes chain (Labels count) room told = told.1
 room_passes chain Configurations room told = told.1
 room_passes chain Steps room told = absurd (omega (arith, room, told))
 
--- a closure within its limits passes none but that of rows
-small_passes : (problem : Problem) (a p : Family) (passed : ClosureLimit) → IsProblem problem → IsSmallClosure problem a p → PassesLimit problem passed → passed ≡ Rows
-small_passes problem a p Rows is small told = refl
+-- a closure within its limits passes none but those of the way
+small_passes : (problem : Problem) (a p : Family) (passed : ClosureLimit) → IsProblem problem → IsSmallClosure problem a p → PassesLimit problem passed → IsOnWay passed
+small_passes problem a p Rows is small told = tt
+small_passes problem a p Combinations is small told = tt
 small_passes problem a p (Labels count) is small told =
     let same = ap length (one_sets problem a p told.active told.passive is small.closure told.closure) in
     let few = small.labels in
@@ -156,9 +158,11 @@ small_passes problem a p Configurations is small told = elim told.many [
 ]
 small_passes problem a p Steps is small told = absurd told
 
-two_passes : (problem : Problem) (one two : ClosureLimit) → IsProblem problem → PassesLimit problem one → PassesLimit problem two → (one ≡ two) ⊎ ((one ≡ Rows) ⊎ (two ≡ Rows))
-two_passes problem Rows two is h k = inr (inl refl)
-two_passes problem one Rows is h k = inr (inr refl)
+two_passes : (problem : Problem) (one two : ClosureLimit) → IsProblem problem → PassesLimit problem one → PassesLimit problem two → (one ≡ two) ⊎ (IsOnWay one ⊎ IsOnWay two)
+two_passes problem Rows two is h k = inr (inl tt)
+two_passes problem Combinations two is h k = inr (inl tt)
+two_passes problem one Rows is h k = inr (inr tt)
+two_passes problem one Combinations is h k = inr (inr tt)
 two_passes problem (Labels n) (Labels m) is h k =
     let same = ap length (one_sets problem h.active h.passive k.active k.passive is h.closure k.closure) in
     inl (ap Labels (sym h.labels ∙ same ∙ k.labels))
@@ -178,35 +182,37 @@ two_passes problem Configurations Configurations is h k = inl refl
 two_passes problem Steps two is h k = absurd h
 two_passes problem one Steps is h k = absurd k
 
-two_limits : (chain : Bound) (one two : ClosureLimit) → IsProblem (unnamed (last_problem chain)) → LimitIs chain one → LimitIs chain two → (one ≡ two) ⊎ ((one ≡ Rows) ⊎ (two ≡ Rows))
-two_limits chain Rows two is h k = inr (inl refl)
+two_limits : (chain : Bound) (one two : ClosureLimit) → IsProblem (unnamed (last_problem chain)) → LimitIs chain one → LimitIs chain two → (one ≡ two) ⊎ (IsOnWay one ⊎ IsOnWay two)
+two_limits chain Rows two is h k = inr (inl tt)
+two_limits chain Combinations two is h k = inr (inl tt)
 two_limits chain (Labels n) two is h k = two_passes (unnamed (last_problem chain)) (Labels n) two is h.1 (room_passes chain two h.0 k)
 two_limits chain Configurations two is h k = two_passes (unnamed (last_problem chain)) Configurations two is h.1 (room_passes chain two h.0 k)
-two_limits chain Steps Rows is h k = inr (inr refl)
+two_limits chain Steps Rows is h k = inr (inr tt)
+two_limits chain Steps Combinations is h k = inr (inr tt)
 two_limits chain Steps (Labels m) is h k = let room = k.0 in absurd (omega (arith, h, room))
 two_limits chain Steps Configurations is h k = let room = k.0 in absurd (omega (arith, h, room))
 two_limits chain Steps Steps is h k = inl refl
 
-limit_lines : (one two : ClosureLimit) → (one ≡ two) ⊎ ((one ≡ Rows) ⊎ (two ≡ Rows)) → (given other : Outcome) → given ≡ limit (limit_line one) → other ≡ limit (limit_line two)
-    → (given ≡ other) ⊎ ((given ≡ limit (limit_line Rows)) ⊎ (other ≡ limit (limit_line Rows)))
+limit_lines : (one two : ClosureLimit) → (one ≡ two) ⊎ (IsOnWay one ⊎ IsOnWay two) → (given other : Outcome) → given ≡ limit (limit_line one) → other ≡ limit (limit_line two)
+    → (given ≡ other) ⊎ (IsWayLine given ⊎ IsWayLine other)
 limit_lines one two (inl e) given other f g = inl (f ∙ ap (λ passed. limit (limit_line passed)) e ∙ sym g)
-limit_lines one two (inr (inl e)) given other f g = inr (inl (f ∙ ap (λ passed. limit (limit_line passed)) e))
-limit_lines one two (inr (inr e)) given other f g = inr (inr (g ∙ ap (λ passed. limit (limit_line passed)) e))
+limit_lines one two (inr (inl way)) given other f g = inr (inl (one, way, f))
+limit_lines one two (inr (inr way)) given other f g = inr (inr (two, way, g))
 
 -- ---- outcomes
 pub one_outcome : OneOutcomeLaw
-one_outcome chain one two is (inl f) (inl g) = inl (f.1 ∙ ap certificate_outcome (bounds chain f.0 g.0 is f.3 g.3) ∙ sym g.1)
+one_outcome chain one two is (inl f) (inl g) = inl (f.1 ∙ ap certificate_outcome (bounds chain f.0 g.0 is f.4 g.4) ∙ sym g.1)
 one_outcome chain one two is (inl f) (inr (inl s)) =
-    absurd (not_both (unnamed (last_problem chain)) f.3.active f.3.passive s.3.active s.3.passive s.3.place is f.3.closure.closure s.3.closure.closure f.3.not_zero s.3.first)
+    absurd (not_both (unnamed (last_problem chain)) f.4.active f.4.passive s.3.active s.3.passive s.3.place is f.4.closure.closure s.3.closure.closure f.4.not_zero s.3.first)
 one_outcome chain one two is (inr (inl s)) (inl f) =
-    absurd (not_both (unnamed (last_problem chain)) f.3.active f.3.passive s.3.active s.3.passive s.3.place is f.3.closure.closure s.3.closure.closure f.3.not_zero s.3.first)
+    absurd (not_both (unnamed (last_problem chain)) f.4.active f.4.passive s.3.active s.3.passive s.3.place is f.4.closure.closure s.3.closure.closure f.4.not_zero s.3.first)
 one_outcome chain one two is (inr (inl s)) (inr (inl t)) = inl (s.1 ∙ ap (λ sets. refused (closure_line (last_problem chain) sets)) (lines (last_problem chain) s.0 t.0 is s.3 t.3) ∙ sym t.1)
 one_outcome chain one two is (inl f) (inr (inr l)) =
-    inr (inr (l.1 ∙ ap (λ passed. limit (limit_line passed)) (small_passes (unnamed (last_problem chain)) f.3.active f.3.passive l.0 is f.3.closure (room_passes chain l.0 f.2 l.2))))
+    inr (inr (l.0, small_passes (unnamed (last_problem chain)) f.4.active f.4.passive l.0 is f.4.closure (room_passes chain l.0 f.3 l.2), l.1))
 one_outcome chain one two is (inr (inl s)) (inr (inr l)) =
-    inr (inr (l.1 ∙ ap (λ passed. limit (limit_line passed)) (small_passes (unnamed (last_problem chain)) s.3.active s.3.passive l.0 is s.3.closure (room_passes chain l.0 s.2 l.2))))
+    inr (inr (l.0, small_passes (unnamed (last_problem chain)) s.3.active s.3.passive l.0 is s.3.closure (room_passes chain l.0 s.2 l.2), l.1))
 one_outcome chain one two is (inr (inr l)) (inl f) =
-    inr (inl (l.1 ∙ ap (λ passed. limit (limit_line passed)) (small_passes (unnamed (last_problem chain)) f.3.active f.3.passive l.0 is f.3.closure (room_passes chain l.0 f.2 l.2))))
+    inr (inl (l.0, small_passes (unnamed (last_problem chain)) f.4.active f.4.passive l.0 is f.4.closure (room_passes chain l.0 f.3 l.2), l.1))
 one_outcome chain one two is (inr (inr l)) (inr (inl s)) =
-    inr (inl (l.1 ∙ ap (λ passed. limit (limit_line passed)) (small_passes (unnamed (last_problem chain)) s.3.active s.3.passive l.0 is s.3.closure (room_passes chain l.0 s.2 l.2))))
+    inr (inl (l.0, small_passes (unnamed (last_problem chain)) s.3.active s.3.passive l.0 is s.3.closure (room_passes chain l.0 s.2 l.2), l.1))
 one_outcome chain one two is (inr (inr l)) (inr (inr m)) = limit_lines l.0 m.0 (two_limits chain l.0 m.0 is l.2 m.2) one two l.1 m.1

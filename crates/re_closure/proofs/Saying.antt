@@ -1,5 +1,5 @@
 -- What the word may answer, and the chains of texts.
-use Rattle.std.proofs.Common.{ℕ, Bool, true, false, List, Option, Some, None, refl, inl, inr}
+use Rattle.std.proofs.Common.{◌≡◌, ℕ, zero, suc, Bool, true, false, List, length, Option, Some, None, refl, inl, inr}
 use Rattle.std.specs.Prelude.{if◌then◌else◌}
 use Rattle.re_problem.specs.NamedProblems.{unnamed}
 use Rattle.re_problem.specs.Zero.{zero_place}
@@ -7,37 +7,63 @@ use Rattle.re_problem.specs.declared.fault.InputFault.{InputFault}
 use Rattle.re_cert.specs.Bounds.{Bound, last_problem}
 use Rattle.re_cert.specs.declared.certificate.Kind.{Kind}
 use Rattle.re_cert.specs.declared.certificate.Kind.TheVariants.{Fixed, Lower, Upper}
+use Rattle.re_chain_steps.specs.Stepped.{stepped, stepping_fault}
+use Rattle.re_chain_steps.specs.declared.stepping.ChainStepFault.{ChainStepFault}
+use Rattle.re_chain_steps.specs.declared.stepping.ChainStepFault.TheVariants as chain_step_fault
 use Rattle.re_chain_parts.specs.Chains.{chain_kind}
 use Rattle.re_chain_texts.specs.ChainTexts.{chain_fault, is_certificate_text, text_chain}
 use Rattle.re_chain_texts.specs.OverChains.{steps_refusal}
 use Rattle.re_check.specs.declared.verdict.Verdict.{Verdict}
+use Rattle.re_chain_texts.proofs.WordsGiven.{certificate_says}
 use Rattle.re_frame.proofs.Said.{check_says, fault_says, says_as}
 use Rattle.re_frame.specs.Outcomes.{Outcome}
 use Rattle.re_frame.specs.Runs.{MaySay}
-use Rattle.re_closure.specs.ClosureWords.{MayFind, MayFindBehind, MayGive, MayGiveAt, MayGiveRead, MayGiveSound}
+use Rattle.re_closure.specs.declared.answering.ClosureWord.{ClosureWord}
+use Rattle.re_closure.specs.ClosureWords.{IsClosureLine, MayFind, MayFindBehind, MayFindWithin, MayGive, MayGiveAt, MayGiveRead, MayGiveSound, MayGoOn, MayStep, stop_outcome}
 
-find_says : (chain : Bound) (outcome : Outcome) → MayFind chain outcome → MaySay outcome.status true
-find_says chain outcome (inl may) = says_as outcome _ may.1 tt
-find_says chain outcome (inr (inl may)) = says_as outcome _ may.1 refl
-find_says chain outcome (inr (inr may)) = says_as outcome _ may.1 tt
+-- what is said of a configuration that solves, where the rest says it too
+find_says : (more : Outcome → Type 0) → ((outcome : Outcome) → more outcome → MaySay outcome.status true)
+    → (chain : Bound) (outcome : Outcome) → MayFind more chain outcome → MaySay outcome.status true
+find_says more says chain outcome (inl may) = says_as outcome _ may.1 (certificate_says may.0 true)
+find_says more says chain outcome (inr (inl may)) = says outcome may
+find_says more says chain outcome (inr (inr may)) = says_as outcome _ may.1 tt
 
-behind_says : (place : Option ℕ) (chain : Bound) (outcome : Outcome) → MayFindBehind place chain outcome → MaySay outcome.status true
-behind_says (Some place) chain outcome may = says_as outcome _ may refl
-behind_says None chain outcome may = find_says chain outcome may
+behind_says : (more : Outcome → Type 0) → ((outcome : Outcome) → more outcome → MaySay outcome.status true)
+    → (place : Option ℕ) (chain : Bound) (outcome : Outcome) → MayFindBehind more place chain outcome → MaySay outcome.status true
+behind_says more says (Some place) chain outcome may = says_as outcome _ may refl
+behind_says more says None chain outcome may = find_says more says chain outcome may
 
-at_says : (kind : Kind) (chain : Bound) (outcome : Outcome) → MayGiveAt kind chain outcome → MaySay outcome.status true
-at_says Lower chain outcome may = behind_says (zero_place (unnamed (last_problem chain))) chain outcome may
-at_says Upper chain outcome may = says_as outcome _ may refl
-at_says Fixed chain outcome may = behind_says (zero_place (unnamed (last_problem chain))) chain outcome may
+stop_says : (number : ℕ) (fault : ChainStepFault) (outcome : Outcome) → outcome ≡ stop_outcome number fault → MaySay outcome.status true
+stop_says number (chain_step_fault.Limit passed) outcome may = says_as outcome _ may tt
+stop_says number chain_step_fault.TooManySteps outcome may = says_as outcome _ may tt
+stop_says number chain_step_fault.NoMemory outcome may = says_as outcome _ may tt
 
-sound_says : (refusal : Option Verdict) (chain : Bound) (outcome : Outcome) → MayGiveSound refusal chain outcome → MaySay outcome.status true
-sound_says (Some verdict) chain outcome may = says_as outcome _ may (check_says verdict)
-sound_says None chain outcome may = at_says chain.kind chain outcome may
+step_says : (next : Outcome → Type 0) → ((outcome : Outcome) → next outcome → MaySay outcome.status true)
+    → (number : ℕ) (fault : Option ChainStepFault) (outcome : Outcome) → MayStep number fault next outcome → MaySay outcome.status true
+step_says next says number None outcome may = says outcome may
+step_says next says number (Some fault) outcome may = stop_says number fault outcome may
 
-read_says : (fault : Option InputFault) (chain : Bound) (outcome : Outcome) → MayGiveRead fault chain outcome → MaySay outcome.status true
-read_says (Some fault) chain outcome may = says_as outcome _ may (fault_says fault true)
-read_says None chain outcome may = sound_says (steps_refusal chain) chain outcome may
+within_says : (more : ℕ) (chain : Bound) (outcome : Outcome) → MayFindWithin more chain outcome → MaySay outcome.status true
+within_says zero chain outcome may =
+    behind_says (IsClosureLine chain) (λ o line. says_as o _ line.1 refl) (zero_place (unnamed (last_problem chain))) chain outcome may
+within_says (suc more) chain outcome may =
+    behind_says (MayGoOn chain (MayFindWithin more (stepped chain)))
+    (λ o on. step_says (MayFindWithin more (stepped chain)) (within_says more (stepped chain)) (suc (length chain.steps)) (stepping_fault chain) o on.2)
+    (zero_place (unnamed (last_problem chain))) chain outcome may
 
-pub give_says : (bytes : List ℕ) (outcome : Outcome) → MayGive bytes outcome → MaySay outcome.status true
+at_says : (kind : Kind) (more : ℕ) (chain : Bound) (outcome : Outcome) → MayGiveAt kind more chain outcome → MaySay outcome.status true
+at_says Lower more chain outcome may = within_says more chain outcome may
+at_says Upper more chain outcome may = says_as outcome _ may refl
+at_says Fixed more chain outcome may = within_says more chain outcome may
+
+sound_says : (refusal : Option Verdict) (more : ℕ) (chain : Bound) (outcome : Outcome) → MayGiveSound refusal more chain outcome → MaySay outcome.status true
+sound_says (Some verdict) more chain outcome may = says_as outcome _ may (check_says verdict)
+sound_says None more chain outcome may = at_says chain.kind more chain outcome may
+
+read_says : (fault : Option InputFault) (more : ℕ) (chain : Bound) (outcome : Outcome) → MayGiveRead fault more chain outcome → MaySay outcome.status true
+read_says (Some fault) more chain outcome may = says_as outcome _ may (fault_says fault true)
+read_says None more chain outcome may = sound_says (steps_refusal chain) more chain outcome may
+
+pub give_says : (word : ClosureWord) (bytes : List ℕ) (outcome : Outcome) → MayGive word bytes outcome → MaySay outcome.status true
 unfolding MayGive
-give_says bytes outcome may = read_says (chain_fault bytes) (text_chain bytes) outcome may
+give_says word bytes outcome may = read_says (chain_fault bytes) word.steps (text_chain bytes) outcome may

@@ -1,6 +1,5 @@
 -- What the computed parts of a closure are.
 use Rattle.std.specs.Prelude.{◌≡◌, ◌<◌, ◌≤◌, length, map}
-use Rattle.re_config.specs.declared.TheConstants.{MAX_ROWS}
 use Rattle.re_labels.specs.Lists.{place_of}
 use Rattle.re_table.specs.declared.constraint_table.TheConstants.{MAX_CONFIGURATIONS}
 use Rattle.re_problem.specs.Problems.{Problem}
@@ -28,10 +27,9 @@ abbrev pub SidePasses : Family → ClosureLimit → Type 0
 SidePasses family Configurations = MAX_CONFIGURATIONS < length (below family).configs
 SidePasses family passed = ⊥
 
--- the closure of the problem, of these families; its passive lines are few
+-- the closure of the problem, of these families
 pub record Computes (problem : Problem) (active passive : Family) (closure : Closure) : Type 0 where
   pub small : IsSmallClosure problem active passive
-  pub few_lines : length passive.lines ≤ MAX_ROWS
   pub sets_are : closure.sets.items ≡ passive.sets
   pub closed_is : closure.closed ≡ named_of active passive
   pub between_is : closure.between ≡ named_of passive active

@@ -1,5 +1,5 @@
 -- The word `closure`, and what it may answer.
-use Rattle.std.specs.Prelude.{◌≡◌, ℕ, ◌⊎◌, Bool, false, List, [], ◌∷◌, ◌++◌, codes, Option, Some, None}
+use Rattle.std.specs.Prelude.{◌≡◌, ℕ, zero, suc, ◌⊎◌, nat_le, List, [], ◌∷◌, ◌++◌, codes, length, if◌then◌else◌, Option, Some, None}
 use Rattle.std.specs.Fmt.{decimal}
 use Rattle.std.specs.Str.{bytes_eq}
 use Rattle.re_problem.specs.NamedProblems.{NamedProblem, unnamed}
@@ -8,26 +8,39 @@ use Rattle.re_problem.specs.declared.fault.InputFault.{InputFault}
 use Rattle.re_cert.specs.Bounds.{Bound, last_problem}
 use Rattle.re_cert.specs.declared.certificate.Kind.{Kind}
 use Rattle.re_cert.specs.declared.certificate.Kind.TheVariants.{Upper}
+use Rattle.re_items.specs.Numerals.{number_of}
+use Rattle.re_chain_steps.specs.Stepped.{stepped, stepping_fault}
+use Rattle.re_chain_steps.specs.declared.stepping.ChainStepFault.{ChainStepFault}
+use Rattle.re_chain_steps.specs.declared.stepping.ChainStepFault.TheVariants as chain_step_fault
 use Rattle.re_chain_texts.specs.ChainTexts.{chain_fault, text_chain}
-use Rattle.re_chain_texts.specs.OverChains.{certificate_outcome, steps_refusal}
+use Rattle.re_chain_texts.specs.OverChains.{GivesText, certificate_outcome, steps_refusal}
 use Rattle.re_check.specs.declared.verdict.Verdict.{Verdict}
 use Rattle.re_closure.specs.Closures.{HasRoom, IsClosed, IsSolvableBy, LimitIs}
+use Rattle.re_closure.specs.declared.answering.ClosureWord.{ClosureWord}
+use Rattle.re_closure.specs.declared.answering.TheConstants.{MAX_FURTHER}
 use Rattle.re_closure.specs.declared.types.ClosureLimit.{ClosureLimit}
-use Rattle.re_closure.specs.declared.types.ClosureLimit.TheVariants.{Configurations, Labels, Rows, Steps}
+use Rattle.re_closure.specs.declared.types.ClosureLimit.TheVariants.{Combinations, Configurations, Labels, Rows, Steps}
 use Rattle.re_frame.specs.Check.{verdict_outcome}
 use Rattle.re_frame.specs.Outcomes.{Outcome, limit, refused}
 use Rattle.re_frame.specs.SearchLines.{solvable_line}
+use Rattle.re_frame.specs.StepLimits.{limit_line as step_line}
 use Rattle.re_frame.specs.TextFaults.{fault_outcome}
 use Rattle.re_printing.specs.SetTexts.{row_text}
 
--- the words are this one
-abbrev pub names_closure : List (List ℕ) → Bool
-names_closure (word ∷ []) = bytes_eq (codes "closure") word
-names_closure words = false
+-- the number of steps, if it is one of at most eight
+abbrev pub closure_with : Option ℕ → Option ClosureWord
+closure_with (Some steps) = if nat_le steps MAX_FURTHER then Some (record { steps = steps }) else None
+closure_with None = None
+
+-- the word with its number, which is 0 where none stands
+unfoldable pub closure_word_of : List (List ℕ) → Option ClosureWord
+closure_word_of (word ∷ []) = if bytes_eq (codes "closure") word then Some (record { steps = 0 }) else None
+closure_word_of (word ∷ steps ∷ []) = if bytes_eq (codes "closure") word then closure_with (number_of steps) else None
+closure_word_of words = None
 
 -- the line of help
 unfoldable pub closure_help : List ℕ
-closure_help = codes "closure: reads a chain, gives the fixed point by right-closed sets that goes on from it\n"
+closure_help = codes "closure, closure K: reads a chain, gives the fixed point by right-closed sets that goes on from it, or from it with 1, 2, .. K steps more\n"
 
 -- ---- lines
 -- the line for a problem whose closure is solvable without communication, with the configuration of sets of its labels that shows it
@@ -37,14 +50,15 @@ closure_line problem sets = codes "not found: solvable without communication: " 
 -- the line of a limit that the closure passes
 abbrev pub limit_line : ClosureLimit → List ℕ
 limit_line Rows = codes "limit: closure: more than 1024 rows\n"
+limit_line Combinations = codes "limit: closure: more than 1048576 combinations\n"
 limit_line (Labels count) = codes "limit: closure: more than 128 labels: " ++ decimal count ++ codes "\n"
 limit_line Configurations = codes "limit: closure: more than 1048576 configurations\n"
 limit_line Steps = codes "limit: more than 64 steps\n"
 
 -- ---- answers
--- the text of the fixed point of the closure of the last problem
+-- the text of the fixed point of the closure of the last problem; it is read as this fixed point
 abbrev pub IsFound : Bound → Outcome → Type 0
-IsFound chain outcome = (bound : Bound) × (outcome ≡ certificate_outcome bound) × HasRoom chain × IsClosed chain bound
+IsFound chain outcome = (bound : Bound) × (outcome ≡ certificate_outcome bound) × GivesText bound outcome × HasRoom chain × IsClosed chain bound
 
 -- the line of the configuration that shows that the closure is solvable without communication
 abbrev pub IsClosureLine : Bound → Outcome → Type 0
@@ -55,32 +69,54 @@ IsClosureLine chain outcome =
 abbrev pub IsLimitLine : Bound → Outcome → Type 0
 IsLimitLine chain outcome = (passed : ClosureLimit) × (outcome ≡ limit (limit_line passed)) × LimitIs chain passed
 
--- what the word may give to a chain whose last problem isn't solvable without communication: the fixed point of its closure; the line of a closure that is
--- solvable without communication; or that of a limit
-abbrev pub MayFind : Bound → Outcome → Type 0
-MayFind chain outcome = IsFound chain outcome ⊎ (IsClosureLine chain outcome ⊎ IsLimitLine chain outcome)
+-- what the word may give to a chain whose last problem isn't solvable without communication: the fixed point of its closure; what it gives where the closure is
+-- solvable without communication; or the line of a limit
+abbrev pub MayFind : (Outcome → Type 0) → Bound → Outcome → Type 0
+MayFind MayGiveSolvable chain outcome = IsFound chain outcome ⊎ (MayGiveSolvable outcome ⊎ IsLimitLine chain outcome)
 
 -- the line of the configuration where the last problem is solvable without communication, and else what may be found
-abbrev pub MayFindBehind : Option ℕ → Bound → Outcome → Type 0
-MayFindBehind (Some place) chain outcome = outcome ≡ refused (solvable_line (last_problem chain) place)
-MayFindBehind None chain outcome = MayFind chain outcome
+abbrev pub MayFindBehind : (Outcome → Type 0) → Option ℕ → Bound → Outcome → Type 0
+MayFindBehind MayGiveSolvable (Some place) chain outcome = outcome ≡ refused (solvable_line (last_problem chain) place)
+MayFindBehind MayGiveSolvable None chain outcome = MayFind MayGiveSolvable chain outcome
+
+-- the line of what keeps a chain from its step of this number
+abbrev pub stop_outcome : ℕ → ChainStepFault → Outcome
+stop_outcome number (chain_step_fault.Limit passed) = limit (step_line number passed)
+stop_outcome number fault = limit (codes "limit: more than 64 steps\n")
+
+-- that line, and where nothing keeps the chain from the step what the chain with this step may be given
+abbrev pub MayStep : ℕ → Option ChainStepFault → (Outcome → Type 0) → Outcome → Type 0
+MayStep number None MayGiveNext outcome = MayGiveNext outcome
+MayStep number (Some fault) MayGiveNext outcome = outcome ≡ stop_outcome number fault
+
+-- the closure of the last problem is solvable without communication, and the chain goes on by its derived step
+abbrev pub MayGoOn : Bound → (Outcome → Type 0) → Outcome → Type 0
+MayGoOn chain MayGiveNext outcome =
+    HasRoom chain × ((sets : List (List ℕ)) × IsSolvableBy (last_problem chain) sets) × MayStep (suc (length chain.steps)) (stepping_fault chain) MayGiveNext outcome
+
+-- what the word may give to a chain of kind lower: the fixed point of the closure of its last problem, or where that closure is solvable without communication
+-- what it gives to the chain with one derived step more, up to so many steps
+abbrev pub MayFindWithin : ℕ → Bound → Outcome → Type 0
+MayFindWithin zero chain outcome = MayFindBehind (IsClosureLine chain) (zero_place (unnamed (last_problem chain))) chain outcome
+MayFindWithin (suc more) chain outcome =
+    MayFindBehind (MayGoOn chain (MayFindWithin more (stepped chain))) (zero_place (unnamed (last_problem chain))) chain outcome
 
 -- a chain of kind upper is refused
-abbrev pub MayGiveAt : Kind → Bound → Outcome → Type 0
-MayGiveAt Upper chain outcome = outcome ≡ refused (codes "no: not a lower chain\n")
-MayGiveAt kind chain outcome = MayFindBehind (zero_place (unnamed (last_problem chain))) chain outcome
+abbrev pub MayGiveAt : Kind → ℕ → Bound → Outcome → Type 0
+MayGiveAt Upper more chain outcome = outcome ≡ refused (codes "no: not a lower chain\n")
+MayGiveAt kind more chain outcome = MayFindWithin more chain outcome
 
 -- ---- texts
 -- the line of `check` for the first step that fails, and else what may be given to the chain
-abbrev pub MayGiveSound : Option Verdict → Bound → Outcome → Type 0
-MayGiveSound (Some verdict) chain outcome = outcome ≡ verdict_outcome verdict
-MayGiveSound None chain outcome = MayGiveAt chain.kind chain outcome
+abbrev pub MayGiveSound : Option Verdict → ℕ → Bound → Outcome → Type 0
+MayGiveSound (Some verdict) more chain outcome = outcome ≡ verdict_outcome verdict
+MayGiveSound None more chain outcome = MayGiveAt chain.kind more chain outcome
 
 -- the line of the first fault of the text, and else what may be given to its chain
-abbrev pub MayGiveRead : Option InputFault → Bound → Outcome → Type 0
-MayGiveRead (Some fault) chain outcome = outcome ≡ fault_outcome fault
-MayGiveRead None chain outcome = MayGiveSound (steps_refusal chain) chain outcome
+abbrev pub MayGiveRead : Option InputFault → ℕ → Bound → Outcome → Type 0
+MayGiveRead (Some fault) more chain outcome = outcome ≡ fault_outcome fault
+MayGiveRead None more chain outcome = MayGiveSound (steps_refusal chain) more chain outcome
 
 -- what the word may give to a text
-unfoldable pub MayGive : List ℕ → Outcome → Type 0
-MayGive bytes outcome = MayGiveRead (chain_fault bytes) (text_chain bytes) outcome
+unfoldable pub MayGive : ClosureWord → List ℕ → Outcome → Type 0
+MayGive word bytes outcome = MayGiveRead (chain_fault bytes) word.steps (text_chain bytes) outcome

@@ -1,16 +1,25 @@
 -- What the chain decides.
-use Rattle.std.specs.Prelude.{◌≡◌, ◌⊎◌}
+use Rattle.std.specs.Prelude.{◌≡◌, ◌⊎◌, ℕ}
 use Rattle.re_problem.specs.NamedProblems.{unnamed}
 use Rattle.re_problem.specs.Problems.{IsProblem}
 use Rattle.re_cert.specs.Bounds.{Bound, last_problem}
-use Rattle.re_closure.specs.declared.types.ClosureLimit.TheVariants.{Rows}
+use Rattle.re_closure.specs.declared.types.ClosureLimit.{ClosureLimit}
+use Rattle.re_closure.specs.declared.types.ClosureLimit.TheVariants.{Combinations, Configurations, Labels, Rows, Steps}
 use Rattle.re_frame.specs.Outcomes.{Outcome, limit}
-use Rattle.re_closure.specs.ClosureWords.{MayFind, limit_line}
+use Rattle.re_closure.specs.ClosureWords.{IsClosureLine, MayFind, limit_line}
 
--- the line of the limit of rows
-abbrev pub IsRowsLine : Outcome → Type 0
-IsRowsLine outcome = outcome ≡ limit (limit_line Rows)
+-- a limit of the way to the closure: of the lines that come together, or of the combinations that are looked at
+abbrev pub IsOnWay : ClosureLimit → Type 0
+IsOnWay Rows = Unit {0}
+IsOnWay Combinations = Unit {0}
+IsOnWay (Labels count) = ⊥
+IsOnWay Configurations = ⊥
+IsOnWay Steps = ⊥
 
--- the chain decides what the word gives, but for the limit of rows, which the way to the closure decides
+-- the line of such a limit
+abbrev pub IsWayLine : Outcome → Type 0
+IsWayLine outcome = (passed : ClosureLimit) × IsOnWay passed × (outcome ≡ limit (limit_line passed))
+
+-- the chain decides what the word gives, but for the limits of the way to the closure
 abbrev pub OneOutcomeLaw : Type 0
-OneOutcomeLaw = (chain : Bound) (one two : Outcome) → IsProblem (unnamed (last_problem chain)) → MayFind chain one → MayFind chain two → (one ≡ two) ⊎ (IsRowsLine one ⊎ IsRowsLine two)
+OneOutcomeLaw = (chain : Bound) (one two : Outcome) → IsProblem (unnamed (last_problem chain)) → MayFind (IsClosureLine chain) chain one → MayFind (IsClosureLine chain) chain two → (one ≡ two) ⊎ (IsWayLine one ⊎ IsWayLine two)

@@ -1,37 +1,72 @@
 //! The word, and what it answers.
-ghost use Rattle.re_cert.specs.Bounds.{last_problem};
 ghost use Rattle.re_cert.specs.declared.certificate.Kind.TheVariants.{Fixed};
 ghost use Rattle.re_chain_texts.specs.OverChains.{steps_refusal};
 ghost use Rattle.re_check.specs.Verdicts.{steps_fault};
-ghost use Rattle.re_closure.specs.Closures.{Answers};
-ghost use Rattle.re_closure.specs.ClosureWords.{MayFindBehind, MayGive, MayGiveAt, MayGiveSound, closure_help, names_closure};
+ghost use Rattle.re_chain_steps.specs.Stepped.{stepped, stepping_fault};
+ghost use Rattle.re_chain_steps.specs.declared.stepping.ChainStepFault.{ChainStepFault as WhyNoStep};
+ghost use Rattle.re_closure.specs.ClosureWords.{MayFindWithin, MayGive, MayGiveAt, MayGiveSound, closure_help, closure_with, closure_word_of, stop_outcome};
 ghost use Rattle.re_extend.specs.Extensions.{IsSoundChain};
 ghost use Rattle.re_frame.specs.Outcomes.{outcome_of};
 ghost use Rattle.re_io.specs.declared.read.TheConstants.{MAX_BYTES};
-ghost use Rattle.re_problem.specs.NamedProblems.{unnamed};
-ghost use Rattle.re_problem.specs.Zero.{zero_place};
-ghost use Rattle.std.specs.Prelude.{◌≡◌, ◌≤◌, IfOk, None, length, map, string_bytes};
+ghost use Rattle.std.specs.Prelude.{◌≡◌, ◌≤◌, Err, IfOk, None, Some, length, map, string_bytes};
 
 use crate::limit_lines::{limit_output, solvable, solvable_closure};
-use crate::{Closing, ClosureFault, find_closure};
+use crate::{Closing, ClosureFault, ClosureLimit, find_closure};
 use re_cert::{Certificate, Kind};
+use re_chain_steps::{ChainStepFault, step};
 use re_chain_texts::{certificate_output, read_chain, steps_refusal};
-use re_frame::{Finding, Output, begun, fault_output, refused, verdict_output};
+use re_frame::{
+    Finding, Output, begun, fault_output, limit_output as step_limit_output, refused,
+    verdict_output,
+};
+use re_items::read_number;
 use re_labels::NoMemory;
 use re_problem::TextFault;
 use std::alloc::Global;
 
-/// The word `closure`. It reads a chain as a whole, and takes the time of `check` on the chain, beside that of `find_closure`.
-#[derive(Clone, Copy, Debug, PartialEq, Eq)]
-pub struct ClosureWord;
+/// The most steps by which the word goes on where a closure is solvable without communication.
+pub const MAX_FURTHER: u32 = 8;
 
-/// Whether the words are this word.
-pub fn names_closure(words: &[String]) -> bool
-    ensures { result ≡ names_closure (map string_bytes words.now) }
+/// The word `closure K`. It reads a chain as a whole, and takes the time of `check` on the chain, beside that of `find_closure` for its last
+/// problem and for each problem that it goes on to.
+#[derive(Clone, Copy, Debug, PartialEq, Eq)]
+pub struct ClosureWord {
+    /// By how many steps it goes on at most, where the closure of the last problem is solvable without communication.
+    pub steps: u8,
+}
+
+fn closure_with(steps: Option<u32>) -> Option<ClosureWord>
+    ensures { result ≡ closure_with steps }
+{
+    let steps = steps?;
+    if steps <= MAX_FURTHER {
+        Some(ClosureWord { steps: steps as u8 })
+    } else {
+        None
+    }
+}
+
+/// The word that the words name, with its number, which is at most `MAX_FURTHER`, and 0 where none stands. None exactly where they name none.
+#[tactic(auto, unfolding(crate::specs::ClosureWords::closure_word_of))]
+pub fn closure_word(words: &[String]) -> Option<ClosureWord>
+    ensures { result ≡ closure_word_of (map string_bytes words.now) }
 {
     match words {
-        [word] => "closure" == word.as_str(),
-        _ => false,
+        [word] => {
+            if "closure" == word.as_str() {
+                Some(ClosureWord { steps: 0 })
+            } else {
+                None
+            }
+        }
+        [word, steps] => {
+            if "closure" == word.as_str() {
+                closure_with(read_number(steps.as_bytes()))
+            } else {
+                None
+            }
+        }
+        _ => None,
     }
 }
 
@@ -40,65 +75,86 @@ pub fn names_closure(words: &[String]) -> bool
 pub fn closure_help() -> &'static str
     ensures { result.now ≡ closure_help }
 {
-    "closure: reads a chain, gives the fixed point by right-closed sets that goes on from it\n"
+    "closure, closure K: reads a chain, gives the fixed point by right-closed sets that goes on from it, or from it with 1, 2, .. K steps more\n"
 }
 
-// What the word gives where this was found behind the chain.
-fn closing_output(alloc: Global, chain: &Certificate, closing: Closing) -> Result<Output, NoMemory>
-    requires { Answers chain.now closing }
-    ensures { IfOk result (λ output. MayFindBehind (zero_place (unnamed (last_problem chain.now))) chain.now (outcome_of output)) }
+// The output for what keeps a chain from its step of this number.
+fn stop_output(alloc: Global, number: u8, fault: ChainStepFault) -> Result<Output, NoMemory>
+    ensures told { IfOk result (λ output. outcome_of output ≡ stop_outcome number fault) }
+    ensures not_memory { IfOk result (λ _. fault ≡ ChainStepFault.NoMemory → ⊥) }
 {
-    match closing {
-        Closing::Found(certificate) => certificate_output(alloc, &certificate),
-        Closing::Solvable(place) => solvable(alloc, chain.last(), place),
-        Closing::SolvableClosure(sets) => solvable_closure(alloc, chain.last(), sets.as_slice()),
+    match fault {
+        ChainStepFault::TooManySteps => limit_output(alloc, ClosureLimit::Steps),
+        ChainStepFault::Limit(passed) => step_limit_output(alloc, number, passed),
+        ChainStepFault::NoMemory => Err(NoMemory),
     }
 }
 
-// What the word gives to a sound chain of kind lower.
-fn lower_output(alloc: Global, chain: &Certificate) -> Result<Output, NoMemory>
+// The chain with one derived step more, which is a sound chain of kind lower, too.
+fn next_chain(alloc: Global, chain: &Certificate) -> Result<Certificate, ChainStepFault>
     requires { IsSoundChain chain.now }
-    ensures { IfOk result (λ output. MayFindBehind (zero_place (unnamed (last_problem chain.now))) chain.now (outcome_of output)) }
+    ensures chain { IfOk result (λ next. next ≡ stepped chain.now) }
+    ensures sound { IfOk result IsSoundChain }
+    ensures none { IfOk result (λ _. stepping_fault chain.now ≡ None) }
+    ensures stop { (fault : WhyNoStep) → result ≡ Err fault → (fault ≡ ChainStepFault.NoMemory → ⊥) → stepping_fault chain.now ≡ Some fault }
 {
-    match find_closure(alloc, chain) {
-        Ok(closing) => closing_output(alloc, chain, closing),
-        Err(ClosureFault::Limit(limit)) => limit_output(alloc, limit),
-        Err(ClosureFault::NoMemory) => Err(NoMemory),
+    step(alloc, chain)
+}
+
+/// What the word gives to a sound chain of kind lower, which it goes on from by up to so many steps: the fixed point of the closure of its
+/// last problem, or of the first of the next ones whose closure isn't solvable without communication.
+pub fn closure_output(alloc: Global, chain: &Certificate, more: u8) -> Result<Output, NoMemory>
+    requires { IsSoundChain chain.now }
+    ensures { IfOk result (λ output. MayFindWithin more chain.now (outcome_of output)) }
+{
+    let sets = match find_closure(alloc, chain) {
+        Ok(Closing::Found(certificate)) => return certificate_output(alloc, &certificate),
+        Ok(Closing::Solvable(place)) => return solvable(alloc, chain.last(), place),
+        Ok(Closing::SolvableClosure(sets)) => sets,
+        Err(ClosureFault::Limit(limit)) => return limit_output(alloc, limit),
+        Err(ClosureFault::NoMemory) => return Err(NoMemory),
+    };
+    if more == 0 {
+        return solvable_closure(alloc, chain.last(), sets.as_slice());
+    }
+    match next_chain(alloc, chain) {
+        Ok(next) => closure_output(alloc, &next, more - 1),
+        Err(fault) => stop_output(alloc, chain.steps().len() as u8 + 1, fault),
     }
 }
 
 // What the word gives to a chain each step of which meets its clauses.
-fn chain_output(alloc: Global, chain: &Certificate) -> Result<Output, NoMemory>
+fn chain_output(alloc: Global, chain: &Certificate, more: u8) -> Result<Output, NoMemory>
     requires meets { steps_fault chain.now.first 1 chain.now.steps ≡ None }
     requires open { chain.now.kind ≡ Fixed → ⊥ }
-    ensures { IfOk result (λ output. MayGiveAt chain.now.kind chain.now (outcome_of output)) }
+    ensures { IfOk result (λ output. MayGiveAt chain.now.kind more chain.now (outcome_of output)) }
 {
     match chain.kind() {
-        Kind::Lower => lower_output(alloc, chain),
+        Kind::Lower => closure_output(alloc, chain, more),
         Kind::Upper => Ok(refused(begun(alloc, "no: not a lower chain\n")?)),
         Kind::Fixed => unreachable!(),
     }
 }
 
 // What the word gives to a chain.
-fn sound_output(alloc: Global, chain: &Certificate) -> Result<Output, NoMemory>
+fn sound_output(alloc: Global, chain: &Certificate, more: u8) -> Result<Output, NoMemory>
     requires { chain.now.kind ≡ Fixed → ⊥ }
-    ensures { IfOk result (λ output. MayGiveSound (steps_refusal chain.now) chain.now (outcome_of output)) }
+    ensures { IfOk result (λ output. MayGiveSound (steps_refusal chain.now) more chain.now (outcome_of output)) }
 {
     match steps_refusal(chain) {
         Some(verdict) => Ok(verdict_output(alloc, verdict)?),
-        None => chain_output(alloc, chain),
+        None => chain_output(alloc, chain, more),
     }
 }
 
 // What the word gives to a text.
 #[tactic(auto, unfolding(crate::specs::ClosureWords::MayGive))]
-fn text_output(alloc: Global, text: &[u8]) -> Result<Output, NoMemory>
+fn text_output(alloc: Global, word: ClosureWord, text: &[u8]) -> Result<Output, NoMemory>
     requires { length text.now ≤ MAX_BYTES }
-    ensures { IfOk result (λ output. MayGive text.now (outcome_of output)) }
+    ensures { IfOk result (λ output. MayGive word text.now (outcome_of output)) }
 {
     match read_chain(alloc, text) {
-        Ok(chain) => sound_output(alloc, &chain),
+        Ok(chain) => sound_output(alloc, &chain, word.steps),
         Err(TextFault::Bad(fault)) => Ok(fault_output(alloc, fault)?),
         Err(TextFault::NoMemory) => Err(NoMemory),
     }
@@ -110,11 +166,11 @@ impl Finding for ClosureWord {
 
     ghost fits = { λ _. Unit {0} };
 
-    ghost may = { λ _. MayGive };
+    ghost may = { MayGive };
 
     ghost judging = { λ _. true };
 
     fn find(&self, alloc: Global, text: Vec<u8>) -> Result<Output, NoMemory> {
-        text_output(alloc, text.as_slice())
+        text_output(alloc, *self, text.as_slice())
     }
 }

@@ -156,6 +156,9 @@ pub(crate) fn closure_of(alloc: Global, problem: &Problem) -> Result<Closure, Cl
     let families = match closure_families(alloc, problem) {
         Ok(families) => families,
         Err(LinesFault::TooManyLines) => return Err(ClosureFault::Limit(ClosureLimit::Rows)),
+        Err(LinesFault::TooManyCombinations) => {
+            return Err(ClosureFault::Limit(ClosureLimit::Combinations));
+        }
         Err(LinesFault::NoMemory) => return Err(ClosureFault::NoMemory),
     };
     let labels = families.sets.len();

@@ -174,7 +174,7 @@ fn closed(alloc: Global, chain: &Certificate) -> Result<Closing, ClosureFault>
 /// closure with its sides exchanged, to the closure, and back.
 ///
 /// The answer is `Solvable` exactly where the last problem is solvable without communication. Else the first limit that is passed is
-/// refused: of steps; of rows, on the way to the closure; of labels; of configurations; and then the answer is `SolvableClosure` exactly
+/// refused: of steps; of rows or of combinations, on the way to the closure; of labels; of configurations; and then the answer is `SolvableClosure` exactly
 /// where the closure is solvable without communication, and else `Found`: such a certificate comes of each problem whose closure passes
 /// no limit. The cost is that of `re_closure_lines::closure_families`, of `re_exist::allowed` for both sides, and of `re_universal::maximal_rows`
 /// for the last problem.

@@ -16,7 +16,7 @@ pub mod types;
 
 ghost use Rattle.re_closure.specs.Laws.{OneOutcomeLaw};
 
-pub use answering::{ClosureWord, closure_help, names_closure};
+pub use answering::{ClosureWord, MAX_FURTHER, closure_help, closure_output, closure_word};
 pub use finding::find_closure;
 pub use types::{Closing, ClosureFault, ClosureLimit};
 

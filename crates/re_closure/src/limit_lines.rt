@@ -58,6 +58,9 @@ fn limit_text(alloc: Global, limit: ClosureLimit) -> Result<Vec<u8>, NoMemory>
 {
     match limit {
         ClosureLimit::Rows => begun(alloc, "limit: closure: more than 1024 rows\n"),
+        ClosureLimit::Combinations => {
+            begun(alloc, "limit: closure: more than 1048576 combinations\n")
+        }
         ClosureLimit::Labels(count) => labels_line(alloc, count),
         ClosureLimit::Configurations => {
             begun(alloc, "limit: closure: more than 1048576 configurations\n")

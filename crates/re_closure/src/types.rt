@@ -31,9 +31,10 @@ pub(crate) struct StepMap {
 /// What the closure of a problem has too many of, in the order in which it is told, but `Steps`, which comes first.
 #[derive(Clone, Copy, Debug, PartialEq, Eq)]
 pub enum ClosureLimit {
-    /// More than `re_config::MAX_ROWS` lines of one side at a time on the way to the closure, or more than
-    /// `re_closure_lines::MAX_COMBINATIONS` combinations that waited or had to be looked at. Which lines these are is the algorithm's.
+    /// More than `re_config::MAX_ROWS` lines of one side, of which none dominates another, that come together on the way to the closure.
     Rows,
+    /// More than `re_closure_lines::MAX_COMBINATIONS` combinations of lines of one side that wait, or have to be looked at, on the way.
+    Combinations,
     /// More than `re_labels::MAX_LABELS` labels, and how many.
     Labels(usize),
     /// More than `re_table::MAX_CONFIGURATIONS` configurations of one side.
@@ -81,6 +82,7 @@ impl From<LinesFault> for ClosureFault {
     fn from(fault: LinesFault) -> ClosureFault {
         match fault {
             LinesFault::TooManyLines => ClosureFault::Limit(ClosureLimit::Rows),
+            LinesFault::TooManyCombinations => ClosureFault::Limit(ClosureLimit::Combinations),
             LinesFault::NoMemory => ClosureFault::NoMemory,
         }
     }

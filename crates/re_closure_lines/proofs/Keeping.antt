@@ -2,15 +2,17 @@
 use Rattle.std.proofs.Common.{◌≡◌, ℕ, zero, suc, ◌+◌, ◌<◌, ◌≤◌, List, [], ◌∷◌, ◌++◌, length, take, get_or, refl, sym, ap, ◌∙◌, subst, ◌⊎◌, inl, inr, arith}
 use Rattle.std.specs.Prelude.{Contains, ◌↔◌}
 use Rattle.std.specs.List.{swap_remove}
+use Rattle.std.specs.Result.{IsErrAnd}
 use Rattle.std.proofs.lemmas.List.{take_all, take_more}
 use Rattle.std.proofs.lemmas.List.Sorted.{Contains-permutation, IsPermutation-swap_remove, IsPermutation-sym}
-use Rattle.std.proofs.Common.{true, false}
+use Rattle.std.proofs.Common.{true, false, Result, Ok, Err}
 use Rattle.std.proofs.lemmas.Bool.{false≢true}
 use Rattle.re_config.proofs.Placing.{Dominates-dominates, Dominates-refl, Dominates-trans, Rearranged-placed, dominates-Dominates, length-combined, placed-Rearranged}
 use Rattle.re_config.proofs.Rearranging.{Rearranged-sym, length-Rearranged}
 use Rattle.re_config.specs.Orders.{placements}
 use Rattle.re_config.specs.Rearranging.{Rearranged}
 use Rattle.re_config.specs.Rows.{Dominates, IsUnder, combined, dominates, meets, placed}
+use Rattle.re_config.specs.declared.TheConstants.{MAX_ROWS}
 use Rattle.re_labels.proofs.Membership.{Contains-In, Contains-cases, Contains-here, Contains-later, Contains-none, In-Contains}
 use Rattle.re_labels.proofs.Sets.{IsIn-meet, IsIn-meet_cases, IsIn-union, IsIn-union_cases}
 use Rattle.re_labels.specs.Sets.{IsWithin, meet, union}
@@ -23,7 +25,9 @@ use Rattle.re_closure_laws.specs.Lines.{AreClosed}
 use Rattle.re_boxes.proofs.BoxLaw.{same_shape}
 use Rattle.re_closure_lines.proofs.Places.{has_before, has_either, has_last}
 use Rattle.re_closure_lines.specs.Combining.{AreAllOf, IsCombination}
-use Rattle.re_closure_lines.specs.Kept.{AreOfLength, AreOffered, AreSettled, AreSettledBefore, IsCovered, IsKept, IsTaken}
+use Rattle.re_closure_lines.specs.declared.topmost.LinesFault.{LinesFault}
+use Rattle.re_closure_lines.specs.declared.topmost.LinesFault.TheVariants.{TooManyLines}
+use Rattle.re_closure_lines.specs.Kept.{AreOfLength, AreOffered, AreSettled, AreSettledBefore, AreUnrelated, HasManyLines, IsAntichain, IsCovered, IsKept, IsTaken}
 
 -- ---- a list by its first elements
 pub in_take_more : {X : Type 0} (xs : List X) (i : ℕ) (x z : X) → i < length xs → x ≡ get_or xs i x → Contains (take (i + 1) xs) z → Contains (take i xs) z ⊎ (z ≡ x)
@@ -34,6 +38,24 @@ in_take_before xs i x z low is held = subst (λ l. Contains l z) (sym (take_more
 
 pub in_take_last : {X : Type 0} (xs : List X) (i : ℕ) (x : X) → i < length xs → x ≡ get_or xs i x → Contains (take (i + 1) xs) x
 in_take_last xs i x low is = subst (λ l. Contains l x) (sym (take_more xs i x low ∙ ap (λ y. take i xs ++ y ∷ []) (sym is))) (has_last (take i xs) x)
+
+-- ---- antichains
+-- a line that no line of an antichain is related to may stand behind it
+pub antichain_more : (lines : List (List (List ℕ))) (x : List (List ℕ)) → IsAntichain lines → ((other : List (List ℕ)) → Contains lines other → AreUnrelated other x) → IsAntichain (lines ++ x ∷ [])
+antichain_more [] x chain apart = ((λ other h. absurd (Contains-none other h)), tt)
+antichain_more (line ∷ lines) x chain apart = (
+  (λ other h. elim (has_either lines x other h) [ inl k ↦ chain.0 other k | inr e ↦ subst (AreUnrelated line) (sym e) (apart line (Contains-here line lines)) ]),
+  antichain_more lines x chain.1 (λ other h. apart other (Contains-later other line lines h)),
+)
+
+-- a line of an antichain isn't related to those before it
+pub antichain_at : (lines : List (List (List ℕ))) (i : ℕ) (x other : List (List ℕ)) → IsAntichain lines → i < length lines → x ≡ get_or lines i x → Contains (take i lines) other → AreUnrelated other x
+antichain_at [] i x other chain low is held = absurd (omega arith)
+antichain_at (line ∷ lines) zero x other chain low is held = absurd (Contains-none other held)
+antichain_at (line ∷ lines) (suc i) x other chain low is held = elim (Contains-cases other line (take i lines) held) [
+  | inl e ↦ subst (λ l. AreUnrelated l x) (sym e) (chain.0 x (i, omega arith, sym is))
+  | inr k ↦ antichain_at lines i x other chain.1 (omega arith) is k
+]
 
 -- ---- covered lines
 pub covered_under : (kept waiting : List (List (List ℕ))) (r t moved : List (List ℕ)) → Rearranged r moved → IsUnder t moved → IsCovered kept waiting r → IsCovered kept waiting t
@@ -62,6 +84,12 @@ module _ (top : List (List ℕ)) (lines left : List (List (List ℕ))) (i : ℕ)
     ]),
     (λ h. elim (in_take_more lines i x line low is h.0) [ inl k ↦ has_before left x line ((before line).1 (k, h.1)) | inr e ↦ subst (Contains (left ++ x ∷ [])) (sym e) (has_last left x) ]),
   )
+
+pub left_antichain : (top : List (List ℕ)) (lines left : List (List (List ℕ))) (i : ℕ) (x : List (List ℕ)) → i < length lines → x ≡ get_or lines i x
+    → ((line : List (List ℕ)) → Contains left line ↔ (Contains (take i lines) line × (Dominates top line → ⊥))) → (more : List (List (List ℕ))) (copy : List (List ℕ)) → copy ≡ x → more ≡ left ++ copy ∷ []
+    → IsAntichain lines → IsAntichain left → IsAntichain more
+left_antichain top lines left i x low is before more copy same pushed chain so_far =
+    subst IsAntichain (sym (pushed ∙ ap (λ c. left ++ c ∷ []) same)) (antichain_more left x so_far (λ other h. antichain_at lines i x other chain low is ((before other).0 h).0))
 
 pub left_all : (top : List (List ℕ)) (lines left : List (List (List ℕ))) (i : ℕ) → length lines ≤ i → ((line : List (List ℕ)) → Contains left line ↔ (Contains (take i lines) line × (Dominates top line → ⊥)))
     → (line : List (List ℕ)) → Contains left line ↔ (Contains lines line × (Dominates top line → ⊥))
@@ -284,6 +312,27 @@ module _ (d : ℕ) (starts old left new waiting more : List (List (List ℕ))) (
     ];
   }
 
+-- where the line can't be kept, it and those that are left are too many
+pub many_lines : (d : ℕ) (starts old left waiting : List (List (List ℕ))) (line : List (List ℕ)) → (IsDominated old line → ⊥)
+    → ((other : List (List ℕ)) → Contains left other ↔ (Contains old other × (Dominates line other → ⊥))) → IsAntichain left → MAX_ROWS ≤ length left
+    → IsKept d starts old (line ∷ waiting) → HasManyLines d starts
+many_lines d starts old left waiting line free of_old chain many before = record {
+  lines = line ∷ left;
+  generated = λ other h. elim (Contains-cases other line left h) [
+    | inl e ↦ before.generated other (inr (subst (Contains (line ∷ waiting)) (sym e) (Contains-here line waiting)))
+    | inr k ↦ before.generated other (inl ((of_old other).0 k).0)
+  ];
+  unrelated = ((λ other h. (((of_old other).0 h).1, λ dom. free (other, ((of_old other).0 h).0, dom))), chain);
+  many = omega (arith, many);
+}
+
+-- the line is kept behind those that are left
+pub antichain_kept : (old left new : List (List (List ℕ))) (line copy : List (List ℕ)) → (IsDominated old line → ⊥)
+    → ((other : List (List ℕ)) → Contains left other ↔ (Contains old other × (Dominates line other → ⊥))) → copy ≡ line → new ≡ left ++ copy ∷ [] → IsAntichain left → IsAntichain new
+antichain_kept old left new line copy free of_old same pushed chain =
+    subst IsAntichain (sym (pushed ∙ ap (λ c. left ++ c ∷ []) same))
+    (antichain_more left line chain (λ other h. ((λ dom. free (other, ((of_old other).0 h).0, dom)), ((of_old other).0 h).1)))
+
 -- where nothing waits, the kept lines are the topmost ones
 pub kept_topmost : (d : ℕ) (starts kept waiting : List (List (List ℕ))) → length waiting ≡ 0 → IsKept d starts kept waiting → AreTopmost d starts kept
 kept_topmost d starts lines waiting none is = record {
@@ -308,3 +357,8 @@ taken xs left i x low is e = subst (IsTaken xs x) (sym e) (record {
   had = λ other h. Contains-permutation xs (x ∷ swap_remove xs i x) other (IsPermutation-swap_remove xs i x low is) h;
   has = λ other h. Contains-permutation (x ∷ swap_remove xs i x) xs other (IsPermutation-sym xs (x ∷ swap_remove xs i x) (IsPermutation-swap_remove xs i x low is)) h;
 })
+
+-- ---- faults
+pub err_is : {X : Type 0} (r : Result X LinesFault) (fault : LinesFault) → IsErrAnd r (λ e. e ≡ fault) → r ≡ Err TooManyLines → fault ≡ TooManyLines
+err_is (Ok x) fault gives e = cc
+err_is {X} (Err f) fault gives e = let same : f ≡ TooManyLines = cc in sym gives ∙ same

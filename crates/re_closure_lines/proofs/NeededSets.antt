@@ -17,12 +17,12 @@ use Rattle.re_closure_laws.proofs.Generated.{active_first, passive_first}
 use Rattle.re_problem.specs.NamedProblems.{NamedProblem, unnamed}
 use Rattle.re_problem.specs.Problems.{IsProblem}
 use Rattle.re_table.specs.Strength.{up_set}
-use Rattle.re_closure_lines.specs.Kept.{AreOfLength}
+use Rattle.re_closure_lines.specs.Kept.{AreOfLength, HasManyLines}
 use Rattle.re_labels.specs.Sets.{has, number, with_label}
 use Rattle.re_closure_laws.specs.Closures.{AreClosure, AreTopmost, down_lines, up_lines}
 use Rattle.re_closure_laws.specs.Lines.{others, up}
 use Rattle.re_closure_lines.proofs.Places.{has_before, has_either, has_last}
-use Rattle.re_closure_lines.specs.ProblemFamilies.{IsNeeded}
+use Rattle.re_closure_lines.specs.ProblemFamilies.{HasManySide, IsNeeded}
 
 -- ---- all other labels
 with_label-last : (s : List ℕ) (x : ℕ) → AllByRecursion (λ y. y < x) s → with_label s x ≡ s ++ x ∷ []
@@ -163,36 +163,46 @@ map_twice : (g : List ℕ → List ℕ) (f : ℕ → List ℕ) (xs : List ℕ) �
 map_twice g f [] = refl
 map_twice g f (x ∷ xs) = (λ i. g (f x) ∷ map_twice g f xs i)
 
-pub closure_is : (problem : NamedProblem) (ups left : List (List ℕ)) (starts downs passive active : List (List (List ℕ))) (sets : List (List ℕ)) → IsProblem (unnamed problem)
-    → ups ≡ map (λ label. up_set problem.passive label (length problem.names)) (count_from 0 (length problem.names)) → left ≡ map (others (length problem.names)) ups
-    → starts ≡ map (placed ups) problem.passive.configs → downs ≡ map (placed left) problem.active.configs
-    → ((d : ℕ) → AreOfLength d starts → AreTopmost d starts passive) → ((d : ℕ) → AreOfLength d downs → AreTopmost d downs active)
-    → IsRising (λ s t. number s < number t) sets → ((set : List ℕ) → Contains sets set ↔ IsNeeded (length problem.names) passive active set)
-    → AreClosure (unnamed problem) (record { degree = problem.active.degree; lines = active; sets = map (others (length problem.names)) sets })
-    (record { degree = problem.passive.degree; lines = passive; sets = sets })
-closure_is problem ups left starts downs passive active sets is are_ups are_left are_starts are_downs top over rises need = record {
-  active_degree = refl;
-  passive_degree = refl;
-  active_lines = subst (λ l. AreTopmost problem.active.degree l active) downs_are (over problem.active.degree (λ line h. (active_first (unnamed problem) is line (subst (λ l. Contains l line) downs_are h)).0));
-  passive_lines = subst (λ l. AreTopmost problem.passive.degree l passive) starts_are (top problem.passive.degree (λ line h. (passive_first (unnamed problem) is line (subst (λ l. Contains l line) starts_are h)).0));
-  sets = need;
-  ascends = rises;
-  opposite = refl;
-}
-  where
-    ups_at : (x : ℕ) → x < length problem.names → set_at ups x ≡ up (unnamed problem) x
-    ups_at x low = ap (λ l. set_at l x) are_ups ∙ at_map (λ label. up_set problem.passive label (length problem.names)) (length problem.names) x low
+module _ (problem : NamedProblem) (ups left : List (List ℕ)) (starts downs : List (List (List ℕ))) (is : IsProblem (unnamed problem))
+    (are_ups : ups ≡ map (λ label. up_set problem.passive label (length problem.names)) (count_from 0 (length problem.names))) (are_left : left ≡ map (others (length problem.names)) ups)
+    (are_starts : starts ≡ map (placed ups) problem.passive.configs) (are_downs : downs ≡ map (placed left) problem.active.configs) where
+  ups_at : (x : ℕ) → x < length problem.names → set_at ups x ≡ up (unnamed problem) x
+  ups_at x low = ap (λ l. set_at l x) are_ups ∙ at_map (λ label. up_set problem.passive label (length problem.names)) (length problem.names) x low
 
-    left_are : left ≡ map (λ label. others (length problem.names) (up_set problem.passive label (length problem.names))) (count_from 0 (length problem.names))
-    left_are = are_left ∙ ap (map (others (length problem.names))) are_ups ∙ map_twice (others (length problem.names)) (λ label. up_set problem.passive label (length problem.names)) (count_from 0 (length problem.names))
+  left_are : left ≡ map (λ label. others (length problem.names) (up_set problem.passive label (length problem.names))) (count_from 0 (length problem.names))
+  left_are = are_left ∙ ap (map (others (length problem.names))) are_ups ∙ map_twice (others (length problem.names)) (λ label. up_set problem.passive label (length problem.names)) (count_from 0 (length problem.names))
 
-    left_at : (x : ℕ) → x < length problem.names → set_at left x ≡ others (length problem.names) (up (unnamed problem) x)
-    left_at x low = ap (λ l. set_at l x) left_are ∙ at_map (λ label. others (length problem.names) (up_set problem.passive label (length problem.names))) (length problem.names) x low
+  left_at : (x : ℕ) → x < length problem.names → set_at left x ≡ others (length problem.names) (up (unnamed problem) x)
+  left_at x low = ap (λ l. set_at l x) left_are ∙ at_map (λ label. others (length problem.names) (up_set problem.passive label (length problem.names))) (length problem.names) x low
 
-    starts_are : starts ≡ up_lines (unnamed problem)
-    starts_are = are_starts ∙ map-alike (placed ups) (map (up (unnamed problem))) problem.passive.configs
-        (λ config h. placed_all ups (up (unnamed problem)) (length problem.names) config ups_at (AllByRecursion-contains (IsConfig problem.passive.degree (length problem.names)) problem.passive.configs config is.passive.configs h).below)
+  starts_are : starts ≡ up_lines (unnamed problem)
+  starts_are = are_starts ∙ map-alike (placed ups) (map (up (unnamed problem))) problem.passive.configs
+      (λ config h. placed_all ups (up (unnamed problem)) (length problem.names) config ups_at (AllByRecursion-contains (IsConfig problem.passive.degree (length problem.names)) problem.passive.configs config is.passive.configs h).below)
 
-    downs_are : downs ≡ down_lines (unnamed problem)
-    downs_are = are_downs ∙ map-alike (placed left) (map (λ x. others (length problem.names) (up (unnamed problem) x))) problem.active.configs
-        (λ config h. placed_all left (λ x. others (length problem.names) (up (unnamed problem) x)) (length problem.names) config left_at (AllByRecursion-contains (IsConfig problem.active.degree (length problem.names)) problem.active.configs config is.active.configs h).below)
+  downs_are : downs ≡ down_lines (unnamed problem)
+  downs_are = are_downs ∙ map-alike (placed left) (map (λ x. others (length problem.names) (up (unnamed problem) x))) problem.active.configs
+      (λ config h. placed_all left (λ x. others (length problem.names) (up (unnamed problem) x)) (length problem.names) config left_at (AllByRecursion-contains (IsConfig problem.active.degree (length problem.names)) problem.active.configs config is.active.configs h).below)
+
+  -- lines that are too many, of one side
+  pub many_passive : ((d : ℕ) → AreOfLength d starts → HasManyLines d starts) → HasManySide (unnamed problem)
+  many_passive many =
+      inl (subst (HasManyLines problem.passive.degree) starts_are (many problem.passive.degree (λ line h. (passive_first (unnamed problem) is line (subst (λ l. Contains l line) starts_are h)).0)))
+
+  pub many_active : ((d : ℕ) → AreOfLength d downs → HasManyLines d downs) → HasManySide (unnamed problem)
+  many_active many =
+      inr (subst (HasManyLines problem.active.degree) downs_are (many problem.active.degree (λ line h. (active_first (unnamed problem) is line (subst (λ l. Contains l line) downs_are h)).0)))
+
+  -- the families are the closure
+  pub closure_is : (passive active : List (List (List ℕ))) (sets : List (List ℕ)) → ((d : ℕ) → AreOfLength d starts → AreTopmost d starts passive) → ((d : ℕ) → AreOfLength d downs → AreTopmost d downs active)
+      → IsRising (λ s t. number s < number t) sets → ((set : List ℕ) → Contains sets set ↔ IsNeeded (length problem.names) passive active set)
+      → AreClosure (unnamed problem) (record { degree = problem.active.degree; lines = active; sets = map (others (length problem.names)) sets })
+      (record { degree = problem.passive.degree; lines = passive; sets = sets })
+  closure_is passive active sets top over rises need = record {
+    active_degree = refl;
+    passive_degree = refl;
+    active_lines = subst (λ l. AreTopmost problem.active.degree l active) downs_are (over problem.active.degree (λ line h. (active_first (unnamed problem) is line (subst (λ l. Contains l line) downs_are h)).0));
+    passive_lines = subst (λ l. AreTopmost problem.passive.degree l passive) starts_are (top problem.passive.degree (λ line h. (passive_first (unnamed problem) is line (subst (λ l. Contains l line) starts_are h)).0));
+    sets = need;
+    ascends = rises;
+    opposite = refl;
+  }

@@ -1,7 +1,8 @@
 -- Lines that are kept, and lines that wait.
-use Rattle.std.specs.Prelude.{◌≡◌, ℕ, ◌<◌, ◌⊎◌, List, ◌∷◌, length, Contains}
+use Rattle.std.specs.Prelude.{◌≡◌, ℕ, ◌<◌, ◌⊎◌, List, [], ◌∷◌, length, Contains}
 use Rattle.re_config.specs.Rearranging.{Rearranged}
-use Rattle.re_config.specs.Rows.{combined}
+use Rattle.re_config.specs.Rows.{Dominates, combined}
+use Rattle.re_config.specs.declared.TheConstants.{MAX_ROWS}
 use Rattle.re_table.specs.GoodRows.{IsDominated}
 use Rattle.re_closure_laws.specs.Closures.{IsGenerated}
 use Rattle.re_closure_laws.specs.Lines.{AreApart}
@@ -10,6 +11,22 @@ use Rattle.re_closure_lines.specs.Combining.{IsCombination}
 -- all lines are of d sets
 abbrev pub AreOfLength : ℕ → List (List (List ℕ)) → Type 0
 AreOfLength d lines = (line : List (List ℕ)) → Contains lines line → length line ≡ d
+
+-- neither of the two lines dominates the other
+abbrev pub AreUnrelated : List (List ℕ) → List (List ℕ) → Type 0
+AreUnrelated line other = (Dominates line other → ⊥) × (Dominates other line → ⊥)
+
+-- none of the lines dominates another one; so none stands twice
+abbrev pub IsAntichain : List (List (List ℕ)) → Type 0
+IsAntichain [] = Unit {0}
+IsAntichain (line ∷ lines) = ((other : List (List ℕ)) → Contains lines other → AreUnrelated line other) × IsAntichain lines
+
+-- more than `MAX_ROWS` lines of which none dominates another come from the starts by combinations
+pub record HasManyLines (d : ℕ) (starts : List (List (List ℕ))) : Type 0 where
+  pub lines : List (List (List ℕ))
+  pub generated : (line : List (List ℕ)) → Contains lines line → IsGenerated d starts line
+  pub unrelated : IsAntichain lines
+  pub many : MAX_ROWS < length lines
 
 -- a kept line or one that waits dominates the line
 abbrev pub IsCovered : List (List (List ℕ)) → List (List (List ℕ)) → List (List ℕ) → Type 0

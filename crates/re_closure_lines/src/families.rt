@@ -7,9 +7,9 @@ ghost use Rattle.re_labels.specs.declared.TheConstants.{MAX_LABELS};
 ghost use Rattle.re_closure_laws.specs.Closures.{AreClosure};
 ghost use Rattle.re_closure_laws.specs.Lines.{others};
 ghost use Rattle.re_problem.specs.NamedProblems.{unnamed};
-ghost use Rattle.re_closure_lines.specs.ProblemFamilies.{IsNeeded, active_family, passive_family};
+ghost use Rattle.re_closure_lines.specs.ProblemFamilies.{HasManySide, IsNeeded, active_family, passive_family};
 ghost use Rattle.std.specs.List.Sorted.{IsNonDecreasingBy, IsPermutation};
-ghost use Rattle.std.specs.Prelude.{◌≡◌, ◌<◌, ◌≤◌, ◌↔◌, ◌++◌, Contains, IfOk, List, flat_map, length, map, ℕ};
+ghost use Rattle.std.specs.Prelude.{◌≡◌, ◌<◌, ◌≤◌, ◌↔◌, ◌++◌, Contains, Err, IfOk, List, flat_map, length, map, ℕ};
 
 use crate::dominating::is_again;
 use crate::line::SetLine;
@@ -151,15 +151,16 @@ fn needed_sets(
     without_repeats(alloc, all.as_slice())
 }
 
-/// The closure of the problem: the topmost lines of both sides, and the sets for which its labels stand. `TooManyLines` comes where
-/// `topmost_lines` answers it for one of the sides, the passive one first; the labels may be more than a problem may have. Each side has at
-/// most `re_config::MAX_ROWS` lines.
+/// The closure of the problem: the topmost lines of both sides, and the sets for which its labels stand. `TooManyLines` and
+/// `TooManyCombinations` come where `topmost_lines` answers them for one of the sides, the passive one first; the labels may be more than
+/// a problem may have. Each side has at most `re_config::MAX_ROWS` lines.
 ///
 /// It costs what `re_rests::up_sets` and `topmost_lines` cost.
 pub fn closure_families(alloc: Global, problem: &Problem) -> Result<Families, LinesFault>
     ensures closure { IfOk result (λ families. AreClosure (unnamed problem.now) (active_family problem.now families) (passive_family problem.now families)) }
     ensures few_passive { IfOk result (λ families. length families.passive.items ≤ MAX_ROWS) }
     ensures few_active { IfOk result (λ families. length families.active.items ≤ MAX_ROWS) }
+    ensures many { result ≡ Err LinesFault.TooManyLines → HasManySide (unnamed problem.now) }
 {
     let labels = problem.names().len() as u8;
     let ups = re_rests::up_sets(problem.passive(), labels);

@@ -2,8 +2,8 @@
 ghost use Rattle.re_config.specs.Rows.{Dominates};
 ghost use Rattle.re_config.specs.declared.TheConstants.{MAX_ROWS};
 ghost use Rattle.re_closure_laws.specs.Closures.{AreTopmost};
-ghost use Rattle.re_closure_lines.specs.Kept.{AreOfLength, AreOffered, AreSettled, IsKept, IsTaken};
-ghost use Rattle.std.specs.Prelude.{◌≡◌, ◌<◌, ◌≤◌, ◌↔◌, Contains, IfOk, List, OnOk, length, ℕ, ◌∷◌};
+ghost use Rattle.re_closure_lines.specs.Kept.{AreOfLength, AreOffered, AreSettled, HasManyLines, IsAntichain, IsKept, IsTaken};
+ghost use Rattle.std.specs.Prelude.{◌≡◌, ◌≢◌, Err, ◌<◌, ◌≤◌, ◌↔◌, Contains, IfOk, List, OnOk, length, ℕ, ◌∷◌};
 
 use crate::combining::combinations;
 use crate::dominating::{dominates, is_dominated};
@@ -18,26 +18,39 @@ pub const MAX_COMBINATIONS: usize = 1_048_576;
 /// Why the topmost lines could not be given.
 #[derive(Clone, Copy, Debug, PartialEq, Eq)]
 pub enum LinesFault {
-    /// More than `re_config::MAX_ROWS` lines were kept at a time on the way, or more than `MAX_COMBINATIONS` combinations waited or
-    /// had to be looked at.
+    /// More than `re_config::MAX_ROWS` lines, of which none dominates another, would have been kept at a time on the way.
     TooManyLines,
+    /// More than `MAX_COMBINATIONS` combinations waited, or had to be looked at: a bound on the work of the search alone.
+    TooManyCombinations,
     /// There was no memory.
     NoMemory,
 }
 
 impl From<NoMemory> for LinesFault {
+    ghost use Rattle.re_closure_lines.specs.declared.topmost.LinesFault.TheVariants.{NoMemory as no_memory};
+
+    ghost from_gives = { λ _ e. e ≡ no_memory };
+
     fn from(_: NoMemory) -> LinesFault {
         LinesFault::NoMemory
     }
 }
 
 impl From<AllocError> for LinesFault {
+    ghost use Rattle.re_closure_lines.specs.declared.topmost.LinesFault.TheVariants.{NoMemory as no_memory};
+
+    ghost from_gives = { λ _ e. e ≡ no_memory };
+
     fn from(_: AllocError) -> LinesFault {
         LinesFault::NoMemory
     }
 }
 
 impl<T: Drop> From<AllocFailed<T>> for LinesFault {
+    ghost use Rattle.re_closure_lines.specs.declared.topmost.LinesFault.TheVariants.{NoMemory as no_memory};
+
+    ghost from_gives = { λ _ e. e ≡ no_memory };
+
     fn from(_fault: AllocFailed<T>) -> LinesFault {
         LinesFault::NoMemory
     }
@@ -79,8 +92,9 @@ fn take_largest(waiting: &mut Vec<SetLine>) -> SetLine
 }
 
 // The lines that the top doesn't dominate.
-fn not_below(alloc: Global, lines: &[SetLine], top: &SetLine) -> Result<Vec<SetLine>, LinesFault>
-    ensures { IfOk result (λ left. (line : List (List ℕ)) → Contains left.items line ↔ (Contains lines.now line × (¬ Dominates top.now line))) }
+fn not_below(alloc: Global, lines: &[SetLine], top: &SetLine) -> Result<Vec<SetLine>, NoMemory>
+    ensures left { IfOk result (λ left. (line : List (List ℕ)) → Contains left.items line ↔ (Contains lines.now line × (¬ Dominates top.now line))) }
+    ensures unrelated { IfOk result (λ left. IsAntichain lines.now → IsAntichain left.items) }
 {
     let mut left = Vec::new(alloc);
     for line in lines {
@@ -93,12 +107,13 @@ fn not_below(alloc: Global, lines: &[SetLine], top: &SetLine) -> Result<Vec<SetL
 
 // Lets each line that was found wait, unless a kept one dominates it.
 fn offer(kept: &[SetLine], found: &[SetLine], waiting: &mut Vec<SetLine>) -> Result<(), LinesFault>
-    ensures { OnOk result (AreOffered kept.now found.now waiting.old.items waiting.new.items) }
+    ensures offered { OnOk result (AreOffered kept.now found.now waiting.old.items waiting.new.items) }
+    ensures fault { result ≢ Err LinesFault.TooManyLines }
 {
     for line in found {
         if !is_dominated(kept, line) {
             if waiting.len() >= MAX_COMBINATIONS {
-                return Err(LinesFault::TooManyLines);
+                return Err(LinesFault::TooManyCombinations);
             }
             waiting.push(line.copy())?;
         }
@@ -113,7 +128,8 @@ fn offer_combinations(
     line: &SetLine,
     waiting: &mut Vec<SetLine>,
 ) -> Result<(), LinesFault>
-    ensures { OnOk result (AreSettled kept.now line.now waiting.old.items waiting.new.items) }
+    ensures settled { OnOk result (AreSettled kept.now line.now waiting.old.items waiting.new.items) }
+    ensures fault { result ≢ Err LinesFault.TooManyLines }
 {
     let length = line.sets().len();
     for other in kept {
@@ -135,6 +151,9 @@ fn settle(
     ensures kept { OnOk result ((d : ℕ) (starts : List (List (List ℕ))) → IsKept d starts kept.old.items (line.now ∷ waiting.old.items)
         → IsKept d starts kept.new.items waiting.new.items) }
     ensures few { OnOk result (length kept.old.items ≤ MAX_ROWS → length kept.new.items ≤ MAX_ROWS) }
+    ensures unrelated { OnOk result (IsAntichain kept.old.items → IsAntichain kept.new.items) }
+    ensures many { result ≡ Err LinesFault.TooManyLines → (d : ℕ) (starts : List (List (List ℕ))) → IsAntichain kept.old.items
+        → IsKept d starts kept.old.items (line.now ∷ waiting.old.items) → HasManyLines d starts }
 {
     if is_dominated(kept.as_slice(), line) {
         return Ok(());
@@ -150,14 +169,18 @@ fn settle(
 }
 
 /// The topmost lines of what comes from some lines of one length by combinations: each such line is dominated by one of them, and
-/// none of them dominates another. They are at most `re_config::MAX_ROWS`, and come in no certain order. `TooManyLines` depends on the lines on the way, which dominate one
-/// another; these are settled with many labels first.
+/// none of them dominates another. They are at most `re_config::MAX_ROWS`, and come in no certain order.
+///
+/// `TooManyLines` comes only where more lines than that, of which none dominates another, come from the given ones. Whether these are
+/// met on the way, before lines that dominate them, is the algorithm's: it settles lines with many labels first. `TooManyCombinations`
+/// bounds its work.
 ///
 /// The cost is that of the combinations of each line that is kept at some time with those that are kept then, each compared with
 /// the kept ones.
 pub fn topmost_lines(alloc: Global, starts: Vec<SetLine>) -> Result<Vec<SetLine>, LinesFault>
     ensures topmost { IfOk result (λ lines. (d : ℕ) → AreOfLength d starts.items → AreTopmost d starts.items lines.items) }
     ensures few { IfOk result (λ lines. length lines.items ≤ MAX_ROWS) }
+    ensures many { result ≡ Err LinesFault.TooManyLines → (d : ℕ) → AreOfLength d starts.items → HasManyLines d starts.items }
 {
     let mut waiting = starts;
     let mut kept = Vec::new(alloc);
@@ -168,5 +191,5 @@ pub fn topmost_lines(alloc: Global, starts: Vec<SetLine>) -> Result<Vec<SetLine>
         let line = take_largest(&mut waiting);
         settle(alloc, &mut kept, &line, &mut waiting)?;
     }
-    Err(LinesFault::TooManyLines)
+    Err(LinesFault::TooManyCombinations)
 }

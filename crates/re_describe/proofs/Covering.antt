@@ -17,7 +17,7 @@ use Rattle.re_table.specs.GoodRows.{IsDominated, IsGood, is_dominated, max_rows}
 use Rattle.re_universal.proofs.Keeping.{up_to, contains_last, contains_either}
 use Rattle.re_describe.specs.Spelling.{Spells, TakesIn}
 
-abbrev Rows : Type 0
+abbrev pub Rows : Type 0
 Rows = List (List (List ℕ))
 
 -- ---- maximal rows spell
@@ -31,7 +31,7 @@ labels_below d n [] h = tt
 labels_below d n (c ∷ configs) h = (h.0.below, labels_below d n configs h.1)
 
 -- ---- each configuration alone
-chosen_alone : (config labels : List ℕ) → IsChoice labels (singles config) → labels ≡ config
+pub chosen_alone : (config labels : List ℕ) → IsChoice labels (singles config) → labels ≡ config
 chosen_alone [] [] h = refl
 chosen_alone [] (x ∷ labels) h = absurd h
 chosen_alone (y ∷ config) [] h = absurd h
@@ -97,7 +97,7 @@ alone_dominated config = (singles config, Contains-here (singles config) [], Dom
 pub taken_in : (constraint : Constraint) (place : ℕ) (others old new : Rows) (row : List (List ℕ)) → Spells constraint others → SpellsFirst constraint place old → row ≡ singles (get_or constraint.configs place [])
     → TakesIn others old new row → SpellsFirst constraint (place + 1) new
 taken_in constraint place others old new row spells before is (inl (has, same)) = subst (SpellsFirst constraint (place + 1)) (sym same) (one_kept constraint place old before (subst (IsDominated old) is has))
-taken_in constraint place others old new row spells before is (inr (top, held, has, more)) = one_more constraint place old new top before (spells.good top held) (subst (IsDominated (top ∷ [])) is has) more
+taken_in constraint place others old new row spells before is (inr (none, (top, held, has, more))) = one_more constraint place old new top before (spells.good top held) (subst (IsDominated (top ∷ [])) is has) more
 
 -- ---- the configuration at a place
 pub there : (constraint : Constraint) (place : ℕ) → place < length constraint.configs → Contains constraint.configs (get_or constraint.configs place [])
@@ -130,6 +130,11 @@ none_tops rows row n none all (top, held, has) =
     let whole : take n rows ≡ rows = take_all n rows all in
     let told : is_dominated rows row ≡ true = any_true (λ top. dominates top row) rows top held (Dominates-dominates top row has) in
     let bad : false ≡ true = sym none ∙ ap (λ r. is_dominated r row) whole ∙ told in cc
+
+pub not_dominated : (rows : Rows) (row : List (List ℕ)) → is_dominated rows row ≡ false → IsDominated rows row → ⊥
+not_dominated rows row none (top, held, has) =
+    let told : is_dominated rows row ≡ true = any_true (λ top. dominates top row) rows top held (Dominates-dominates top row has) in
+    let bad : false ≡ true = sym none ∙ told in cc
 
 pub has_one : (rows : Rows) (row : List (List ℕ)) → is_dominated rows row ≡ true → IsDominated rows row
 has_one rows row told = let one = any_found (λ top. dominates top row) rows told in (one.0, one.1, dominates-Dominates one.0 row one.2)

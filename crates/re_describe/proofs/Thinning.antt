@@ -1,5 +1,5 @@
 -- The weakest labels of a set.
-use Rattle.std.proofs.Common.{◌≡◌, ℕ, ◌<◌, ◌-◌, Bool, true, false, not, List, [], ◌∷◌, refl, sym, ap, ◌∙◌, subst, ◌⊎◌, inl, inr, arith, eqb}
+use Rattle.std.proofs.Common.{◌≡◌, ℕ, ◌<◌, ◌≤◌, ◌-◌, Bool, true, false, not, List, [], ◌∷◌, refl, sym, ap, ◌∙◌, subst, ◌⊎◌, inl, inr, arith, eqb}
 use Rattle.std.specs.Prelude.{IsTrue, ◌↔◌, nat_lt}
 use Rattle.std.specs.List.{AllByRecursion, list_all}
 use Rattle.std.proofs.lemmas.Bool.Decides.{nat_tests}
@@ -70,11 +70,33 @@ apart_on ups kept result label within here below x y low held other up = elim (b
   | inr e ↦ here x (within x held) (within (label - 1) (subst (λ z. IsIn z result) e other)) (subst (λ z. IsIn z (ups x)) e up) ∙ sym e
 ]
 
+-- ---- of equally strong labels the least one stays
+pub rest_stays : (set : List ℕ) (label : ℕ) (x : ℕ) → IsIn x set → (x ≡ label → ⊥) → IsIn x (without_label set label)
+rest_stays set label x held other = elim (in_rest set x label held) [ inl e ↦ absurd (other e) | inr rest ↦ rest ]
+
+pub least_on : (ups : ℕ → List ℕ) (set kept result : List ℕ) (label : ℕ) → IsWithin result kept → ((x : ℕ) → IsIn x set → (x ≡ label - 1 → ⊥) → IsIn x kept)
+    → ((x : ℕ) → IsIn x kept → IsIn (label - 1) kept → IsIn (label - 1) (ups x) → x ≡ label - 1)
+    → ((x y : ℕ) → x < label - 1 → IsIn x result → IsIn y kept → IsIn x (ups y) → x ≤ y)
+    → (x y : ℕ) → x < label → IsIn x result → IsIn y set → IsIn x (ups y) → x ≤ y
+least_on ups set kept result label within stays here below x y low held other up = elim (same_or y (label - 1)) [
+  | inl e ↦ omega (arith, low, e)
+  | inr e ↦
+      let there : IsIn y kept = stays y other (λ same. let equal : eqb y (label - 1) ≡ true = ap (λ z. eqb z (label - 1)) same ∙ eqb-same (label - 1) in let bad : false ≡ true = sym e ∙ equal in cc) in
+      elim (below-or x label low) [
+        | inl less ↦ below x y less held there up
+        | inr last ↦
+            let one = here y there (subst (λ z. IsIn z kept) last (within x held)) (subst (λ z. IsIn z (ups y)) last up) in
+            omega (arith, one, last)
+      ]
+]
+
 -- ---- all weakest labels
 pub weakest_tell : (ups : ℕ → List ℕ) (n : ℕ) (set weakest : List ℕ) → ((x : ℕ) → IsIn x (ups x)) → IsLabelSet n set → IsUp ups set → IsWithin weakest set
-    → ((y : ℕ) → IsAbove ups set y → IsAbove ups weakest y) → ((x y : ℕ) → y < n → IsIn x weakest → IsIn y weakest → IsIn y (ups x) → x ≡ y) → AreWeakest ups set weakest
-weakest_tell ups n set weakest holds is closed within whole apart = record {
+    → ((y : ℕ) → IsAbove ups set y → IsAbove ups weakest y) → ((x y : ℕ) → y < n → IsIn x weakest → IsIn y weakest → IsIn y (ups x) → x ≡ y)
+    → ((x y : ℕ) → x < n → IsIn x weakest → IsIn y set → IsIn x (ups y) → x ≤ y) → AreWeakest ups set weakest
+weakest_tell ups n set weakest holds is closed within whole apart least = record {
   within = within;
   whole = λ y. ((λ held. whole y (y, held, holds y)), (λ above. closed above.0 (within above.0 above.1) y above.2));
   apart = λ x y held other up. apart x y (AllByRecursion-contains (λ z. z < n) set y is.1 (within y other)) held other up;
+  least = λ x y held other up. least x y (AllByRecursion-contains (λ z. z < n) set x is.1 (within x held)) held other up;
 }

@@ -1,11 +1,12 @@
 -- What a report on a certificate begins with.
-use Rattle.std.specs.Prelude.{ℕ, ◌+◌, ◌/◌, ◌==◌, List, ◌++◌, codes, if◌then◌else◌, length}
+use Rattle.std.specs.Prelude.{ℕ, ◌==◌, List, ◌++◌, codes, if◌then◌else◌, length}
 use Rattle.std.specs.Fmt.{decimal}
 use Rattle.re_cert.specs.Bounds.{Bound}
 use Rattle.re_cert.specs.declared.certificate.Kind.TheVariants.{Fixed, Lower, Upper}
 use Rattle.re_check.specs.Verdicts.{verdict_of}
 use Rattle.re_check.specs.declared.verdict.Verdict.{Verdict}
 use Rattle.re_check.specs.declared.verdict.Verdict.TheVariants.{Accepted, Refused}
+use Rattle.re_describe.specs.GraphRounds.{rounds_above, rounds_below}
 use Rattle.re_frame.specs.Check.{verdict_line}
 use Rattle.re_problem.specs.NamedProblems.{NamedProblem}
 use Rattle.re_table.specs.Constraints.{Constraint}
@@ -25,9 +26,9 @@ model active passive =
 
 -- what a verdict says of rounds of the graph whose edges the passive nodes are: two hops are one round
 abbrev pub graph_claim : Verdict → List ℕ
-graph_claim (Accepted Lower steps) = codes "The passive nodes are the edges of a graph, and two hops are one round of the graph. Problem 0 isn't solvable in " ++ decimal (steps / 2) ++ codes " or fewer rounds of the graph.\n"
+graph_claim (Accepted Lower steps) = codes "The passive nodes are the edges of a graph, and two hops are one round of the graph. Problem 0 isn't solvable in " ++ decimal (rounds_below steps) ++ codes " or fewer rounds of the graph.\n"
 graph_claim (Accepted Upper steps) =
-    codes "The passive nodes are the edges of a graph, and two hops are one round of the graph. Problem 0 is solvable in " ++ decimal ((steps + 1) / 2)
+    codes "The passive nodes are the edges of a graph, and two hops are one round of the graph. Problem 0 is solvable in " ++ decimal (rounds_above steps)
     ++ codes " rounds of the graph, where each edge numbers its two ends, so that the graph comes with an orientation.\n"
 graph_claim (Accepted Fixed steps) = codes "The passive nodes are the edges of a graph, and two hops are one round of the graph. Problem 0 isn't solvable in any number of rounds of the graph.\n"
 graph_claim (Refused step clause) = codes "The passive nodes are the edges of a graph, and two hops are one round of the graph.\n"

@@ -1,3 +1,4 @@
+pub mod GraphRounds
 pub mod Heads
 pub mod Meanings
 pub mod Spelling

@@ -1,6 +1,6 @@
 //! A constraint in few rows.
 ghost use Rattle.re_config.specs.Rows.{singles};
-ghost use Rattle.re_describe.specs.Spelling.{Condenses, Spells, TakesIn};
+ghost use Rattle.re_describe.specs.Spelling.{AreAlone, AreApart, AreSources, AreTaken, Condenses, Spells, TakesIn};
 ghost use Rattle.re_labels.specs.declared.TheConstants.{MAX_LABELS};
 ghost use Rattle.re_table.specs.Constraints.{IsConstraint};
 ghost use Rattle.re_table.specs.GoodRows.{IsDominated, is_dominated};
@@ -36,7 +36,7 @@ fn larger_first(row: &Row, other: &Row) -> Ordering {
 
 // Each configuration as a row of its own.
 fn rows_alone(alloc: Global, constraint: &Constraint) -> Result<Vec<Row>, NoMemory>
-    ensures { IfOk result (λ rows. Spells constraint.now rows.items) }
+    ensures { IfOk result (λ rows. Spells constraint.now rows.items × AreAlone constraint.now rows.items) }
 {
     let _degree = constraint.degree();
     let mut rows = Vec::new(alloc);
@@ -53,7 +53,7 @@ fn rows_alone(alloc: Global, constraint: &Constraint) -> Result<Vec<Row>, NoMemo
 fn spelling(alloc: Global, constraint: &Constraint, labels: u8) -> Result<Vec<Row>, NoMemory>
     requires labels { labels ≤ MAX_LABELS }
     requires constraint { IsConstraint labels constraint.now }
-    ensures { IfOk result (λ rows. Spells constraint.now rows.items) }
+    ensures { IfOk result (λ rows. AreSources constraint.now labels rows.items) }
 {
     match maximal_rows(alloc, constraint, labels) {
         Ok(rows) => Ok(rows),
@@ -105,8 +105,9 @@ fn take_in(few: &mut Vec<Row>, others: &[Row], row: &Row) -> Result<(), NoMemory
 
 // Few of the rows that spell the constraint and still spell it: the first ones that have a configuration of which none before has it.
 fn covering(alloc: Global, constraint: &Constraint, rows: &[Row]) -> Result<Vec<Row>, NoMemory>
-    requires { Spells constraint.now rows.now }
-    ensures { IfOk result (λ few. Spells constraint.now few.items) }
+    requires spells { Spells constraint.now rows.now }
+    requires apart { AreApart rows.now }
+    ensures { IfOk result (λ few. AreTaken constraint.now rows.now few.items) }
 {
     let _degree = constraint.degree();
     let mut few: Vec<Row> = Vec::new(alloc);
@@ -120,9 +121,9 @@ fn covering(alloc: Global, constraint: &Constraint, rows: &[Row]) -> Result<Vec<
     Ok(few)
 }
 
-/// Rows that spell the constraint: every choice of one label of each set is a configuration, and each configuration is such a choice.
-/// They are maximal rows, few of them, those of many choices first; or each configuration alone, where there are more than 1024
-/// maximal rows. None exactly where there are more than `MOST_LISTED` configurations. It costs what `maximal_rows` costs, and a walk
+/// The groups of a constraint, rows that spell it: every choice of one label of each set is a configuration, and each configuration is such a
+/// choice. They are maximal rows, few of them, those of many choices first; or each configuration alone, where there are more than 1024
+/// maximal rows. None stands twice, or dominates another one. None exactly where there are more than `MOST_LISTED` configurations. It costs what `maximal_rows` costs, and a walk
 /// over these rows for each configuration.
 pub fn condensed(
     alloc: Global,
@@ -131,7 +132,7 @@ pub fn condensed(
 ) -> Result<Option<Vec<Row>>, NoMemory>
     requires labels { labels ≤ MAX_LABELS }
     requires constraint { IsConstraint labels constraint.now }
-    ensures { IfOk result (λ rows. Condenses constraint.now (option_map (λ few. few.items) rows)) }
+    ensures { IfOk result (λ rows. Condenses constraint.now labels (option_map (λ few. few.items) rows)) }
 {
     if constraint.len() > MOST_LISTED {
         return Ok(None);

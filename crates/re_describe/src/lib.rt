@@ -13,7 +13,15 @@ mod reading;
 mod reporting;
 mod steps;
 
+ghost use Rattle.re_describe.specs.GraphRounds.{GraphLaw};
+
 pub use answering::{Describe, describe_help, names_describe};
 pub use condensing::{MOST_LISTED, condensed};
 pub use meanings::{Meaning, meaning_of};
 pub use reporting::report;
+
+/// What a verdict says in rounds of the graph whose edges the passive nodes are, as reports say it: two hops are one round. What isn't solvable in
+/// k or fewer hops isn't in the half of k or fewer rounds, rounded down; what is solvable in k hops is in the half of k, rounded up.
+pub fn graph_law()
+    ensures { GraphLaw }
+{}

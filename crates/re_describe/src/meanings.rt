@@ -76,6 +76,7 @@ fn thinned_at(strength: &Strength, set: LabelSet, label: u8) -> LabelSet
     ensures within { IsWithin result set }
     ensures whole { (y : ℕ) → IsAbove (ups_in strength.now.ups.items) set y → IsAbove (ups_in strength.now.ups.items) result y }
     ensures apart { (x : ℕ) → IsIn x result → IsIn label result → IsIn label (ups_in strength.now.ups.items x) → x ≡ label }
+    ensures stays { (x : ℕ) → IsIn x set → (x ≡ label → ⊥) → IsIn x result }
 {
     let others = set.remove(label);
     if is_above(strength, others, label) {
@@ -93,6 +94,7 @@ fn thinned(strength: &Strength, set: LabelSet, label: u8) -> LabelSet
     ensures within { IsWithin result set }
     ensures whole { (y : ℕ) → IsAbove (ups_in strength.now.ups.items) set y → IsAbove (ups_in strength.now.ups.items) result y }
     ensures apart { (x y : ℕ) → y < label → IsIn x result → IsIn y result → IsIn y (ups_in strength.now.ups.items x) → x ≡ y }
+    ensures least { (x y : ℕ) → x < label → IsIn x result → IsIn y set → IsIn x (ups_in strength.now.ups.items y) → x ≤ y }
 {
     if label == 0 {
         return set;

@@ -1,16 +1,19 @@
 // The command that the words name. A family of words is a variant here, an arm in `command_from` and in `output_from`, and its lines of help.
-ghost use Rattle.re_explore.specs.Commands.{Fits, bad_words, command_of, command_over_certificates, command_over_chains, help_text, is_help};
+ghost use Rattle.re_explore.specs.Commands.{Fits, bad_words, command_of, chain_lines, command_over_certificates, command_over_chains, command_over_problems, help_text, is_help, problem_lines};
 ghost use Rattle.re_frame.specs.Outcomes.{done as done_with, outcome_of};
-ghost use Rattle.std.specs.Prelude.{◌≡◌, ◌++◌, IfOk, IfSome, map, string_bytes};
+ghost use Rattle.std.specs.Prelude.{◌≡◌, ◌++◌, IfOk, IfSome, OnOk, map, string_bytes};
 
 use re_bridge_words::{bridge_help, names_bridge};
 use re_chain_words::{ChainWord, chain_help, chain_word};
-use re_closure::{closure_help, names_closure};
+use re_closure::{ClosureWord, closure_help, closure_word};
 use re_describe::{describe_help, names_describe};
 use re_frame::{Answer, Output, begun, done, push_words};
+use re_given_words::{GivenWord, given_help, given_word};
 use re_graph_words::{GraphWord, graph_help, graph_word};
+use re_inputs::{InputWord, input_help, input_word};
 use re_labels::NoMemory;
 use re_search_words::{SearchWord, search_help, search_word};
+use re_settle::{names_settle, settle_help};
 use re_why::{names_why, why_help};
 use std::alloc::Global;
 
@@ -25,13 +28,19 @@ pub(crate) enum Command {
     /// A search that goes on from a chain.
     Searches(SearchWord),
     /// The fixed point by right-closed sets.
-    Closes,
+    Closes(ClosureWord),
     /// A step to a given problem.
     Bridges,
     /// A report on a certificate.
     Describes,
+    /// How many rounds a problem takes.
+    Settles,
     /// A problem on finite graphs.
     Graphs(GraphWord),
+    /// A problem or a bound where a solution of an input problem is given.
+    Givens(GivenWord),
+    /// An input problem that has a name.
+    Inputs(InputWord),
 }
 
 fn is_help(words: &[String]) -> bool
@@ -54,8 +63,8 @@ fn command_over_chains(words: &[String]) -> Option<Command>
     if let Some(word) = search_word(words) {
         return Some(Command::Searches(word));
     }
-    if names_closure(words) {
-        return Some(Command::Closes);
+    if let Some(word) = closure_word(words) {
+        return Some(Command::Closes(word));
     }
     if names_bridge(words) {
         return Some(Command::Bridges);
@@ -68,13 +77,31 @@ fn command_over_certificates(words: &[String]) -> Option<Command>
     ensures command { result ≡ command_over_certificates (map string_bytes words.now) }
     ensures fits { IfSome result Fits }
 {
-    if let Some(word) = graph_word(words) {
-        return Some(Command::Graphs(word));
-    }
     if names_why(words) {
         Some(Command::Explains)
     } else if names_describe(words) {
         Some(Command::Describes)
+    } else {
+        None
+    }
+}
+
+// The command that tells of a problem, alone or beside an input problem or a graph.
+fn command_over_problems(words: &[String]) -> Option<Command>
+    ensures command { result ≡ command_over_problems (map string_bytes words.now) }
+    ensures fits { IfSome result Fits }
+{
+    if let Some(word) = graph_word(words) {
+        return Some(Command::Graphs(word));
+    }
+    if let Some(word) = given_word(words) {
+        return Some(Command::Givens(word));
+    }
+    if let Some(word) = input_word(words) {
+        return Some(Command::Inputs(word));
+    }
+    if names_settle(words) {
+        Some(Command::Settles)
     } else {
         None
     }
@@ -91,7 +118,36 @@ pub(crate) fn command_from(words: &[String]) -> Option<Command>
     if let Some(command) = command_over_certificates(words) {
         return Some(command);
     }
+    if let Some(command) = command_over_problems(words) {
+        return Some(command);
+    }
     command_over_chains(words)
+}
+
+// Puts the lines of help of the words over chains and certificates behind the text.
+#[tactic(auto, unfolding(crate::specs::Commands::chain_lines))]
+fn push_chain_lines(text: &mut Vec<u8>) -> Result<(), NoMemory>
+    ensures { OnOk result (text.new.items ≡ text.old.items ++ chain_lines) }
+{
+    push_words(text, chain_help())?;
+    push_words(text, why_help())?;
+    push_words(text, search_help())?;
+    push_words(text, closure_help())?;
+    push_words(text, bridge_help())?;
+    push_words(text, describe_help())?;
+    Ok(())
+}
+
+// And those of the words over problems.
+#[tactic(auto, unfolding(crate::specs::Commands::problem_lines))]
+fn push_problem_lines(text: &mut Vec<u8>) -> Result<(), NoMemory>
+    ensures { OnOk result (text.new.items ≡ text.old.items ++ problem_lines) }
+{
+    push_words(text, settle_help())?;
+    push_words(text, graph_help())?;
+    push_words(text, given_help())?;
+    push_words(text, input_help())?;
+    Ok(())
 }
 
 // The lines of help behind these words.
@@ -101,13 +157,8 @@ fn with_help(alloc: Global, words: &str) -> Result<Vec<u8>, NoMemory>
 {
     let mut text = begun(alloc, words)?;
     push_words(&mut text, "help: reads nothing, gives these lines\n")?;
-    push_words(&mut text, chain_help())?;
-    push_words(&mut text, why_help())?;
-    push_words(&mut text, search_help())?;
-    push_words(&mut text, closure_help())?;
-    push_words(&mut text, bridge_help())?;
-    push_words(&mut text, describe_help())?;
-    push_words(&mut text, graph_help())?;
+    push_chain_lines(&mut text)?;
+    push_problem_lines(&mut text)?;
     Ok(text)
 }
 

@@ -1,18 +1,20 @@
 // The whole program.
 ghost use Rattle.std.specs.Prelude.{◌≡◌, ◌≤◌, ◌↔◌, List, ℕ, [], None, map, length, string_bytes, IsTrue, IsFalse, IfOk, IsOk, IsErrOf};
-ghost use Rattle.std.specs.Io.KnownBytes.{Keeps};
+ghost use Rattle.std.specs.Io.KnownBytes.{Appends, Keeps};
 ghost use Rattle.re_io.specs.Faults.{Rose};
 ghost use Rattle.re_explore.specs.Commands.{command_of, is_judging};
 ghost use Rattle.re_explore.specs.Expected.{IsExpected, IsInput, Says, reads_input};
+ghost use Rattle.re_explore.specs.Worth.{TextWorth};
 ghost use Rattle.re_frame.specs.Outcomes.{IsAnswer, Outcome, outcome_of, status_of};
 ghost use Rattle.re_frame.specs.Runs.{Answers, StopsWithin, TakesInput};
 
 use crate::command::{Command, bad_words, command_from, help};
 use re_bridge_words::BridgeWord;
-use re_closure::ClosureWord;
 use re_describe::Describe;
 use re_frame::{Output, Status, Stop, answer_input, find_input, put_output};
+use re_inputs::input_output;
 use re_io::{MAX_BYTES, Sink, Source};
+use re_settle::SettleWord;
 use re_why::Why;
 use std::alloc::Global;
 
@@ -32,13 +34,16 @@ fn output_from<S: Source>(alloc: Global, words: &[String], source: &mut S) -> Re
     match command_from(words) {
         None => Ok(bad_words(alloc)?),
         Some(Command::Help) => Ok(help(alloc)?),
-        Some(Command::Chains(word)) => answer_input(alloc, &word, source),
+        Some(Command::Chains(word)) => find_input(alloc, &word, source),
         Some(Command::Explains) => answer_input(alloc, &Why, source),
         Some(Command::Searches(word)) => find_input(alloc, &word, source),
-        Some(Command::Closes) => find_input(alloc, &ClosureWord, source),
-        Some(Command::Bridges) => answer_input(alloc, &BridgeWord, source),
+        Some(Command::Closes(word)) => find_input(alloc, &word, source),
+        Some(Command::Bridges) => find_input(alloc, &BridgeWord, source),
         Some(Command::Describes) => find_input(alloc, &Describe, source),
         Some(Command::Graphs(word)) => find_input(alloc, &word, source),
+        Some(Command::Givens(word)) => find_input(alloc, &word, source),
+        Some(Command::Inputs(word)) => Ok(input_output(alloc, word)?),
+        Some(Command::Settles) => find_input(alloc, &SettleWord, source),
     }
 }
 
@@ -64,10 +69,13 @@ pub fn run<S: Source, K: Sink>(
     ensures write_fault { result ≡ Status.WriteFault → Rose (K.faults sink.old) (K.faults sink.new) }
     ensures partly { result ≡ Status.WriteFault → (bytes : List ℕ) → IsInput (map string_bytes words.now) (S.left source.old) bytes →
         (outcome : Outcome) × IsExpected (map string_bytes words.now) bytes outcome × StopsWithin (K.written sink.old) (K.written sink.new) outcome.text }
-    ensures not_put { IsAnswer result → (bytes : List ℕ) → IsInput (map string_bytes words.now) (S.left source.old) bytes →
-        ((outcome : Outcome) → IsExpected (map string_bytes words.now) bytes outcome → outcome.text ≡ []) → sink.new ≡ sink.old }
     ensures read_nothing_written { result ≡ Status.ReadFault → sink.new ≡ sink.old }
     ensures memory_nothing_written { result ≡ Status.NoMemory → Keeps (K.written sink.old) (K.written sink.new) }
+
+    // What is written with Done by the words that make certificates: it is read again as the certificate that was made, which is a sound
+    // chain or, where it was searched for, one that goes on from the given chain and that `check` accepts.
+    ensures text_worth { result ≡ Status.Done → (bytes : List ℕ) → IsInput (map string_bytes words.now) (S.left source.old) bytes →
+        (text : List ℕ) × Appends (K.written sink.old) (K.written sink.new) text × TextWorth (command_of (map string_bytes words.now)) bytes text }
 
     // What is left of the input.
     ensures emptied { IsAnswer result → IsTrue (reads_input (map string_bytes words.now)) →

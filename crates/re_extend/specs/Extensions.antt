@@ -1,12 +1,14 @@
 -- Bounds that go on from a chain of lower steps.
-use Rattle.std.specs.Prelude.{◌≡◌, ◌≤◌, ℕ, List, ◌++◌, length, None}
+use Rattle.std.specs.Prelude.{◌≡◌, ◌≤◌, ℕ, true, List, ◌++◌, length, None}
 use Rattle.std.specs.List.{AllByRecursion}
 use Rattle.re_problem.specs.NamedProblems.{unnamed}
-use Rattle.re_cert.specs.Bounds.{Bound, BoundStep}
+use Rattle.re_cert.specs.Bounds.{Bound, BoundStep, is_bound}
 use Rattle.re_cert.specs.declared.certificate.Kind.{Kind}
 use Rattle.re_cert.specs.declared.certificate.Kind.TheVariants.{Lower}
+use Rattle.re_chain_parts.specs.Chains.{IsOverProblems}
 use Rattle.re_check.specs.Verdicts.{Means, steps_fault, verdict_of}
 use Rattle.re_check.specs.declared.verdict.Verdict.TheVariants.{Accepted}
+use Rattle.re_extend.specs.declared.extending.Extension.{Extension}
 
 -- a chain of kind lower, each step of which meets its clauses
 pub record IsSoundChain (chain : Bound) : Type 0 where
@@ -17,9 +19,21 @@ pub record IsSoundChain (chain : Bound) : Type 0 where
 abbrev pub AreSmall : ℕ → List BoundStep → Type 0
 AreSmall labels steps = AllByRecursion (λ (s : BoundStep). length s.next.names ≤ labels) steps
 
--- a bound of this kind goes on from the chain: it has the same first problem and, behind the chain's steps, at most so many more, each to a problem of at
--- most so many labels; it is accepted, and what its verdict says of algorithms holds of the chain's first problem
+-- the chain with these steps behind its own, and the kind and the way back of the whole
+abbrev pub continued : Bound → Extension → Bound
+continued chain extension = record {
+  kind = extension.kind;
+  back = extension.back;
+  first = chain.first;
+  steps = chain.steps ++ extension.steps.items;
+  renaming = extension.renaming.items;
+}
+
+-- a bound of this kind goes on from the chain: its parts make a bound over problems; it has the same first problem and, behind the chain's steps, at most so
+-- many more, each to a problem of at most so many labels; it is accepted, and what its verdict says of algorithms holds of the chain's first problem
 pub record GoesOn (kind : Kind) (most labels : ℕ) (chain bound : Bound) : Type 0 where
+  pub fits : is_bound bound ≡ true
+  pub problems : IsOverProblems bound
   pub of_kind : bound.kind ≡ kind
   pub first : bound.first ≡ chain.first
   pub more : List BoundStep

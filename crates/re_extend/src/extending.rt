@@ -1,13 +1,13 @@
 //! Certificates of a chain and the steps behind it.
 ghost use Rattle.re_cert.specs.Bounds.{built, last_problem};
 ghost use Rattle.re_cert.specs.declared.certificate.Kind.TheVariants.{Lower};
-ghost use Rattle.re_extend.specs.Extensions.{AreSmall, GoesOn, IsSoundChain};
+ghost use Rattle.re_extend.specs.Extensions.{AreSmall, GoesOn, IsSoundChain, continued};
 ghost use Rattle.re_problem.specs.NamedProblems.{unnamed};
 ghost use Rattle.re_problem.specs.Zero.{zero_place};
-ghost use Rattle.std.specs.Prelude.{◌≡◌, ◌++◌, ◌≤◌, IfOk, IfSome, IsTrue, None, length};
+ghost use Rattle.std.specs.Prelude.{◌≡◌, ◌≤◌, ◌↔◌, IfOk, IfSome, IsTrue, None, length};
 
 use re_cert::{Certificate, Kind, Step};
-use re_chain_parts::copied_steps;
+use re_chain_parts::{copied_steps, over_problems};
 use re_check::{Verdict, check};
 use re_labels::NoMemory;
 use std::alloc::Global;
@@ -31,13 +31,7 @@ fn joined(
     chain: &Certificate,
     extension: Extension,
 ) -> Result<Option<Certificate>, NoMemory>
-    ensures { IfOk result (λ found. found ≡ built (record {
-      kind = extension.kind;
-      back = extension.back;
-      first = chain.now.first;
-      steps = chain.now.steps ++ extension.steps.items;
-      renaming = extension.renaming.items;
-    })) }
+    ensures { IfOk result (λ found. found ≡ built (continued chain.now extension)) }
 {
     let Extension {
         kind,
@@ -54,7 +48,7 @@ fn joined(
 
 // Whether each step leads to a problem of at most so many labels.
 fn are_small(steps: &[Step], labels: u8) -> bool
-    ensures { IsTrue result → AreSmall labels steps.now }
+    ensures { IsTrue result ↔ AreSmall labels steps.now }
 {
     let [step, others @ ..] = steps else {
         return true;
@@ -62,8 +56,9 @@ fn are_small(steps: &[Step], labels: u8) -> bool
     step.next().names().len() <= labels as usize && are_small(others, labels)
 }
 
-/// The certificate that goes on from the chain with these steps. None where they are more than `most`, where one of them leads to a
-/// problem of more labels than `labels`, where the whole makes no certificate, or where `check` refuses it. Its cost is that of `check`.
+/// The certificate of the chain and what is to stand behind it. None exactly where this doesn't go on from the chain: where the steps are
+/// more than `most`, one of them leads to a problem of more labels than `labels`, the whole makes no certificate, or `check` refuses it.
+/// Its cost is that of `check`.
 pub fn extended(
     alloc: Global,
     chain: &Certificate,
@@ -71,7 +66,9 @@ pub fn extended(
     most: u8,
     labels: u8,
 ) -> Result<Option<Certificate>, NoMemory>
-    ensures { IfOk result (λ found. IfSome found (GoesOn extension.kind most labels chain.now)) }
+    ensures goes_on { IfOk result (λ found. IfSome found (GoesOn extension.kind most labels chain.now)) }
+    ensures whole { IfOk result (λ found. IfSome found (λ bound. bound ≡ continued chain.now extension)) }
+    ensures none { IfOk result (λ found. found ≡ None → GoesOn extension.kind most labels chain.now (continued chain.now extension) → ⊥) }
 {
     if extension.steps.len() > most as usize {
         return Ok(None);
@@ -82,6 +79,7 @@ pub fn extended(
     let Some(certificate) = joined(alloc, chain, extension)? else {
         return Ok(None);
     };
+    over_problems(&certificate);
     match check(&certificate) {
         Verdict::Accepted { .. } => Ok(Some(certificate)),
         Verdict::Refused { .. } => Ok(None),
@@ -97,7 +95,8 @@ pub fn repeated(
 ) -> Result<Certificate, NoMemory>
     requires sound { IsSoundChain chain.now }
     requires ends { zero_place (unnamed (last_problem chain.now)) ≡ None }
-    ensures { IfOk result (GoesOn Lower most labels chain.now) }
+    ensures goes_on { IfOk result (GoesOn Lower most labels chain.now) }
+    ensures same { IfOk result (λ bound. bound ≡ chain.now) }
 {
     let _kind = chain.kind();
     let extension = Extension {
@@ -110,6 +109,7 @@ pub fn repeated(
         Some(certificate) => certificate,
         None => unreachable!(),
     };
+    over_problems(&certificate);
     let _verdict = check(&certificate);
     Ok(certificate)
 }

@@ -1,1 +1,2 @@
 pub mod NamedProofs
+mod WordCounts

@@ -1,1 +1,2 @@
+pub mod InputWords
 pub mod NamedInputs

@@ -1,11 +1,13 @@
-//! Input problems of the field: colourings of nodes and edges, sides, orientations.
+//! The word `input`, and input problems of the field: colourings of nodes and edges, sides, orientations.
 #![tactic(auto)]
 
+mod input_words;
 mod kinds;
 mod making;
 
 ghost use Rattle.re_inputs.specs.NamedInputs.{InputsLaw, ColouringFamilyLaw};
 
+pub use input_words::{InputWord, input_help, input_output, input_word};
 pub use kinds::{InputKind, fits};
 pub use making::{input, turned};
 

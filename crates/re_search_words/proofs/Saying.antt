@@ -7,6 +7,7 @@ use Rattle.re_cert.specs.Bounds.{Bound, last_problem}
 use Rattle.re_cert.specs.declared.certificate.Kind.{Kind}
 use Rattle.re_cert.specs.declared.certificate.Kind.TheVariants.{Fixed, Lower, Upper}
 use Rattle.re_chain_texts.specs.ChainTexts.{chain_fault, text_chain}
+use Rattle.re_chain_texts.proofs.WordsGiven.{certificate_says}
 use Rattle.re_chain_texts.specs.OverChains.{steps_refusal}
 use Rattle.re_check.specs.declared.verdict.Verdict.{Verdict}
 use Rattle.re_frame.proofs.Said.{check_says, fault_says, says_as}
@@ -17,8 +18,8 @@ use Rattle.re_search_words.specs.declared.words.SearchWord.{SearchWord}
 use Rattle.re_search_words.specs.declared.words.SearchWord.TheVariants.{Cycle, Longest}
 
 find_says : (word : SearchWord) (chain : Bound) (outcome : Outcome) → MayFind word chain outcome → MaySay outcome.status true
-find_says (Longest steps labels) chain outcome may = says_as outcome _ may.1 tt
-find_says (Cycle steps merges nodes) chain outcome (inl may) = says_as outcome _ may.1 tt
+find_says (Longest steps labels) chain outcome may = says_as outcome _ may.1.one (certificate_says may.0 true)
+find_says (Cycle steps merges nodes) chain outcome (inl may) = says_as outcome _ may.1.one (certificate_says may.0 true)
 find_says (Cycle steps merges nodes) chain outcome (inr (inl may)) = says_as outcome _ may.2 refl
 find_says (Cycle steps merges nodes) chain outcome (inr (inr may)) = says_as outcome _ may tt
 

@@ -9,7 +9,7 @@ use Rattle.re_cert.specs.Bounds.{Bound, last_problem}
 use Rattle.re_cert.specs.declared.certificate.Kind.{Kind}
 use Rattle.re_cert.specs.declared.certificate.Kind.TheVariants.{Fixed, Lower, Upper}
 use Rattle.re_chain_texts.specs.ChainTexts.{chain_fault, text_chain}
-use Rattle.re_chain_texts.specs.OverChains.{certificate_outcome, steps_refusal}
+use Rattle.re_chain_texts.specs.OverChains.{GivesText, certificate_outcome, steps_refusal}
 use Rattle.re_check.specs.declared.verdict.Verdict.{Verdict}
 use Rattle.re_extend.specs.Extensions.{GoesOn}
 use Rattle.re_frame.specs.Check.{verdict_outcome}
@@ -25,9 +25,14 @@ abbrev pub too_many_line : ℕ → List ℕ
 too_many_line nodes = codes "limit: more than " ++ decimal nodes ++ codes " nodes\n"
 
 -- ---- answers
--- the text of a bound of this kind that goes on from the chain
+-- the text of a bound of this kind that goes on from the chain; it is read as this bound
+pub record IsTextOn (kind : Kind) (steps labels : ℕ) (chain bound : Bound) (outcome : Outcome) : Type 0 where
+  pub one : outcome ≡ certificate_outcome bound
+  pub goes_on : GoesOn kind steps labels chain bound
+  pub gives : GivesText bound outcome
+
 abbrev pub IsFound : Kind → ℕ → ℕ → Bound → Outcome → Type 0
-IsFound kind steps labels chain outcome = (bound : Bound) × (outcome ≡ certificate_outcome bound) × GoesOn kind steps labels chain bound
+IsFound kind steps labels chain outcome = (bound : Bound) × IsTextOn kind steps labels chain bound outcome
 
 -- what the word may give to a chain whose last problem isn't solvable without communication: a lower bound; or a fixed point, the counts of what was
 -- looked at, or the limit of it

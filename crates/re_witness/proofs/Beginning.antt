@@ -1,15 +1,14 @@
 -- Beginnings of choices: labels that are drawn, and the sets behind them.
-use Rattle.std.proofs.Common.{◌≡◌, ℕ, ◌<◌, ◌≤◌, Bool, true, false, cond, eqb, leb, not, ◌&&◌, ◌||◌, List, [], ◌∷◌, ◌++◌, length, map, refl, sym, ap, ◌∙◌, subst, arith, Some, None, Option, append-nil, true≢false}
+use Rattle.std.proofs.Common.{◌≡◌, ℕ, ◌<◌, ◌≤◌, Bool, true, false, cond, eqb, leb, not, ◌&&◌, List, [], ◌∷◌, ◌++◌, length, map, refl, sym, ap, ◌∙◌, subst, arith, Some, None, Option, true≢false}
 use Rattle.std.specs.List.{AllByRecursion, list_all, list_any}
-use Rattle.std.specs.Prelude.{IsSome, find, if◌then◌else◌}
+use Rattle.std.specs.Prelude.{IsSome}
 use Rattle.std.proofs.lemmas.Bool.Decides.{nat_tests}
 use Rattle.re_config.proofs.ChoicesOfRows.{In-choices_from, IsChoice-filled}
-use Rattle.re_config.proofs.Dominating.{any-map}
 use Rattle.re_config.proofs.Rearranging.{length-AllZip}
 use Rattle.re_config.proofs.Placing.{row_found}
 use Rattle.re_config.proofs.RowCalls.{row_of-some}
 use Rattle.re_config.specs.Configs.{sorted}
-use Rattle.re_config.specs.Rows.{IsChoice, choices, in_order, is_full, row_of, singles}
+use Rattle.re_config.specs.Rows.{choices, in_order, is_full, row_of, singles}
 use Rattle.re_labels.proofs.Membership.{any-In_from}
 use Rattle.re_labels.proofs.Tests.{eqb-same}
 use Rattle.re_labels.specs.PortLabels.{port_labels}
@@ -19,18 +18,14 @@ use Rattle.re_table.proofs.Goodness.{filled-is_full, is_full-filled}
 use Rattle.re_table.proofs.SetsInOrder.{AreSets, in_order-good, in_order-length}
 use Rattle.re_table.specs.Constraints.{Constraint, has_config}
 use Rattle.re_table.specs.GoodRows.{is_good}
-use Rattle.re_witness.proofs.Drawing.{chosen_some}
-use Rattle.re_witness.proofs.Found.{found_passes, none_found, not_all, some_found}
-use Rattle.re_witness.specs.BadChoice.{IsDrawn, begins, first_bad, first_behind, is_bad}
+use Rattle.re_choice.proofs.Beginning.{any-fixed, none_found, some_found}
+use Rattle.re_choice.proofs.Drawing.{chosen_some}
+use Rattle.re_choice.specs.FirstChoice.{IsDrawn}
+use Rattle.re_witness.proofs.Found.{found_passes, not_all}
+use Rattle.re_witness.specs.BadChoice.{begins, first_bad, first_behind, is_bad}
 
 -- ---- tests of some choice
 -- the choices of the drawn labels and of the other sets are the drawn labels with the choices of those
-any-fixed : (p : List ℕ → Bool) (drawn : List ℕ) (sets : List (List ℕ)) → list_any p (choices (singles drawn ++ sets)) ≡ list_any (λ labels. p (drawn ++ labels)) (choices sets)
-any-fixed p [] sets = refl
-any-fixed p (x ∷ drawn) sets =
-    ap (list_any p) (append-nil (map (λ labels. x ∷ labels) (choices (singles drawn ++ sets)))) ∙ any-map p (λ labels. x ∷ labels) (choices (singles drawn ++ sets))
-    ∙ any-fixed (λ labels. p (x ∷ labels)) drawn sets
-
 -- ---- what the code asks
 module _ (constraint : Constraint) (drawn : List ℕ) (others sets : List (List ℕ)) (is : sets ≡ singles drawn ++ others) (count : length sets ≡ constraint.degree) (two : 2 ≤ length sets) (six : length sets ≤ 6) where
   begun : list_any (is_bad constraint) (choices sets) ≡ begins constraint drawn others

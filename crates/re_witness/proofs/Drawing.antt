@@ -2,20 +2,14 @@
 use Rattle.std.proofs.Common.{◌≡◌, ℕ, ◌<◌, Bool, true, false, cond, List, [], ◌∷◌, ◌++◌, length, map, refl, sym, ap, ◌∙◌, subst, arith, Some, None, Option, append_assoc, append-nil, true≢false}
 use Rattle.std.specs.Prelude.{find}
 use Rattle.std.specs.Option.{option_map}
-use Rattle.re_witness.specs.BadChoice.{IsDrawn, first_behind, is_bad}
+use Rattle.re_choice.proofs.Drawing.{find-map}
+use Rattle.re_choice.specs.FirstChoice.{IsDrawn}
+use Rattle.re_witness.specs.BadChoice.{first_behind, is_bad}
 use Rattle.re_config.proofs.LeastLabels.{first-is}
 use Rattle.re_config.specs.Rows.{choices}
 use Rattle.re_labels.specs.Sets.{IsLabelSet, first_of, without_label}
 use Rattle.re_table.specs.Constraints.{Constraint}
 use Rattle.re_labels.specs.declared.TheConstants.{MAX_LABELS}
-
-find-map : {X Y : Type 0} (p : Y → Bool) (f : X → Y) (xs : List X) → find p (map f xs) ≡ option_map f (find (λ x. p (f x)) xs)
-find-map p f [] = refl
-find-map {X} {Y} p f (x ∷ xs) = go (p (f x)) (find-map p f xs)
-  where
-    go : (b : Bool) → find p (map f xs) ≡ option_map f (find (λ x. p (f x)) xs) → cond b (Some (f x)) (find p (map f xs)) ≡ option_map f (cond b (Some x) (find (λ x. p (f x)) xs))
-    go true rest = refl
-    go false rest = rest
 
 -- the first of two, where there is one
 abbrev pub first_some : Option (List ℕ) → Option (List ℕ) → Option (List ℕ)
@@ -80,13 +74,3 @@ module _ (constraint : Constraint) (drawn next first : List ℕ) (others : List 
           → IsDrawn (first_some (option_map (λ labels. label ∷ labels) (first_behind constraint (drawn ++ label ∷ []) others)) (first_behind constraint drawn (without_label first label ∷ others))) drawn r' new
       go None e h = subst (λ o. IsDrawn (first_some (option_map (λ labels. label ∷ labels) o) (first_behind constraint drawn (without_label first label ∷ others))) drawn r' new) e later'
       go (Some labels) e h = absurd (true≢false (sym h.0 ∙ is))
-
--- where no choice is found, the drawn labels are what they were
-pub unchanged : (o : Option (List ℕ)) (drawn new : List ℕ) (r : Bool) → r ≡ false → IsDrawn o drawn r new → new ≡ drawn
-unchanged None drawn new r is h = h.1
-unchanged (Some labels) drawn new r is h = absurd (true≢false (sym h.0 ∙ is))
-
--- what the whole walk leaves
-pub chosen_some : (o : Option (List ℕ)) (new : List ℕ) (r : Bool) → r ≡ true → IsDrawn o [] r new → Some new ≡ o
-chosen_some None new r is h = absurd (true≢false (sym is ∙ h.0))
-chosen_some (Some labels) new r is h = ap Some h.1

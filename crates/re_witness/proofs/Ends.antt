@@ -37,7 +37,8 @@ use Rattle.re_witness.proofs.Uppers.{all_labels}
 use Rattle.re_witness.specs.BadChoice.{first_bad}
 use Rattle.re_witness.specs.Finding.{back_witness, end_witness, first_unordered, firsts, fit_at, fit_witness, names_first, no_fit, no_fit_of, no_fit_witness, pairs_ascend, renaming_witness, seconds}
 use Rattle.re_witness.specs.Laws.{BackWitnessLaw, EndWitnessLaw, Gives}
-use Rattle.re_witness.specs.Witnesses.{IsAt, ShowsBack, ShowsEnd}
+use Rattle.re_witness.proofs.Renamings.{renaming_fact}
+use Rattle.re_witness.specs.Witnesses.{IsAt, ShowsBack, ShowsEnd, ShowsRenaming}
 use Rattle.re_witness.specs.declared.witness.Witness.{Witness}
 use Rattle.re_witness.specs.declared.witness.Witness.TheVariants.{Fit, MissingPair, NoActive, NoFit, PairOrder, Renaming}
 
@@ -144,14 +145,19 @@ module _ (last target : NamedProblem) (pairs : List (ℕ × ℕ)) (below : AllBy
       all_labels (length last.names) (firsts pairs) (rises pairs (unordered-rising pairs_ascend 0 pairs order)) (all_below pairs below)
       (λ x l. named-is x (not-false (names_first pairs x) (label-none (λ x. not (names_first pairs x)) (length last.names) whole x l)))
 
+  renaming_here : (v : MapVerdict) → renaming_verdict (unnamed last) (unnamed target) (seconds pairs) ≡ v → is_yes v ≡ false → ShowsBack last target pairs (Renaming v)
+  renaming_here v e fails =
+      let other : renaming_verdict (unnamed last) (unnamed target) (seconds pairs) ≡ verdict.Yes → ⊥ = λ yes. true≢false (ap is_yes (sym yes ∙ e) ∙ fails) in
+      (e, subst (ShowsRenaming (unnamed last) (unnamed target) (seconds pairs)) e (renaming_fact (unnamed last) (unnamed target) (seconds pairs) other))
+
   renaming_shown : (v : MapVerdict) → renaming_verdict (unnamed last) (unnamed target) (seconds pairs) ≡ v → is_yes v ≡ false → Gives (renaming_witness v) (ShowsBack last target pairs)
   renaming_shown verdict.Yes e fails = absurd (true≢false fails)
-  renaming_shown verdict.Degrees e fails = (e, λ same. cc)
-  renaming_shown (verdict.Empty x) e fails = (e, λ same. cc)
-  renaming_shown (verdict.Twice x) e fails = (e, λ same. cc)
-  renaming_shown (verdict.Active config) e fails = (e, λ same. cc)
-  renaming_shown (verdict.Passive config) e fails = (e, λ same. cc)
-  renaming_shown (verdict.Count side) e fails = (e, λ same. cc)
+  renaming_shown verdict.Degrees e fails = renaming_here verdict.Degrees e fails
+  renaming_shown (verdict.Empty x) e fails = renaming_here (verdict.Empty x) e fails
+  renaming_shown (verdict.Twice x) e fails = renaming_here (verdict.Twice x) e fails
+  renaming_shown (verdict.Active config) e fails = renaming_here (verdict.Active config) e fails
+  renaming_shown (verdict.Passive config) e fails = renaming_here (verdict.Passive config) e fails
+  renaming_shown (verdict.Count side) e fails = renaming_here (verdict.Count side) e fails
 
   back_shown : goes_back last target pairs ≡ false → Gives (back_witness last target pairs) (ShowsBack last target pairs)
   back_shown fails =

@@ -1,24 +1,8 @@
 -- The first of a list that passes a test.
-use Rattle.std.proofs.Common.{◌≡◌, Bool, true, false, not, ◌&&◌, ◌||◌, List, [], ◌∷◌, refl, sym, ap, ◌∙◌, ◌⊎◌, inl, inr, Some, None, Option, true≢false}
+use Rattle.std.proofs.Common.{◌≡◌, Bool, true, false, not, ◌&&◌, ◌||◌, List, [], ◌∷◌, refl, sym, ap, ◌∙◌, inl, inr, Some, None}
 use Rattle.std.specs.List.{list_all, list_any}
 use Rattle.std.specs.Prelude.{find, if◌then◌else◌}
 use Rattle.re_labels.proofs.Membership.{In}
-
-pub none_found : {X : Type 0} (p : X → Bool) (xs : List X) → list_any p xs ≡ false → find p xs ≡ None
-none_found p [] h = refl
-none_found {X} p (x ∷ xs) h = go (p x) (none_found p xs) h
-  where
-    go : (b : Bool) → (list_any p xs ≡ false → find p xs ≡ None) → (b || list_any p xs) ≡ false → (if b then Some x else find p xs) ≡ None
-    go true later h = absurd (true≢false h)
-    go false later h = later h
-
-pub some_found : {X : Type 0} (p : X → Bool) (xs : List X) → list_any p xs ≡ true → find p xs ≡ None → ⊥
-some_found p [] h e = true≢false (sym h)
-some_found {X} p (x ∷ xs) h e = go (p x) (some_found p xs) h e
-  where
-    go : (b : Bool) → (list_any p xs ≡ true → find p xs ≡ None → ⊥) → (b || list_any p xs) ≡ true → (if b then Some x else find p xs) ≡ None → ⊥
-    go true later h e = cc
-    go false later h e = later h e
 
 -- what is found passes, and is one of the list
 pub found_passes : {X : Type 0} (p : X → Bool) (xs : List X) (x : X) → Some x ≡ find p xs → (p x ≡ true) × In x xs

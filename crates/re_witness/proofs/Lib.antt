@@ -3,6 +3,7 @@ pub mod Beginning
 pub mod Bounds
 pub mod Dispatch
 pub mod Drawing
+mod Renamings
 pub mod Ends
 pub mod Found
 pub mod Giving

@@ -24,7 +24,8 @@ use Rattle.re_entry_clauses.proofs.RowChoices.{entry-becomes}
 use Rattle.re_entry_clauses.specs.LabelsOver.{labels_over}
 use Rattle.re_entry_clauses.specs.RowEntries.{image_entries, row_entries}
 use Rattle.re_entry_clauses.specs.StepClauses.{HasRowSets, KeepsImages, KeepsRows, OccursInRows}
-use Rattle.re_witness.proofs.Found.{found_passes, none_all, some_found}
+use Rattle.re_choice.proofs.Beginning.{some_found}
+use Rattle.re_witness.proofs.Found.{found_passes, none_all}
 use Rattle.re_witness.proofs.Giving.{at-held, from-none, from-some, gives-at_last, gives-or, held-at, map-none, map-some, some-none, some-some, unordered-rising, unordered-some}
 use Rattle.re_witness.proofs.Occurring.{has-is, is-has, is-occurs, occurs-is}
 use Rattle.re_witness.proofs.Rows.{bad_shown, none_bad}

@@ -48,8 +48,8 @@ use Rattle.re_witness.proofs.Bounds.{fits_steps}
 use Rattle.re_witness.proofs.Dispatch.{degrees-are, next-labels, rows-few}
 use Rattle.re_witness.proofs.Giving.{at-held}
 use Rattle.re_witness.specs.Finding.{firsts, map_entries, seconds}
-use Rattle.re_witness.specs.Laws.{HoldsChoices, HoldsRows, RefutesLaw}
-use Rattle.re_witness.specs.Witnesses.{AreOtherDegrees, Becomes, IsAt, IsShown, ShowsBack, ShowsBad, ShowsChoice, ShowsEnd, ShowsImage, ShowsInSteps, ShowsLabels, ShowsRows, ShowsSets, ShowsShut, ShowsStep}
+use Rattle.re_witness.specs.Laws.{DegreesRefuteLaw, EndRefutesLaw, HasSets, HoldsChoices, HoldsRows, MapRefutesLaw, RefutesLaw, RowsRefuteLaw, UpperRefutesLaw}
+use Rattle.re_witness.specs.Witnesses.{AreOtherDegrees, Becomes, IsAt, IsShown, ShowsBack, ShowsBad, ShowsChoice, ShowsEnd, ShowsImage, ShowsInSteps, ShowsLabels, ShowsRenaming, ShowsRows, ShowsSets, ShowsShut, ShowsStep}
 use Rattle.re_witness.specs.declared.witness.Witness.{Witness}
 use Rattle.re_witness.specs.declared.witness.Witness.TheVariants.{Degrees, BadRow, Extends, RowOrder, ManyRows, MissingRow, SetOrder, MissingSet, ForeignSet, ImageCount, LostRow, LostChoice, LabelOrder, MissingLabel, EmptySet, BadSets, ShutSets, Fit, NoActive, NoFit, PairOrder, MissingPair, Renaming}
 
@@ -86,12 +86,12 @@ rows-refuted passive n rows (MissingRow row) same few h =
     h.1 (subst (λ (rs : List (List (List ℕ))). Contains rs row) (sym same) (In-Contains row (max_rows passive n) (IsMaximal-max_rows passive n row h.0)))
 rows-refuted passive n rows w same few h = absurd h
 
-sets-refuted : (before : NamedProblem) (rows : List (List (List ℕ))) (entries : List SetEntry) (w : Witness) → HasRowSets rows entries → ShowsSets rows (by_set entries) w → ⊥
-sets-refuted before rows entries (SetOrder k) has h =
+sets-refuted : (rows : List (List (List ℕ))) (entries : List SetEntry) (w : Witness) → HasRowSets rows entries → ShowsSets rows (by_set entries) w → ⊥
+sets-refuted rows entries (SetOrder k) has h =
     h.4 (rising-at (λ s t. number s < number t) (entry_sets entries) k h.0.set h.1.set has.ascends (map-at (λ (e : SetEntry). e.set) entries k h.0 h.2) (map-at (λ (e : SetEntry). e.set) entries (k + 1) h.1 h.3))
-sets-refuted before rows entries (MissingSet set) has h = h.1 ((has.sets set).1 h.0)
-sets-refuted before rows entries (ForeignSet set) has h = h.1 ((has.sets set).0 h.0)
-sets-refuted before rows entries w has h = absurd h
+sets-refuted rows entries (MissingSet set) has h = h.1 ((has.sets set).1 h.0)
+sets-refuted rows entries (ForeignSet set) has h = h.1 ((has.sets set).0 h.0)
+sets-refuted rows entries w has h = absurd h
 
 count-refuted : (rows : List (List (List ℕ))) (images : List (List ℕ)) (w : Witness) → length images ≡ length rows → ShowsSets rows (by_row images) w → ⊥
 count-refuted rows images ImageCount same h = h (sym same)
@@ -129,7 +129,7 @@ images-refuted active rows (by_row images) w holds h = absurd h
 module _ (before next : NamedProblem) (rows : List (List (List ℕ))) (few : length rows ≤ MAX_ROWS) (is : IsConstraint (length before.names) before.active) where
   sets_of_map : (m : LowerMap) (w : Witness) → IsLowerStep (unnamed before) (unnamed next) rows m → ShowsSets rows m w → ⊥
   sets_of_map (by_set entries) w step h =
-      sets-refuted before rows entries w (subst (λ (r : List (List (List ℕ))). HasRowSets r entries) (sym step.maximal) ((row_sets_law before.passive (length before.names) entries).1 step.sets)) h
+      sets-refuted rows entries w (subst (λ (r : List (List (List ℕ))). HasRowSets r entries) (sym step.maximal) ((row_sets_law before.passive (length before.names) entries).1 step.sets)) h
   sets_of_map (by_row images) w step h = count-refuted rows images w step.count h
 
   images_of_map : (m : LowerMap) (w : Witness) → IsLowerStep (unnamed before) (unnamed next) rows m → ShowsImage next.active rows m w → ⊥
@@ -259,8 +259,30 @@ back-refuted last target pairs w goes h = go w h
     go : (w : Witness) → ShowsBack last target pairs w → ⊥
     go (PairOrder k) h = h.4 (rising-at (λ x y. x < y) (firsts pairs) k h.0.0 h.1.0 (subst (IsRising (λ x y. x < y)) (sym are) (rising-count_from 0 n)) (map-at (λ (pair : ℕ × ℕ). pair.0) pairs k h.0 h.2) (map-at (λ (pair : ℕ × ℕ). pair.0) pairs (k + 1) h.1 h.3))
     go (MissingPair label) h = h.1 (subst (λ (xs : List ℕ). Contains xs label) (sym are) (Contains-count_from 0 n label (omega arith) (let l = h.0 in omega (arith, l))))
-    go (Renaming v) h = h.1 (sym h.0 ∙ yes verdict both.1)
+    go (Renaming v) h = subst (ShowsRenaming (unnamed last) (unnamed target) (seconds pairs)) (sym h.0 ∙ yes verdict both.1) h.1
     go w h = absurd h
+
+-- ---- each clause by itself
+pub degrees_refute_law : DegreesRefuteLaw
+degrees_refute_law before next w shown same = degrees-refuted before next w shown same
+
+pub rows_refute_law : RowsRefuteLaw
+rows_refute_law passive n rows w shown same few = rows-refuted passive n rows w same few shown
+
+map-sets-refuted : (rows : List (List (List ℕ))) (m : LowerMap) (w : Witness) → ShowsSets rows m w → HasSets rows m → ⊥
+map-sets-refuted rows (by_set entries) w shown has = sets-refuted rows entries w has shown
+map-sets-refuted rows (by_row images) w shown has = count-refuted rows images w (sym has) shown
+
+pub map_refutes_law : MapRefutesLaw
+map_refutes_law before active passive rows m w =
+    (map-sets-refuted rows m w, λ shown holds. images-refuted active rows m w holds shown, λ shown holds. choices-refuted before passive rows m w holds shown)
+
+pub upper_refutes_law : UpperRefutesLaw
+upper_refutes_law n before next entries w =
+    (λ shown has. labels-refuted n entries w has shown, λ shown has. bad-refuted before next entries w has shown, λ shown has. shut-refuted before next entries w has shown)
+
+pub end_refutes_law : EndRefutesLaw
+end_refutes_law kind last target pairs w = (λ shown well. end-refuted kind last w well shown, λ shown goes. back-refuted last target pairs w goes shown)
 
 -- ---- a certificate
 not-not : (b : Bool) → (x y : Option ClauseFault) → (x ≡ None → ⊥) → (if not b then x else y) ≡ None → (b ≡ true) × (y ≡ None)

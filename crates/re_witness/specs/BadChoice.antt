@@ -1,5 +1,5 @@
 -- The first choice that is no configuration.
-use Rattle.std.specs.Prelude.{◌≡◌, ℕ, Bool, true, false, not, List, ◌++◌, find, Option, None, Some}
+use Rattle.std.specs.Prelude.{ℕ, Bool, not, List, ◌++◌, find, Option}
 use Rattle.std.specs.List.{list_any}
 use Rattle.re_config.specs.Rows.{choices}
 use Rattle.re_table.specs.Constraints.{Constraint, has_config}
@@ -19,8 +19,3 @@ begins constraint drawn sets = list_any (λ labels. is_bad constraint (drawn ++ 
 -- the first choice of one label of each set that is no configuration together with the labels drawn before it
 abbrev pub first_behind : Constraint → List ℕ → List (List ℕ) → Option (List ℕ)
 first_behind constraint drawn sets = find (λ labels. is_bad constraint (drawn ++ labels)) (choices sets)
-
--- the choice stands behind the drawn labels, or, where there is none, they are what they were
-abbrev pub IsDrawn : Option (List ℕ) → List ℕ → Bool → List ℕ → Type 0
-IsDrawn None drawn found new = (found ≡ false) × (new ≡ drawn)
-IsDrawn (Some labels) drawn found new = (found ≡ true) × (new ≡ drawn ++ labels)

@@ -2,6 +2,7 @@
 use Rattle.std.specs.Prelude.{◌≡◌, ◌<◌, ◌≤◌, ℕ, true, false, List, length, map, Contains, Option, None, Some}
 use Rattle.std.specs.List.{AllByRecursion}
 use Rattle.re_config.specs.Rows.{IsChoice, IsRow}
+use Rattle.re_config.specs.declared.TheConstants.{MAX_ROWS}
 use Rattle.re_labels.specs.declared.TheConstants.{MAX_LABELS}
 use Rattle.re_table.specs.Constraints.{Constraint, Has, IsConstraint}
 use Rattle.re_table.specs.GoodRows.{max_rows}
@@ -16,7 +17,7 @@ use Rattle.re_cert.specs.declared.certificate.Kind.{Kind}
 use Rattle.re_entry_clauses.specs.LabelsOver.{labels_over}
 use Rattle.re_entry_clauses.specs.StepClauses.{HasAllowedImages, HasGoodImages, HasNextLabels, HasRowSets, KeepsImages, KeepsRows}
 use Rattle.re_witness.specs.Finding.{back_witness, bad_witness, end_witness, image_witness, label_witness, lost_witness, map_entries, row_witness, set_witness, shut_witness}
-use Rattle.re_witness.specs.Witnesses.{IsShown, ShowsBack, ShowsBad, ShowsChoice, ShowsEnd, ShowsImage, ShowsLabels, ShowsRows, ShowsSets, ShowsShut}
+use Rattle.re_witness.specs.Witnesses.{AreOtherDegrees, IsShown, ShowsBack, ShowsBad, ShowsChoice, ShowsEnd, ShowsImage, ShowsLabels, ShowsRows, ShowsSets, ShowsShut}
 
 -- there is one, and it is so
 abbrev pub Gives : {W : Type 0} → Option W → (W → Type 0) → Type 0
@@ -64,6 +65,37 @@ EndWitnessLaw = (kind : Kind) (last : NamedProblem) → ends_well kind last ≡ 
 abbrev pub BackWitnessLaw : Type 0
 BackWitnessLaw = (last target : NamedProblem) (pairs : List (ℕ × ℕ)) → AllByRecursion (λ (pair : ℕ × ℕ). pair.0 < length last.names) pairs
     → goes_back last target pairs ≡ false → Gives (back_witness last target pairs) (ShowsBack last target pairs)
+
+-- ---- the other way round: what is shown refutes its clause, whatever the other clauses say
+-- L1, U1
+abbrev pub DegreesRefuteLaw : Type 0
+DegreesRefuteLaw = (before next : NamedProblem) (witness : Witness) → AreOtherDegrees before next witness
+    → (next.active.degree ≡ before.passive.degree) × (next.passive.degree ≡ before.active.degree) → ⊥
+
+-- L2
+abbrev pub RowsRefuteLaw : Type 0
+RowsRefuteLaw = (passive : Constraint) (n : ℕ) (rows : List (List (List ℕ))) (witness : Witness) → ShowsRows passive n rows witness
+    → rows ≡ max_rows passive n → length rows ≤ MAX_ROWS → ⊥
+
+-- L3, L4, L5
+abbrev pub MapRefutesLaw : Type 0
+MapRefutesLaw = (before active passive : Constraint) (rows : List (List (List ℕ))) (m : LowerMap) (witness : Witness) →
+    (ShowsSets rows m witness → HasSets rows m → ⊥)
+    × (ShowsImage active rows m witness → HoldsRows active rows m → ⊥)
+    × (ShowsChoice before passive rows m witness → HoldsChoices before passive rows m → ⊥)
+
+-- U2, U3, U4
+abbrev pub UpperRefutesLaw : Type 0
+UpperRefutesLaw = (n : ℕ) (before next : Constraint) (entries : List SetEntry) (witness : Witness) →
+    (ShowsLabels n entries witness → HasNextLabels n entries → ⊥)
+    × (ShowsBad before next entries witness → HasGoodImages entries next before → ⊥)
+    × (ShowsShut before next entries witness → HasAllowedImages entries next before → ⊥)
+
+-- END, BACK
+abbrev pub EndRefutesLaw : Type 0
+EndRefutesLaw = (kind : Kind) (last target : NamedProblem) (pairs : List (ℕ × ℕ)) (witness : Witness) →
+    (ShowsEnd kind (unnamed last) witness → ends_well kind last ≡ true → ⊥)
+    × (ShowsBack last target pairs witness → goes_back last target pairs ≡ true → ⊥)
 
 -- whatever shows that a clause of a certificate fails refutes it
 abbrev pub RefutesLaw : Type 0

@@ -1,10 +1,11 @@
 -- What it means that a witness shows that a clause fails: a plain fact against it.
-use Rattle.std.specs.Prelude.{◌≡◌, ◌<◌, ◌+◌, ℕ, suc, true, false, List, [], ◌∷◌, length, map, Contains, slice_index_or, ◌⊎◌}
+use Rattle.std.specs.Prelude.{◌≡◌, ◌<◌, ◌+◌, ℕ, suc, true, false, List, [], ◌∷◌, length, map, take, Contains, slice_index_or, ◌⊎◌}
 use Rattle.std.specs.List.{AllByRecursion, AllZip}
 use Rattle.std.specs.declared.cmp.Ordering.TheVariants.{Less}
 use Rattle.re_labels.specs.Sets.{IsIn, number}
 use Rattle.re_labels.specs.declared.TheConstants.{MAX_LABELS}
-use Rattle.re_config.specs.Configs.{sorted}
+use Rattle.re_labels.specs.declared.sides.Side.TheVariants as side
+use Rattle.re_config.specs.Configs.{image_at, sorted}
 use Rattle.re_config.specs.Rows.{IsChoice, IsRow, row_cmp, set_at}
 use Rattle.re_config.specs.declared.TheConstants.{MAX_ROWS}
 use Rattle.re_table.specs.Constraints.{Constraint, Has}
@@ -16,7 +17,8 @@ use Rattle.re_problem.specs.Steps.{BecomesByRow, LowerMap, SetEntry, entry_sets,
 use Rattle.re_problem.specs.Steps.LowerMap.{by_row, by_set}
 use Rattle.re_problem.specs.Zero.{ShowsZero, Zero}
 use Rattle.re_maps.specs.Verdicts.{renaming_verdict}
-use Rattle.re_maps.specs.declared.verdict.MapVerdict.TheVariants.{Yes}
+use Rattle.re_maps.specs.declared.verdict.MapVerdict.{MapVerdict}
+use Rattle.re_maps.specs.declared.verdict.MapVerdict.TheVariants as verdict
 use Rattle.re_cert.specs.Bounds.{Bound, BoundStep, entries_in, is_fixed, is_lower, last_problem, problem_at}
 use Rattle.re_cert.specs.declared.certificate.Kind.{Kind}
 use Rattle.re_entry_clauses.specs.StepClauses.{OccursInRows, entry_labels}
@@ -112,11 +114,23 @@ ShowsEnd kind last (NoFit config labels) =
     (is_lower kind ≡ false) × (Zero last → ⊥) × IsAt last.active.configs 0 config × (length labels ≡ last.passive.degree) × AllByRecursion (Contains config) labels × (Has last.passive labels → ⊥)
 ShowsEnd kind last witness = ⊥
 
+-- why images of the labels of a problem don't make it another one under other labels: other degrees; a label with the image of a lower one; a configuration
+-- whose image isn't one of the other problem; or fewer configurations than the other problem has
+abbrev pub ShowsRenaming : Problem → Problem → List ℕ → MapVerdict → Type 0
+ShowsRenaming from to images verdict.Yes = ⊥
+ShowsRenaming from to images verdict.Degrees = (to.active.degree ≡ from.active.degree) × (to.passive.degree ≡ from.passive.degree) → ⊥
+ShowsRenaming from to images (verdict.Empty label) = ⊥
+ShowsRenaming from to images (verdict.Twice label) = (label < length images) × Contains (take label images) (image_at images label)
+ShowsRenaming from to images (verdict.Active config) = Contains from.active.configs config × (Has to.active (map (image_at images) config) → ⊥)
+ShowsRenaming from to images (verdict.Passive config) = Contains from.passive.configs config × (Has to.passive (map (image_at images) config) → ⊥)
+ShowsRenaming from to images (verdict.Count side.Active) = length from.active.configs < length to.active.configs
+ShowsRenaming from to images (verdict.Count side.Passive) = length from.passive.configs < length to.passive.configs
+
 -- BACK: pairs whose first labels don't ascend, a label that no pair has, or the first violation of the renaming
 abbrev pub ShowsBack : NamedProblem → NamedProblem → List (ℕ × ℕ) → Witness → Type 0
 ShowsBack last target pairs (PairOrder k) = (pair next : ℕ × ℕ) × IsAt pairs k pair × IsAt pairs (k + 1) next × (pair.0 < next.0 → ⊥)
 ShowsBack last target pairs (MissingPair label) = (label < length last.names) × (Contains (firsts pairs) label → ⊥)
-ShowsBack last target pairs (Renaming verdict) = (renaming_verdict (unnamed last) (unnamed target) (seconds pairs) ≡ verdict) × (verdict ≡ Yes → ⊥)
+ShowsBack last target pairs (Renaming verdict) = (renaming_verdict (unnamed last) (unnamed target) (seconds pairs) ≡ verdict) × ShowsRenaming (unnamed last) (unnamed target) (seconds pairs) verdict
 ShowsBack last target pairs witness = ⊥
 
 -- ---- a certificate

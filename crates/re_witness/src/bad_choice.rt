@@ -1,5 +1,6 @@
 //! The first choice of one label of each of some sets that is no configuration.
-ghost use Rattle.re_witness.specs.BadChoice.{IsDrawn, begins, first_bad, first_behind};
+ghost use Rattle.re_choice.specs.FirstChoice.{IsDrawn};
+ghost use Rattle.re_witness.specs.BadChoice.{begins, first_bad, first_behind};
 ghost use Rattle.re_config.specs.Rows.{choices, singles};
 ghost use Rattle.re_labels.specs.Sets.{IsLabelSet};
 ghost use Rattle.std.specs.List.{AllByRecursion};

@@ -9,7 +9,7 @@ mod row_witness;
 mod upper_witness;
 mod witness;
 
-ghost use Rattle.re_witness.specs.Laws.{BackWitnessLaw, EndWitnessLaw, LabelWitnessLaw, MapWitnessLaw, RefutesLaw, RowWitnessLaw, UpperWitnessLaw};
+ghost use Rattle.re_witness.specs.Laws.{BackWitnessLaw, DegreesRefuteLaw, EndRefutesLaw, EndWitnessLaw, LabelWitnessLaw, MapRefutesLaw, MapWitnessLaw, RefutesLaw, RowWitnessLaw, RowsRefuteLaw, UpperRefutesLaw, UpperWitnessLaw};
 
 pub use bad_choice::first_bad_choice;
 pub use finding::{Refutation, why_refused};
@@ -43,6 +43,31 @@ pub fn end_witness_law()
 /// Where a renaming doesn't go back, what is found shows it.
 pub fn back_witness_law()
     ensures { BackWitnessLaw }
+{}
+
+/// Whatever shows that the degrees of the next problem are others refutes the clause of the degrees.
+pub fn degrees_refute_law()
+    ensures { DegreesRefuteLaw }
+{}
+
+/// Whatever shows that rows aren't the maximal rows refutes the clause of the rows.
+pub fn rows_refute_law()
+    ensures { RowsRefuteLaw }
+{}
+
+/// Whatever shows that a map of a lower step fails a clause refutes that clause, whatever the other clauses say.
+pub fn map_refutes_law()
+    ensures { MapRefutesLaw }
+{}
+
+/// Whatever shows that the entries of an upper step fail a clause refutes that clause, whatever the other clauses say.
+pub fn upper_refutes_law()
+    ensures { UpperRefutesLaw }
+{}
+
+/// Whatever shows that END or BACK fails refutes it.
+pub fn end_refutes_law()
+    ensures { EndRefutesLaw }
 {}
 
 /// Whatever shows that a clause of a certificate fails refutes the certificate, whoever found it.

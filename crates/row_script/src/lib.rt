@@ -1,5 +1,4 @@
-//! Rows of the tool as a text: words and bytes, and what is answered. For tests alone: a program names the files of rows, or gives the rows on
-//! its standard input.
+//! Rows of the tool as a text: words and bytes, and what is answered. For tests alone: a program names the files of rows.
 #![tactic(auto)]
 
 mod answers;
@@ -29,13 +28,6 @@ fn take_rows(rt: &impl Print, script: &mut Script, place: &str, text: &str) -> i
         }
     }
     Ok(())
-}
-
-/// Prints a line for each row of the text that isn't as it should be, and then how many are.
-pub fn report(rt: &impl Print, alloc: Global, text: &str) -> io::Result<()> {
-    let mut script = Script::new(alloc);
-    take_rows(rt, &mut script, "", text)?;
-    tell_right(rt, script.right())
 }
 
 /// Prints a line for each row of the files that isn't as it should be, with the name of its file, and then how many are. A text that one file

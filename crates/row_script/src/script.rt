@@ -14,6 +14,7 @@
 //     $WORDS   what is run on the input, `explore` before words of that program; behind ` | ` are words that read the text which those
 //              before wrote
 //     >TEXT    a line of the text that is to be written
+//     &NAME    the text of that name, as part of the text that is to be written
 //     =CODE    the exit code: the row ends, and the text is to be these lines
 //     ~CODE N  the exit code: the row ends, and the text is to begin with these lines and to have N
 //     ~CODE N BYTES   and to have so many bytes
@@ -159,6 +160,12 @@ impl Script {
         Ok(())
     }
 
+    fn want_named(&mut self, name: &str) -> Result<(), AllocError> {
+        let text = text_named(self.named.as_slice(), name);
+        self.wanted.extend_from_slice(text)?;
+        Ok(())
+    }
+
     fn add_tree(&mut self, rest: &str) -> Result<(), AllocError> {
         let (nodes, kind) = numbered(rest);
         let nodes = u32::try_from(nodes).unwrap_or(0);
@@ -243,6 +250,7 @@ impl Script {
             Some(b'^') => self.add_tree(rest)?,
             Some(b'$') => self.line = String::from_str(self.alloc, rest)?,
             Some(b'>') => add_line(&mut self.wanted, rest)?,
+            Some(b'&') => self.want_named(rest)?,
             Some(b'=') => return self.end_whole(rest),
             Some(b'~') => return self.end_begun(rest),
             Some(b'!') => return self.end_faults(rest),

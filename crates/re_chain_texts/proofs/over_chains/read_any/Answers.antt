@@ -2,7 +2,7 @@ use Rattle.re_chain_texts.proofs.WordsGiven.{answered_fault, any_chain}
 use Rattle.re_chain_texts.proofs.over_chains.read_any.Goals as goal
 
 pub returns-in-Ok : goal.returns-in-Ok
-returns-in-Ok c = any_chain c.args.text.now c.in-Ok.chain c.in-Ok.ensures.0 c.in-Ok.ensures.1
+returns-in-Ok c = (c.in-Ok.ensures.1, any_chain c.args.text.now c.in-Ok.chain c.in-Ok.ensures.0 c.in-Ok.ensures.1)
 
 pub returns-in_ok-fault_output-in-Err-Bad : goal.returns-in_ok-fault_output-in-Err-Bad
 returns-in_ok-fault_output-in-Err-Bad c =

@@ -83,4 +83,4 @@ returns-clause-closure c =
     let a = subst (λ f. IsSide f c.in_ok-active.active) (λ i. family_of (c.degrees-degrees.ensures.degrees i).active (c.as_slice-2.ensures.value i) (left i)) c.in_ok-active.ensures.side in
     let count : c.len-labels.result ≡ length families.sets.items = search rules in
     computed (unnamed problem) (active_family problem families) (passive_family problem families) c.names.ensures.problem.problem c.requires.closure c.requires.few c.in_ok-passive.passive c.in_ok-active.active p a
-    c.len-labels.result count c.requires.few_passive _ refl c.in_ok-closed.ensures c.in_ok-between.ensures a.map_is p.map_is
+    c.len-labels.result count c.requires.few_passive c.requires.few_active _ refl c.in_ok-closed.ensures c.in_ok-between.ensures a.map_is p.map_is

@@ -1,6 +1,7 @@
-use Rattle.std.proofs.Common.{◌≡◌, length, sym, ap, ◌∙◌, arith}
+use Rattle.std.proofs.Common.{◌≡◌, Err, length, sym, ap, ◌∙◌, subst, arith}
 use Rattle.re_labels.proofs.Tests.{eqb-true}
-use Rattle.re_closure_lines.proofs.Keeping.{kept_begin, kept_taken, kept_topmost}
+use Rattle.re_closure_lines.proofs.Keeping.{err_is, kept_begin, kept_taken, kept_topmost}
+use Rattle.re_closure_lines.specs.Kept.{IsAntichain}
 use Rattle.re_closure_lines.proofs.topmost.topmost_lines.Goals as goal
 
 pub returns-then-is_empty-clause-topmost : goal.returns-then-is_empty-clause-topmost
@@ -12,6 +13,7 @@ pub loop-settled-init : goal.loop-settled-init
 loop-settled-init c = record {
   kept = λ d count. kept_begin d c.args.starts.items c.new-kept.result.items c.new-kept.ensures.items count;
   few = (let none = ap length c.new-kept.ensures.items in omega (arith, none));
+  unrelated = subst IsAntichain (sym c.new-kept.ensures.items) tt;
 }
 
 pub loop-settled-preserved : goal.loop-settled-preserved
@@ -19,4 +21,10 @@ loop-settled-preserved c = record {
   kept = λ d count. c.in_ok-settle.ensures.kept d c.args.starts.items
       (kept_taken d c.args.starts.items c.loop-settled.kept.items c.loop-settled.waiting.items c.take_largest-line.new.waiting.items c.take_largest-line.result c.take_largest-line.ensures (c.loop-settled.invariant.kept d count));
   few = c.in_ok-settle.ensures.few c.loop-settled.invariant.few;
+  unrelated = c.in_ok-settle.ensures.unrelated c.loop-settled.invariant.unrelated;
 }
+
+pub returns-in_err-settle-clause-many : goal.returns-in_err-settle-clause-many
+returns-in_err-settle-clause-many c = λ e d count.
+    c.in_err-settle.ensures.many (ap Err (err_is c.from_residual.result c.in_err-settle.field-0.0 c.from_residual.ensures.1 e)) d c.args.starts.items c.loop-settled.invariant.unrelated
+    (kept_taken d c.args.starts.items c.loop-settled.kept.items c.loop-settled.waiting.items c.take_largest-line.new.waiting.items c.take_largest-line.result c.take_largest-line.ensures (c.loop-settled.invariant.kept d count))

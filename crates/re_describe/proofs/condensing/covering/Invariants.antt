@@ -1,5 +1,5 @@
-use Rattle.re_describe.proofs.Covering.{SpellsFirst}
+use Rattle.re_describe.proofs.Grouping.{TakenFirst}
 use Rattle.re_describe.proofs.condensing.covering.Given as goal
 
 abbrev pub invariant-loop-place : goal.invariant-loop-place
-invariant-loop-place l = SpellsFirst l.constraint l.place l.few.items
+invariant-loop-place l = TakenFirst l.constraint l.place l.rows l.few.items

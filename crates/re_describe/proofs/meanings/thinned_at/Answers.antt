@@ -4,7 +4,7 @@ use Rattle.re_labels.proofs.Tests.{not_told}
 use Rattle.re_labels.specs.Sets.{IsIn, IsLabelSet}
 use Rattle.re_strength.specs.Held.{ups_in}
 use Rattle.re_describe.specs.Meanings.{IsAbove}
-use Rattle.re_describe.proofs.Thinning.{alone_below, of_rest, stays_above}
+use Rattle.re_describe.proofs.Thinning.{alone_below, of_rest, rest_stays, stays_above}
 use Rattle.re_describe.proofs.meanings.thinned_at.Goals as goal
 
 pub is_above-requires-clause-set : goal.is_above-requires-clause-set
@@ -32,3 +32,6 @@ returns-else-is_above-clause-apart c =
     let ups = ups_in c.args.strength.now.ups.items in
     λ x held other up. alone_below ups c.args.set c.args.label
     (λ above. not_told c.is_above.result c.is_above.ensures c.if-is_above.false (subst (λ s. IsAbove ups s c.args.label) (sym c.remove-others.ensures) above)) x held up
+
+pub returns-then-is_above-clause-stays : goal.returns-then-is_above-clause-stays
+returns-then-is_above-clause-stays c = λ x held other. subst (IsIn x) (sym c.remove-others.ensures) (rest_stays c.args.set c.args.label x held other)

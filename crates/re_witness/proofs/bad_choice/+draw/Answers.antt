@@ -2,7 +2,8 @@ use Rattle.std.proofs.Common.{◌≡◌, ◌<◌, ◌+◌, ◌∷◌, ap, sym, r
 use Rattle.std.specs.List.{AllByRecursion}
 use Rattle.re_witness.proofs.Beginning.{begun_found, not_begun}
 use Rattle.re_witness.proofs.Drawing.{drawn_here, drawn_later}
-use Rattle.re_witness.specs.BadChoice.{IsDrawn, begins, first_behind}
+use Rattle.re_choice.specs.FirstChoice.{IsDrawn}
+use Rattle.re_witness.specs.BadChoice.{begins, first_behind}
 use Rattle.re_config.proofs.Patterns.{others-are, parted}
 use Rattle.re_labels.proofs.Numbers.{IsLabelSet-filter}
 use Rattle.re_labels.specs.Sets.{IsLabelSet}

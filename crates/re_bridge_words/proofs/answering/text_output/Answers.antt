@@ -1,0 +1,17 @@
+use Rattle.std.proofs.Common.{◌≡◌, codes, subst}
+use Rattle.std.proofs.lemmas.Result.{IfOk-weaker}
+use Rattle.re_bridge_words.specs.BridgeWords.{BridgeWorth, IsBridgedText}
+use Rattle.re_chain_parts.specs.Chains.{chain_of}
+use Rattle.re_frame.specs.Outcomes.{outcome_of}
+use Rattle.re_frame.specs.declared.status.Status.TheVariants.{Done}
+use Rattle.re_two_texts.specs.TwoTexts.{back_problem}
+use Rattle.re_bridge_words.proofs.answering.text_output.Goals as goal
+
+pub returns-in-Ok-clause-text : goal.returns-in-Ok-clause-text
+unfolding BridgeWorth
+returns-in-Ok-clause-text c =
+    IfOk-weaker c.bound_output.result _ _
+    (λ output gives.
+    subst (λ bound. (outcome_of output).status ≡ Done → IsBridgedText (back_problem (codes "to") c.args.text.now) (chain_of bound) output.text.items) c.in-Ok.ensures.1
+    (subst (λ next. (outcome_of output).status ≡ Done → IsBridgedText next (chain_of c.in-Ok.texts.bound) output.text.items) c.in-Ok.ensures.2 gives))
+    c.bound_output.ensures.text

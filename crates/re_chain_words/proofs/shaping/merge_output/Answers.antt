@@ -1,0 +1,13 @@
+use Rattle.std.proofs.lemmas.Result.{IfOk-weaker}
+use Rattle.re_chain.specs.Merging.{merged}
+use Rattle.re_chain_texts.proofs.WordsGiven.{sound_given}
+use Rattle.re_frame.specs.Outcomes.{outcome_of}
+use Rattle.re_chain_words.proofs.shaping.merge_output.Goals as goal
+
+pub returns-in-Ok-clause-text : goal.returns-in-Ok-clause-text
+returns-in-Ok-clause-text c =
+    let chain = c.args.chain.now in
+    IfOk-weaker c.certificate_output.result _ _
+    (λ output gives. sound_given c.in-Ok.merged (merged c.label_in-from.result c.label_in-to.result chain) _ (outcome_of output) c.in-Ok.ensures.merged
+    (λ i. merged (c.label_in-from.ensures i) (c.label_in-to.ensures i) chain) (c.merge_law.ensures chain _ _ c.requires c.in-Ok.ensures.may) gives)
+    c.certificate_output.ensures.text

@@ -1,0 +1,31 @@
+-- Rounds of the graph whose edges the passive nodes are: two hops are one round.
+use Rattle.std.specs.Prelude.{ℕ, ◌+◌, ◌*◌, ◌/◌, ◌≤◌}
+use Rattle.re_check.specs.Verdicts.{Means}
+use Rattle.re_check.specs.declared.verdict.Verdict.{Verdict}
+use Rattle.re_check.specs.declared.verdict.Verdict.TheVariants.{Accepted, Refused}
+use Rattle.re_cert.specs.declared.certificate.Kind.TheVariants.{Fixed, Lower, Upper}
+use Rattle.re_laws.specs.Algorithms.{Solvable}
+use Rattle.re_problem.specs.Problems.{Problem}
+
+-- some algorithm of so many rounds of the graph solves the problem
+abbrev pub GraphSolvable : Problem → ℕ → Type 0
+GraphSolvable problem rounds = Solvable problem (2 * rounds)
+
+-- what isn't solvable in so many or fewer hops isn't in so many or fewer rounds
+abbrev pub rounds_below : ℕ → ℕ
+rounds_below hops = hops / 2
+
+-- what is solvable in so many hops is in so many rounds
+abbrev pub rounds_above : ℕ → ℕ
+rounds_above hops = (hops + 1) / 2
+
+-- what a verdict says of the first problem in rounds of the graph
+abbrev pub GraphMeans : Verdict → Problem → Type 0
+GraphMeans (Accepted Lower steps) problem = (rounds : ℕ) → rounds ≤ rounds_below steps → GraphSolvable problem rounds → ⊥
+GraphMeans (Accepted Upper steps) problem = GraphSolvable problem (rounds_above steps)
+GraphMeans (Accepted Fixed steps) problem = (rounds : ℕ) → GraphSolvable problem rounds → ⊥
+GraphMeans (Refused step clause) problem = Unit {0}
+
+-- what a verdict says in hops gives what it says in rounds of the graph
+abbrev pub GraphLaw : Type 0
+GraphLaw = (verdict : Verdict) (problem : Problem) → Means verdict problem → GraphMeans verdict problem

@@ -1,0 +1,199 @@
+-- What the text of an answer Done is worth, by what the command may answer.
+use Rattle.std.proofs.Common.{◌≡◌, ◌<◌, ◌≤◌, ◌+◌, ℕ, zero, suc, List, [], ◌∷◌, ◌++◌, append_assoc, length, sym, ap, ◌∙◌, subst, Option, Some, None, inl, inr, arith}
+use Rattle.std.specs.Prelude.{Contains, option_map}
+use Rattle.std.proofs.lemmas.List.Elements.{Contains-append_right}
+use Rattle.re_labels.proofs.Membership.{AllByRecursion-contains, Contains-here, Contains-map}
+use Rattle.std.proofs.lemmas.Bool.{cases_lt}
+use Rattle.re_labels.specs.declared.TheConstants.{MAX_LABELS}
+use Rattle.re_problem.specs.NamedProblems.{IsNamedProblem, unnamed}
+use Rattle.re_problem.specs.Zero.{zero_place}
+use Rattle.re_problem.specs.declared.fault.InputFault.{InputFault}
+use Rattle.re_cert.specs.Bounds.{Bound, BoundStep, last_problem, next_problems}
+use Rattle.re_cert.specs.declared.certificate.Kind.{Kind}
+use Rattle.re_cert.specs.declared.certificate.Kind.TheVariants as kind
+use Rattle.re_chain_steps.specs.Stepped.{next_step, stepped, stepping_fault}
+use Rattle.re_chain_steps.specs.declared.stepping.ChainStepFault.{ChainStepFault}
+use Rattle.re_chain_steps.specs.declared.stepping.ChainStepFault.TheVariants as chain_step_fault
+use Rattle.re_chain_texts.proofs.WordsGiven.{fault_not_done, text_checked}
+use Rattle.re_chain_texts.specs.ChainTexts.{chain_fault, text_chain}
+use Rattle.re_chain_texts.specs.OverChains.{IsTextOf, refusal_of}
+use Rattle.re_check.specs.Verdicts.{steps_fault}
+use Rattle.re_check.specs.declared.verdict.ClauseFault.{ClauseFault}
+use Rattle.re_closure.specs.ClosureWords.{IsClosureLine, MayFind as MayClose, MayFindBehind as MayCloseBehind, MayFindWithin as MayCloseWithin, MayGive as MayGiveClosure, MayGiveAt as MayCloseAt, MayGiveRead as MayCloseRead, MayGiveSound as MayCloseSound, MayGoOn, MayStep, stop_outcome}
+use Rattle.re_closure.specs.declared.answering.ClosureWord.{ClosureWord}
+use Rattle.re_extend.specs.Extensions.{GoesOn}
+use Rattle.re_frame.specs.Answers.{MayAnswer}
+use Rattle.re_frame.specs.Check.{verdict_outcome}
+use Rattle.re_frame.specs.Outcomes.{Outcome, too_long}
+use Rattle.re_frame.specs.TextFaults.{fault_outcome}
+use Rattle.re_frame.specs.declared.status.Status.TheVariants.{Done, Limit}
+use Rattle.re_io.specs.declared.read.TheConstants.{MAX_BYTES}
+use Rattle.re_search_words.specs.MayGive.{IsFound, MayFind, MayFindBehind, MayGive, MayGiveAt, MayGiveRead, MayGiveSound}
+use Rattle.re_search_words.specs.declared.words.SearchWord.{SearchWord}
+use Rattle.re_search_words.specs.declared.words.SearchWord.TheVariants.{Cycle, Longest}
+use Rattle.re_explore.specs.Commands.{IsOutcome}
+use Rattle.re_explore.specs.Worth.{IsAccepted, SearchWorth, TextWorth}
+use Rattle.re_explore.specs.declared.command.Command.{Command}
+use Rattle.re_explore.specs.declared.command.Command.TheVariants.{Bridges, Chains, Closes, Describes, Explains, Givens, Graphs, Help, Inputs, Searches, Settles}
+
+-- an outcome that isn't Done
+undone : {A : Type 0} (outcome given : Outcome) → outcome ≡ given → (given.status ≡ Done → ⊥) → outcome.status ≡ Done → A
+undone outcome given is other finished = absurd (other (sym (ap (λ (o : Outcome). o.status) is) ∙ finished))
+
+-- ---- inputs that aren't too long
+pub within : (may : List ℕ → Outcome → Type 0) (bytes : List ℕ) (outcome : Outcome) → MayAnswer may bytes outcome → outcome.status ≡ Done → may bytes outcome
+within may bytes outcome is finished = elim (cases_lt MAX_BYTES (length bytes)) [
+  | inl long ↦ undone outcome too_long (is.beyond long) (λ e. cc) finished
+  | inr short ↦ is.within short
+]
+
+-- ---- bounds that go on from a chain
+accepted : (kind : Kind) (most labels : ℕ) (chain bound : Bound) (text : List ℕ) → IsTextOf bound text → GoesOn kind most labels chain bound → IsAccepted kind most labels chain text
+accepted kind most labels chain bound text text_of on = record {
+  bound = bound;
+  text_of = text_of;
+  goes_on = on;
+  checked = text_checked bound text text_of ∙ ap verdict_outcome on.valid;
+}
+
+found_worth : (kind : Kind) (most labels : ℕ) (chain : Bound) (outcome : Outcome) → IsFound kind most labels chain outcome → outcome.status ≡ Done → IsAccepted kind most labels chain outcome.text
+found_worth kind most labels chain outcome (bound, on) finished = accepted kind most labels chain bound outcome.text (on.gives finished) on.goes_on
+
+-- ---- the words `longest` and `cycle`
+find_worth : (word : SearchWord) (chain : Bound) (outcome : Outcome) → MayFind word chain outcome → outcome.status ≡ Done → SearchWorth word chain outcome.text
+find_worth (Longest steps labels) chain outcome may finished = found_worth kind.Lower steps labels chain outcome may finished
+find_worth (Cycle steps merges nodes) chain outcome (inl may) finished = found_worth kind.Fixed steps MAX_LABELS chain outcome may finished
+find_worth (Cycle steps merges nodes) chain outcome (inr (inl may)) finished = undone outcome _ may.2 (λ e. cc) finished
+find_worth (Cycle steps merges nodes) chain outcome (inr (inr may)) finished = undone outcome _ may (λ e. cc) finished
+
+behind_worth : (place : Option ℕ) (word : SearchWord) (chain : Bound) (outcome : Outcome) → MayFindBehind place word chain outcome → outcome.status ≡ Done → SearchWorth word chain outcome.text
+behind_worth (Some place) word chain outcome may finished = undone outcome _ may (λ e. cc) finished
+behind_worth None word chain outcome may finished = find_worth word chain outcome may finished
+
+at_worth : (of : Kind) (word : SearchWord) (chain : Bound) (outcome : Outcome) → MayGiveAt of word chain outcome → outcome.status ≡ Done → SearchWorth word chain outcome.text
+at_worth kind.Lower word chain outcome may finished = behind_worth (zero_place (unnamed (last_problem chain))) word chain outcome may finished
+at_worth kind.Upper word chain outcome may finished = undone outcome _ may (λ e. cc) finished
+at_worth kind.Fixed word chain outcome may finished = behind_worth (zero_place (unnamed (last_problem chain))) word chain outcome may finished
+
+sound_worth : (fault : Option ClauseFault) (word : SearchWord) (chain : Bound) (outcome : Outcome) → MayGiveSound (option_map refusal_of fault) word chain outcome → outcome.status ≡ Done
+    → SearchWorth word chain outcome.text
+sound_worth (Some fault) word chain outcome may finished = undone outcome _ may (λ e. cc) finished
+sound_worth None word chain outcome may finished = at_worth chain.kind word chain outcome may finished
+
+read_worth : (fault : Option InputFault) (word : SearchWord) (chain : Bound) (outcome : Outcome) → MayGiveRead fault word chain outcome → outcome.status ≡ Done → SearchWorth word chain outcome.text
+read_worth (Some fault) word chain outcome may finished = undone outcome (fault_outcome fault) may (fault_not_done fault) finished
+read_worth None word chain outcome may finished = sound_worth (steps_fault chain.first 1 chain.steps) word chain outcome may finished
+
+search_worth : (word : SearchWord) (bytes : List ℕ) (outcome : Outcome) → MayGive word bytes outcome → outcome.status ≡ Done → SearchWorth word (text_chain bytes) outcome.text
+unfolding MayGive
+search_worth word bytes outcome may finished = read_worth (chain_fault bytes) word (text_chain bytes) outcome may finished
+
+-- ---- the word `closure`
+-- a bound that goes on from the chain with a derived step more goes on from the chain
+one_less : (most : ℕ) (chain bound : Bound) → GoesOn kind.Fixed most MAX_LABELS (stepped chain) bound → GoesOn kind.Fixed (suc most) MAX_LABELS chain bound
+one_less most chain bound on = record {
+  fits = on.fits;
+  problems = on.problems;
+  of_kind = on.of_kind;
+  first = on.first;
+  more = next_step chain ∷ on.more;
+  steps = all;
+  few = (let few = on.few in omega (arith, few));
+  small = (named.names.few, on.small);
+  valid = on.valid;
+  means = on.means;
+}
+  where
+    all : bound.steps ≡ chain.steps ++ next_step chain ∷ on.more
+    all = on.steps ∙ append_assoc chain.steps (next_step chain ∷ []) on.more
+
+    stands : Contains bound.steps (next_step chain)
+    stands = subst (λ steps. Contains steps (next_step chain)) (sym all) (Contains-append_right chain.steps (next_step chain ∷ on.more) (next_step chain) (Contains-here (next_step chain) on.more))
+
+    named : IsNamedProblem (next_step chain).next
+    named = AllByRecursion-contains IsNamedProblem (next_problems bound.steps) (next_step chain).next on.problems.next (Contains-map (λ (s : BoundStep). s.next) bound.steps (next_step chain) stands)
+
+-- one with few more steps has no more than many
+no_more : (few most : ℕ) (chain bound : Bound) → few ≤ most → GoesOn kind.Fixed few MAX_LABELS chain bound → GoesOn kind.Fixed most MAX_LABELS chain bound
+no_more few most chain bound less on = record {
+  fits = on.fits;
+  problems = on.problems;
+  of_kind = on.of_kind;
+  first = on.first;
+  more = on.more;
+  steps = on.steps;
+  few = (let short = on.few in omega (arith, short, less));
+  small = on.small;
+  valid = on.valid;
+  means = on.means;
+}
+
+-- the text is read as a fixed point that goes on from the chain with at most so many more steps
+abbrev IsFixedText : ℕ → Bound → List ℕ → Type 0
+IsFixedText most chain text = (bound : Bound) × IsTextOf bound text × GoesOn kind.Fixed most MAX_LABELS chain bound
+
+close_worth : (Rest : Outcome → Type 0) (most : ℕ) (chain : Bound) → 3 ≤ most → ((o : Outcome) → Rest o → o.status ≡ Done → IsFixedText most chain o.text)
+    → (outcome : Outcome) → MayClose Rest chain outcome → outcome.status ≡ Done → IsFixedText most chain outcome.text
+close_worth Rest most chain three rest outcome (inl found) finished = (found.0, found.2 finished, no_more 3 most chain found.0 three found.4.goes_on)
+close_worth Rest most chain three rest outcome (inr (inl more)) finished = rest outcome more finished
+close_worth Rest most chain three rest outcome (inr (inr line)) finished = undone outcome _ line.1 (λ e. cc) finished
+
+close_behind : (Rest : Outcome → Type 0) (most : ℕ) (chain : Bound) → 3 ≤ most → ((o : Outcome) → Rest o → o.status ≡ Done → IsFixedText most chain o.text)
+    → (place : Option ℕ) (outcome : Outcome) → MayCloseBehind Rest place chain outcome → outcome.status ≡ Done → IsFixedText most chain outcome.text
+close_behind Rest most chain three rest (Some place) outcome may finished = undone outcome _ may (λ e. cc) finished
+close_behind Rest most chain three rest None outcome may finished = close_worth Rest most chain three rest outcome may finished
+
+stop_undone : (number : ℕ) (fault : ChainStepFault) → (stop_outcome number fault).status ≡ Done → ⊥
+stop_undone number (chain_step_fault.Limit passed) e = cc
+stop_undone number chain_step_fault.TooManySteps e = cc
+stop_undone number chain_step_fault.NoMemory e = cc
+
+step_worth : (Next : Outcome → Type 0) (most number : ℕ) (chain : Bound) → ((o : Outcome) → Next o → o.status ≡ Done → IsFixedText most (stepped chain) o.text)
+    → (fault : Option ChainStepFault) (outcome : Outcome) → MayStep number fault Next outcome → outcome.status ≡ Done → IsFixedText (suc most) chain outcome.text
+step_worth Next most number chain next None outcome may finished = let found = next outcome may finished in (found.0, found.1, one_less most chain found.0 found.2)
+step_worth Next most number chain next (Some fault) outcome may finished = undone outcome (stop_outcome number fault) may (stop_undone number fault) finished
+
+within_worth : (more : ℕ) (chain : Bound) (outcome : Outcome) → MayCloseWithin more chain outcome → outcome.status ≡ Done → IsFixedText (more + 3) chain outcome.text
+within_worth zero chain outcome may finished =
+    close_behind (IsClosureLine chain) (0 + 3) chain (omega arith) (λ o line over. undone o _ line.1 (λ e. cc) over) (zero_place (unnamed (last_problem chain))) outcome may finished
+within_worth (suc more) chain outcome may finished =
+    close_behind (MayGoOn chain (MayCloseWithin more (stepped chain))) (suc more + 3) chain (omega arith)
+    (λ o on over. let same : suc (more + 3) ≡ suc more + 3 = omega arith in
+    subst (λ most. IsFixedText most chain o.text) same (step_worth (MayCloseWithin more (stepped chain)) (more + 3) (suc (length chain.steps)) chain (within_worth more (stepped chain)) (stepping_fault chain) o on.2 over))
+    (zero_place (unnamed (last_problem chain))) outcome may finished
+
+close_at : (of : Kind) (more : ℕ) (chain : Bound) (outcome : Outcome) → MayCloseAt of more chain outcome → outcome.status ≡ Done → IsFixedText (more + 3) chain outcome.text
+close_at kind.Lower more chain outcome may finished = within_worth more chain outcome may finished
+close_at kind.Upper more chain outcome may finished = undone outcome _ may (λ e. cc) finished
+close_at kind.Fixed more chain outcome may finished = within_worth more chain outcome may finished
+
+close_sound : (fault : Option ClauseFault) (more : ℕ) (chain : Bound) (outcome : Outcome) → MayCloseSound (option_map refusal_of fault) more chain outcome → outcome.status ≡ Done
+    → IsFixedText (more + 3) chain outcome.text
+close_sound (Some fault) more chain outcome may finished = undone outcome _ may (λ e. cc) finished
+close_sound None more chain outcome may finished = close_at chain.kind more chain outcome may finished
+
+close_read : (fault : Option InputFault) (more : ℕ) (chain : Bound) (outcome : Outcome) → MayCloseRead fault more chain outcome → outcome.status ≡ Done → IsFixedText (more + 3) chain outcome.text
+close_read (Some fault) more chain outcome may finished = undone outcome (fault_outcome fault) may (fault_not_done fault) finished
+close_read None more chain outcome may finished = close_sound (steps_fault chain.first 1 chain.steps) more chain outcome may finished
+
+closure_worth : (word : ClosureWord) (bytes : List ℕ) (outcome : Outcome) → MayGiveClosure word bytes outcome → outcome.status ≡ Done
+    → IsAccepted kind.Fixed (word.steps + 3) MAX_LABELS (text_chain bytes) outcome.text
+unfolding MayGiveClosure
+closure_worth word bytes outcome may finished =
+    let found = close_read (chain_fault bytes) word.steps (text_chain bytes) outcome may finished in
+    accepted kind.Fixed (word.steps + 3) MAX_LABELS (text_chain bytes) found.0 outcome.text found.1 found.2
+
+-- ---- all commands
+pub worth_of : (command : Option Command) (bytes : List ℕ) (outcome : Outcome) → IsOutcome command bytes outcome → outcome.status ≡ Done → TextWorth command bytes outcome.text
+worth_of (Some (Chains word)) bytes outcome is finished = (within _ bytes outcome is finished).worth finished
+worth_of (Some (Searches word)) bytes outcome is finished = search_worth word bytes outcome (within _ bytes outcome is finished) finished
+worth_of (Some (Closes word)) bytes outcome is finished = closure_worth word bytes outcome (within _ bytes outcome is finished) finished
+worth_of (Some Bridges) bytes outcome is finished = (within _ bytes outcome is finished).worth finished
+worth_of (Some Explains) bytes outcome is finished = tt
+worth_of (Some Describes) bytes outcome is finished = tt
+worth_of (Some (Graphs word)) bytes outcome is finished = tt
+worth_of (Some (Givens word)) bytes outcome is finished = tt
+worth_of (Some (Inputs word)) bytes outcome is finished = tt
+worth_of (Some Settles) bytes outcome is finished = tt
+worth_of (Some Help) bytes outcome is finished = tt
+worth_of None bytes outcome is finished = tt

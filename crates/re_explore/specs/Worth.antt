@@ -1,0 +1,46 @@
+-- What the text of an answer Done is worth that is a certificate.
+use Rattle.std.specs.Prelude.{◌≡◌, ◌+◌, ℕ, List, length, Option, None, Some}
+use Rattle.re_bridge_words.specs.BridgeWords.{BridgeWorth}
+use Rattle.re_cert.specs.Bounds.{Bound}
+use Rattle.re_cert.specs.declared.certificate.Kind.{Kind}
+use Rattle.re_cert.specs.declared.certificate.Kind.TheVariants.{Fixed, Lower}
+use Rattle.re_chain_texts.specs.ChainTexts.{text_chain}
+use Rattle.re_chain_texts.specs.OverChains.{IsTextOf}
+use Rattle.re_chain_words.specs.Answers.{WordWorth}
+use Rattle.re_check.specs.declared.verdict.Verdict.TheVariants.{Accepted}
+use Rattle.re_extend.specs.Extensions.{GoesOn}
+use Rattle.re_frame.specs.Check.{check_outcome, verdict_line}
+use Rattle.re_frame.specs.Outcomes.{done}
+use Rattle.re_labels.specs.declared.TheConstants.{MAX_LABELS}
+use Rattle.re_search_words.specs.declared.words.SearchWord.{SearchWord}
+use Rattle.re_search_words.specs.declared.words.SearchWord.TheVariants.{Cycle, Longest}
+use Rattle.re_explore.specs.declared.command.Command.{Command}
+use Rattle.re_explore.specs.declared.command.Command.TheVariants.{Bridges, Chains, Closes, Describes, Explains, Givens, Graphs, Help, Inputs, Searches, Settles}
+
+-- the text is read as a bound of this kind that goes on from the chain, with at most so many more steps, each to a problem of at most so many labels; and
+-- `check` answers to the text that it is accepted
+pub record IsAccepted (kind : Kind) (most labels : ℕ) (chain : Bound) (text : List ℕ) : Type 0 where
+  pub bound : Bound
+  pub text_of : IsTextOf bound text
+  pub goes_on : GoesOn kind most labels chain bound
+  pub checked : check_outcome text ≡ done (verdict_line (Accepted kind (length bound.steps)))
+
+-- what a search finds is accepted
+abbrev pub SearchWorth : SearchWord → Bound → List ℕ → Type 0
+SearchWorth (Longest steps labels) chain text = IsAccepted Lower steps labels chain text
+SearchWorth (Cycle steps merges nodes) chain text = IsAccepted Fixed steps MAX_LABELS chain text
+
+-- what the text is worth that a command gives to these bytes with Done
+abbrev pub TextWorth : Option Command → List ℕ → List ℕ → Type 0
+TextWorth (Some (Chains word)) bytes text = WordWorth word bytes text
+TextWorth (Some (Searches word)) bytes text = SearchWorth word (text_chain bytes) text
+TextWorth (Some (Closes word)) bytes text = IsAccepted Fixed (word.steps + 3) MAX_LABELS (text_chain bytes) text
+TextWorth (Some Bridges) bytes text = BridgeWorth bytes text
+TextWorth (Some Explains) bytes text = Unit {0}
+TextWorth (Some Describes) bytes text = Unit {0}
+TextWorth (Some (Graphs word)) bytes text = Unit {0}
+TextWorth (Some (Givens word)) bytes text = Unit {0}
+TextWorth (Some (Inputs word)) bytes text = Unit {0}
+TextWorth (Some Settles) bytes text = Unit {0}
+TextWorth (Some Help) bytes text = Unit {0}
+TextWorth None bytes text = Unit {0}

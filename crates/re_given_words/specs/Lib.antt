@@ -1,0 +1,9 @@
+pub mod Answers
+pub mod Counting
+pub mod GivenTexts
+pub mod InputFaults
+pub mod Meanings
+pub mod RoundsTexts
+pub mod Verdicts
+pub mod Walks
+pub mod Words

@@ -1,0 +1,185 @@
+//! What `rounds` counts.
+ghost use Rattle.re_frame.specs.Outcomes.{outcome_of};
+ghost use Rattle.re_given_words.specs.Counting.{IsBeside, IsCounted, IsLow, Tells, counted_outcome};
+ghost use Rattle.re_problem.specs.Derived.{derived_by};
+ghost use Rattle.re_problem.specs.NamedProblems.{unnamed};
+ghost use Rattle.re_step.specs.Derivations.{named_derived, step_limit};
+ghost use Rattle.std.specs.Fmt.{decimal};
+ghost use Rattle.std.specs.Prelude.{◌≡◌, ◌≤◌, ◌<◌, ◌++◌, IfOk, None, Some, option_map};
+
+use crate::fitting::{FitAnswer, fit_answer, tries_output};
+use re_frame::{Answer, Output, begun, done, limit_output, push_number, push_words};
+use re_labels::NoMemory;
+use re_problem::Problem;
+use re_step::{StepFault, StepLimit, step};
+use re_zero::zero_round;
+use std::alloc::Global;
+
+/// A problem, and the input problem of which a solution is given, if any.
+#[derive(Drop)]
+pub(crate) struct RoundsTexts {
+    pub problem: Problem,
+    pub input: Option<Problem>,
+}
+
+/// What is told of a number of rounds.
+#[derive(Clone, Copy, Debug, PartialEq, Eq)]
+pub(crate) enum Told {
+    /// They are enough.
+    Enough,
+    /// They are too few.
+    Few,
+    /// The tries don't suffice to tell.
+    Untold,
+}
+
+/// How many rounds a problem takes.
+#[derive(Clone, Copy, Debug, PartialEq, Eq)]
+pub(crate) enum Counted {
+    /// Exactly so many.
+    Exactly(u8),
+    /// More than so many.
+    MoreThan(u8),
+    /// More than so many, and the next step passes this limit.
+    Passed(u8, StepLimit),
+    /// Not fewer than so many, of which the tries don't suffice to tell.
+    Tried(u8),
+}
+
+// What is told of so many rounds by the problem that is derived as often, given the input problem.
+fn tell_given(
+    alloc: Global,
+    texts: &RoundsTexts,
+    input: &Problem,
+    current: &Problem,
+    rounds: u8,
+) -> Result<Told, NoMemory>
+    requires input { texts.now.input ≡ Some input.now }
+    requires beside { IsBeside (unnamed texts.now.problem) (option_map unnamed texts.now.input) }
+    requires here { unnamed current.now ≡ derived_by rounds (unnamed texts.now.problem) }
+    ensures { IfOk result (Tells (unnamed texts.now.problem) (option_map unnamed texts.now.input) rounds) }
+{
+    match fit_answer(alloc, current, input, rounds)? {
+        FitAnswer::Sets(_) => Ok(Told::Enough),
+        FitAnswer::Missing => Ok(Told::Few),
+        FitAnswer::TooMany => Ok(Told::Untold),
+    }
+}
+
+// What is told of so many rounds by the problem that is derived as often.
+fn tell(alloc: Global, texts: &RoundsTexts, current: &Problem, rounds: u8) -> Result<Told, NoMemory>
+    requires beside { IsBeside (unnamed texts.now.problem) (option_map unnamed texts.now.input) }
+    requires here { unnamed current.now ≡ derived_by rounds (unnamed texts.now.problem) }
+    ensures { IfOk result (Tells (unnamed texts.now.problem) (option_map unnamed texts.now.input) rounds) }
+{
+    match &texts.input {
+        Some(input) => tell_given(alloc, texts, input, current, rounds),
+        None => {
+            if zero_round(current).is_some() {
+                Ok(Told::Enough)
+            } else {
+                Ok(Told::Few)
+            }
+        }
+    }
+}
+
+// The derived problem in place of the problem, or the limit that it passes.
+fn derive(alloc: Global, current: &mut Problem) -> Result<Option<StepLimit>, NoMemory>
+    ensures limit { IfOk result (λ passed. passed ≡ step_limit (unnamed current.old)) }
+    ensures derived { IfOk result (λ passed. passed ≡ None → current.new ≡ named_derived (unnamed current.old)) }
+{
+    match step(alloc, current) {
+        Ok(derived) => {
+            *current = derived.problem;
+            Ok(None)
+        }
+        Err(StepFault::Limit(limit)) => Ok(Some(limit)),
+        Err(StepFault::NoMemory) => Err(NoMemory),
+    }
+}
+
+/// How many rounds the problem takes, alone or given the input problem, where it takes no more than `most`. The problem, its derived
+/// problem, the derived problem of that one and so on are taken in turn: the first that is solvable without communication, given the
+/// input problem exchanged as often, tells the number. The cost is that of `re_step::step` and of the walk of `re_fit` for each; one
+/// problem is held at a time.
+pub(crate) fn count(alloc: Global, texts: &RoundsTexts, most: u8) -> Result<Counted, NoMemory>
+    requires beside { IsBeside (unnamed texts.now.problem) (option_map unnamed texts.now.input) }
+    requires most { most ≤ 64 }
+    ensures counted { IfOk result (IsCounted (unnamed texts.now.problem) (option_map unnamed texts.now.input) most) }
+    ensures low { IfOk result IsLow }
+{
+    let mut current = texts.problem.copy()?;
+    for rounds in 0..most {
+        match tell(alloc, texts, &current, rounds)? {
+            Told::Enough => return Ok(Counted::Exactly(rounds)),
+            Told::Untold => return Ok(Counted::Tried(rounds)),
+            Told::Few => {}
+        }
+        match derive(alloc, &mut current)? {
+            Some(limit) => return Ok(Counted::Passed(rounds, limit)),
+            None => {}
+        }
+    }
+    match tell(alloc, texts, &current, most)? {
+        Told::Enough => Ok(Counted::Exactly(most)),
+        Told::Untold => Ok(Counted::Tried(most)),
+        Told::Few => Ok(Counted::MoreThan(most)),
+    }
+}
+
+// The words with a number behind them, and other words.
+fn numbered(alloc: Global, words: &str, number: u8, behind: &str) -> Result<Vec<u8>, NoMemory>
+    ensures { IfOk result (λ text. text.items ≡ words.now ++ decimal number ++ behind.now) }
+{
+    let mut text = begun(alloc, words)?;
+    push_number(alloc, &mut text, number as usize)?;
+    push_words(&mut text, behind)?;
+    Ok(text)
+}
+
+// The output of a limit of a step, behind what is known.
+fn passed_output(alloc: Global, rounds: u8, limit: StepLimit) -> Result<Output, NoMemory>
+    requires { rounds < 64 }
+    ensures { IfOk result (λ output. outcome_of output ≡ counted_outcome (Counted.Passed rounds limit)) }
+{
+    let mut text = numbered(alloc, "more than ", rounds, ", then: ")?;
+    let line = limit_output(alloc, rounds + 1, limit)?;
+    text.extend_from_slice(line.text.as_slice())?;
+    Ok(Output {
+        answer: Answer::Limit,
+        text,
+    })
+}
+
+// The output where the tries don't suffice, behind what is known.
+fn tried_output(alloc: Global, rounds: u8) -> Result<Output, NoMemory>
+    ensures { IfOk result (λ output. outcome_of output ≡ counted_outcome (Counted.Tried rounds)) }
+{
+    if rounds == 0 {
+        return tries_output(alloc);
+    }
+    let text = numbered(
+        alloc,
+        "more than ",
+        rounds - 1,
+        ", then: limit: more than 1000000 tries\n",
+    )?;
+    Ok(Output {
+        answer: Answer::Limit,
+        text,
+    })
+}
+
+/// The output of what is counted.
+pub(crate) fn counted_output(alloc: Global, counted: Counted) -> Result<Output, NoMemory>
+    requires { IsLow counted }
+    ensures { IfOk result (λ output. outcome_of output ≡ counted_outcome counted) }
+{
+    match counted {
+        Counted::Exactly(rounds) => Ok(done(numbered(alloc, "exactly ", rounds, "\n")?)),
+        Counted::MoreThan(rounds) => Ok(done(numbered(alloc, "more than ", rounds, "\n")?)),
+        Counted::Passed(rounds, limit) => passed_output(alloc, rounds, limit),
+        Counted::Tried(rounds) => tried_output(alloc, rounds),
+    }
+}

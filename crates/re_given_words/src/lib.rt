@@ -1,0 +1,25 @@
+//! The words `fit`, `given` and `rounds`: problems and bounds where a solution of an input problem is given.
+#![tactic(auto)]
+
+mod answering;
+mod counting;
+mod faults;
+mod fitting;
+mod judging;
+mod rounds;
+mod texts;
+mod verdicts;
+mod words;
+
+ghost use Rattle.re_given_words.specs.Meanings.{AnswerLaw};
+
+pub use faults::input_fault_output;
+pub use fitting::MAX_TRIES;
+pub use texts::{GIVEN, GivenTexts, read_given};
+pub use words::{BoundWord, GivenWord, given_help, given_word};
+
+/// What the answers of `fit` and `given` to a bound over problems mean: by Done a bound holds given the input problem, and `fit` says exactly
+/// whether the last problem is solvable in 0 rounds given it.
+pub fn answer_law()
+    ensures { AnswerLaw }
+{}

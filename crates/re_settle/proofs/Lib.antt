@@ -1,0 +1,4 @@
+mod Graphs
+mod Known
+mod Saying
+mod Together

@@ -1,0 +1,48 @@
+-- What is known together.
+use Rattle.std.proofs.Common.{◌≡◌, ℕ, zero, suc, ◌<◌, ◌≤◌, Bool, true, false, eqb, Option, None, Some, refl, subst, sym, arith}
+use Rattle.std.specs.Prelude.{IfSome, ◌==◌, if◌then◌else◌}
+use Rattle.std.proofs.lemmas.Bool.{eqb-true}
+use Rattle.re_laws.proofs.ZeroRounds.{Solvable-zero}
+use Rattle.re_laws.specs.Algorithms.{Solvable}
+use Rattle.re_problem.proofs.ZeroPlaces.{some-place}
+use Rattle.re_problem.specs.NamedProblems.{NamedProblem, unnamed}
+use Rattle.re_problem.specs.Problems.{IsProblem, Problem}
+use Rattle.re_problem.specs.Zero.{zero_place}
+use Rattle.re_settle.specs.Claims.{Holds, within}
+use Rattle.re_settle.specs.Ways.{IsKnown, IsSettled}
+use Rattle.re_settle.specs.declared.types.Claim.TheVariants.{AtMost, Between, Exactly, MoreThan, Never}
+use Rattle.re_settle.specs.declared.types.Settled.TheVariants as settled
+use Rattle.re_settle.specs.declared.types.Shown.{Shown}
+use Rattle.re_settle.specs.declared.types.Way.{Way}
+
+-- a problem that is solvable without communication takes no round
+pub at_once_settled : (problem : NamedProblem) (place : ℕ) → IsProblem (unnamed problem) → zero_place (unnamed problem) ≡ Some place → IsSettled problem settled.AtOnce
+at_once_settled problem place is fit = record {
+  shown = (refl, (place, fit));
+  holds = ((Solvable-zero (unnamed problem) is).1 ((some-place (unnamed problem) (Some place) (sym fit)).0 refl), λ T few solvable. absurd (omega arith));
+}
+
+pub never_settled : (problem : NamedProblem) (way : Way) → IsKnown problem Never way → IsSettled problem (settled.Never way)
+never_settled problem way known = record { shown = known.shows; holds = known.holds }
+
+-- more than the first number and at most the second
+within_holds : (problem : Problem) (more most : ℕ) → ((T : ℕ) → T ≤ more → Solvable problem T → ⊥) → Solvable problem most → Holds (within more most) problem
+within_holds problem more most above solves = go (most == suc more) refl
+  where
+    go : (b : Bool) → (most == suc more) ≡ b → Holds (if b then Exactly most else Between more most) problem
+    go true e = let next : most ≡ suc more = eqb-true most (suc more) e in (solves, λ T few solvable. above T (omega arith) solvable)
+    go false e = (above, solves)
+
+pub within_settled : (problem : NamedProblem) (more most : Shown) → IsKnown problem (MoreThan more.rounds) more.way → IsKnown problem (AtMost most.rounds) most.way → IsSettled problem (settled.Within more (Some most))
+within_settled problem more most lower upper = record {
+  shown = (lower.shows, upper.shows);
+  holds = within_holds (unnamed problem) more.rounds most.rounds lower.holds upper.holds;
+}
+
+more_settled : (problem : NamedProblem) (more : Shown) → IsKnown problem (MoreThan more.rounds) more.way → IsSettled problem (settled.Within more None)
+more_settled problem more lower = record { shown = lower.shows; holds = lower.holds }
+
+pub bounds_settled : (problem : NamedProblem) (more : Shown) (most : Option Shown) → IsKnown problem (MoreThan more.rounds) more.way
+    → IfSome most (λ (shown : Shown). IsKnown problem (AtMost shown.rounds) shown.way) → IsSettled problem (settled.Within more most)
+bounds_settled problem more None lower upper = more_settled problem more lower
+bounds_settled problem more (Some most) lower upper = within_settled problem more most lower upper

@@ -1,0 +1,9 @@
+use Rattle.std.proofs.Common.{subst}
+use Rattle.re_longest.specs.Answers.{Answers}
+use Rattle.re_settle.proofs.Known.{longest_known}
+use Rattle.re_settle.proofs.bounds.longest_way.Goals as goal
+
+pub returns : goal.returns
+returns c =
+    let found = subst (Answers 8 12 c.args.chain.now) c.in-Found.is c.in_ok-certificate.ensures in
+    longest_known c.args.problem.now c.args.chain.now c.in-Found.certificate 8 12 c.count_of.result c.requires.chain found.1 c.count_of.ensures

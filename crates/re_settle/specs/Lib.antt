@@ -1,0 +1,6 @@
+pub mod Answers
+pub mod Claims
+pub mod GraphRounds
+pub mod Lines
+pub mod Ways
+pub mod Words

@@ -1,0 +1,66 @@
+-- The lines of an answer.
+use Rattle.std.specs.Prelude.{ℕ, ◌==◌, List, [], ◌∷◌, ◌++◌, codes, flat_map, if◌then◌else◌, None, Some}
+use Rattle.std.specs.Fmt.{decimal}
+use Rattle.re_settle.specs.Claims.{claim_of}
+use Rattle.re_describe.specs.GraphRounds.{rounds_above, rounds_below}
+use Rattle.re_settle.specs.declared.types.Claim.{Claim}
+use Rattle.re_settle.specs.declared.types.Claim.TheVariants.{AtMost, Between, Exactly, MoreThan, Never}
+use Rattle.re_settle.specs.declared.types.Settled.{Settled}
+use Rattle.re_settle.specs.declared.types.Settled.TheVariants as settled
+use Rattle.re_settle.specs.declared.types.Way.{Way}
+use Rattle.re_settle.specs.declared.types.Way.TheVariants.{Closure, Cover, Cycle, Fixed, Longest, Lower, Upper, Zero}
+
+-- ---- the first line
+-- the rounds of the graph, where the passive nodes have two neighbours
+abbrev pub graph_part : ℕ → ℕ → List ℕ
+graph_part passive rounds = if passive == 2 then codes " (" ++ (decimal rounds ++ codes " rounds of the graph)") else codes ""
+
+-- a claim on a problem whose passive nodes have this degree
+abbrev pub claim_text : ℕ → Claim → List ℕ
+claim_text passive (Exactly k) = codes "exactly " ++ (decimal k ++ graph_part passive (rounds_above k))
+claim_text passive Never = codes "not solvable in any number of rounds"
+claim_text passive (MoreThan k) = codes "more than " ++ (decimal k ++ graph_part passive (rounds_below k))
+claim_text passive (AtMost m) = codes "at most " ++ (decimal m ++ graph_part passive (rounds_above m))
+claim_text passive (Between k m) =
+    (codes "more than " ++ (decimal k ++ graph_part passive (rounds_below k))) ++ (codes ", at most " ++ (decimal m ++ graph_part passive (rounds_above m)))
+
+-- ---- the lines behind it
+-- the program and the word
+abbrev pub way_words : Way → List ℕ
+way_words Zero = codes "re zero"
+way_words (Lower steps merges) = codes "re lower"
+way_words (Upper steps drops) = codes "re upper"
+way_words (Fixed steps merges) = codes "re fixed"
+way_words (Closure steps) = codes "explore closure"
+way_words (Cover nodes) = codes "explore cover"
+way_words (Cycle steps merges nodes) = codes "explore cycle"
+way_words (Longest steps labels) = codes "explore longest"
+
+-- the numbers behind them; `closure` without steps has none
+abbrev pub way_numbers : Way → List ℕ
+way_numbers Zero = []
+way_numbers (Lower steps merges) = steps ∷ merges ∷ []
+way_numbers (Upper steps drops) = steps ∷ drops ∷ []
+way_numbers (Fixed steps merges) = steps ∷ merges ∷ []
+way_numbers (Closure steps) = if steps == 0 then [] else steps ∷ []
+way_numbers (Cover nodes) = nodes ∷ []
+way_numbers (Cycle steps merges nodes) = steps ∷ merges ∷ nodes ∷ []
+way_numbers (Longest steps labels) = steps ∷ labels ∷ []
+
+abbrev pub number_texts : List ℕ → List ℕ
+number_texts [] = []
+number_texts (number ∷ numbers) = (codes " " ++ decimal number) ++ number_texts numbers
+
+abbrev pub way_line : Way → List ℕ
+way_line way = codes "by: " ++ (way_words way ++ (number_texts (way_numbers way) ++ codes "\n"))
+
+-- a line for each of the words that show what is known
+abbrev pub way_lines : Settled → List ℕ
+way_lines settled.AtOnce = way_line Zero
+way_lines (settled.Never way) = way_line way
+way_lines (settled.Within more None) = way_line more.way
+way_lines (settled.Within more (Some most)) = way_line more.way ++ way_line most.way
+
+-- the whole answer on a problem whose passive nodes have this degree
+abbrev pub settled_text : ℕ → Settled → List ℕ
+settled_text passive settled = claim_text passive (claim_of settled) ++ (codes "\n" ++ way_lines settled)

@@ -1,0 +1,49 @@
+//! What the word answers.
+ghost use Rattle.re_frame.specs.Outcomes.{outcome_of};
+ghost use Rattle.re_io.specs.declared.read.TheConstants.{MAX_BYTES};
+ghost use Rattle.re_settle.specs.Answers.{IsAnswer, MayGive};
+ghost use Rattle.std.specs.Prelude.{◌≡◌, ◌≤◌, IfOk, length};
+
+use crate::lines::settled_output;
+use crate::settling::settle;
+use crate::words::SettleWord;
+use re_frame::{Finding, Output, fault_output};
+use re_labels::NoMemory;
+use re_problem::{Problem, TextFault, read_problem};
+use std::alloc::Global;
+
+// What the word gives to a problem.
+fn problem_output(alloc: Global, problem: &Problem) -> Result<Output, NoMemory>
+    ensures { IfOk result (λ output. IsAnswer problem.now (outcome_of output)) }
+{
+    let settled = settle(alloc, problem)?;
+    settled_output(alloc, problem.passive().degree(), settled)
+}
+
+// What the word gives to a text.
+#[tactic(auto, unfolding(crate::specs::Answers::MayGive))]
+fn text_output(alloc: Global, text: &[u8]) -> Result<Output, NoMemory>
+    requires { length text.now ≤ MAX_BYTES }
+    ensures { IfOk result (λ output. MayGive text.now (outcome_of output)) }
+{
+    match read_problem(alloc, text) {
+        Ok(problem) => problem_output(alloc, &problem),
+        Err(TextFault::Bad(fault)) => Ok(fault_output(alloc, fault)?),
+        Err(TextFault::NoMemory) => Err(NoMemory),
+    }
+}
+
+impl Finding for SettleWord {
+    ghost use Rattle.std.specs.Prelude.{true};
+    ghost use Rattle.re_settle.specs.Answers.{MayGive};
+
+    ghost fits = { λ _. Unit {0} };
+
+    ghost may = { λ _. MayGive };
+
+    ghost judging = { λ _. true };
+
+    fn find(&self, alloc: Global, text: Vec<u8>) -> Result<Output, NoMemory> {
+        text_output(alloc, text.as_slice())
+    }
+}

@@ -1,0 +1,209 @@
+//! The lines of an answer.
+ghost use Rattle.re_frame.specs.Outcomes.{outcome_of};
+ghost use Rattle.re_settle.specs.Answers.{settled_outcome};
+ghost use Rattle.re_settle.specs.Claims.{claim_of, is_final, within};
+ghost use Rattle.re_settle.specs.Lines.{claim_text, graph_part, number_texts, settled_text, way_line, way_lines, way_numbers, way_words};
+ghost use Rattle.std.specs.Fmt.{decimal};
+ghost use Rattle.std.specs.Prelude.{◌≡◌, ◌++◌, ◌∷◌, [], IfOk, OnOk};
+
+use crate::types::{Claim, Settled, Way};
+use arrayvec::ArrayVec;
+use re_frame::{Output, done, push_number, push_words, refused};
+use re_labels::NoMemory;
+use std::alloc::Global;
+
+// The claim of more than the first number of rounds and at most the second.
+fn within(more: u8, most: u8) -> Claim
+    ensures { result ≡ within more most }
+{
+    if most as usize == more as usize + 1 {
+        Claim::Exactly(most)
+    } else {
+        Claim::Between(more, most)
+    }
+}
+
+// What is claimed.
+fn claim_of(settled: Settled) -> Claim
+    ensures { result ≡ claim_of settled }
+{
+    match settled {
+        Settled::AtOnce => Claim::Exactly(0),
+        Settled::Never(_) => Claim::Never,
+        Settled::Within(more, None) => Claim::MoreThan(more.rounds),
+        Settled::Within(more, Some(most)) => within(more.rounds, most.rounds),
+    }
+}
+
+// Whether the claim leaves no question.
+fn is_final(claim: Claim) -> bool
+    ensures { result ≡ is_final claim }
+{
+    matches!(claim, Claim::Exactly(_) | Claim::Never)
+}
+
+// Appends the rounds of the graph, where the passive nodes have two neighbours.
+fn push_graph(text: &mut Vec<u8>, passive: u8, rounds: usize) -> Result<(), NoMemory>
+    ensures { OnOk result (text.new.items ≡ text.old.items ++ graph_part passive rounds) }
+{
+    if passive != 2 {
+        return push_words(text, "");
+    }
+    let alloc = *text.allocator();
+    push_words(text, " (")?;
+    push_number(alloc, text, rounds)?;
+    push_words(text, " rounds of the graph)")
+}
+
+// Appends the words, a number of rounds, and these as rounds of the graph.
+fn push_rounds(
+    text: &mut Vec<u8>,
+    words: &str,
+    hops: u8,
+    passive: u8,
+    rounds: usize,
+) -> Result<(), NoMemory>
+    ensures { OnOk result (text.new.items ≡ text.old.items ++ (words.now ++ (decimal hops ++ graph_part passive rounds))) }
+{
+    let alloc = *text.allocator();
+    push_words(text, words)?;
+    push_number(alloc, text, hops as usize)?;
+    push_graph(text, passive, rounds)
+}
+
+// Appends a claim of one number.
+fn push_claim(text: &mut Vec<u8>, passive: u8, claim: Claim) -> Result<(), NoMemory>
+    ensures { OnOk result (text.new.items ≡ text.old.items ++ claim_text passive claim) }
+{
+    match claim {
+        Claim::Exactly(k) => push_rounds(text, "exactly ", k, passive, (k as usize + 1) / 2),
+        Claim::Never => push_words(text, "not solvable in any number of rounds"),
+        Claim::MoreThan(k) => push_rounds(text, "more than ", k, passive, k as usize / 2),
+        Claim::AtMost(m) => push_rounds(text, "at most ", m, passive, (m as usize + 1) / 2),
+        Claim::Between(k, m) => {
+            push_rounds(text, "more than ", k, passive, k as usize / 2)?;
+            push_rounds(text, ", at most ", m, passive, (m as usize + 1) / 2)
+        }
+    }
+}
+
+// The program and the word.
+fn way_words(way: Way) -> &'static str
+    ensures { result.now ≡ way_words way }
+{
+    match way {
+        Way::Zero => "re zero",
+        Way::Lower(..) => "re lower",
+        Way::Upper(..) => "re upper",
+        Way::Fixed(..) => "re fixed",
+        Way::Closure(_) => "explore closure",
+        Way::Cover(_) => "explore cover",
+        Way::Cycle(..) => "explore cycle",
+        Way::Longest(..) => "explore longest",
+    }
+}
+
+// These two numbers.
+fn two(first: u8, second: u8) -> ArrayVec<u32, 3>
+    ensures { result.items ≡ first ∷ second ∷ [] }
+{
+    let mut numbers = ArrayVec::new();
+    numbers.push(u32::from(first));
+    numbers.push(u32::from(second));
+    numbers
+}
+
+// This number.
+fn one(number: u8) -> ArrayVec<u32, 3>
+    ensures { result.items ≡ number ∷ [] }
+{
+    let mut numbers = ArrayVec::new();
+    numbers.push(u32::from(number));
+    numbers
+}
+
+// The numbers behind the words.
+fn way_numbers(way: Way) -> ArrayVec<u32, 3>
+    ensures { result.items ≡ way_numbers way }
+{
+    match way {
+        Way::Zero | Way::Closure(0) => ArrayVec::new(),
+        Way::Closure(steps) => one(steps),
+        Way::Cover(nodes) => one(nodes),
+        Way::Lower(steps, changes) | Way::Upper(steps, changes) | Way::Fixed(steps, changes) => {
+            two(steps, changes)
+        }
+        Way::Longest(steps, labels) => two(steps, labels),
+        Way::Cycle(steps, merges, nodes) => {
+            let mut numbers = two(steps, merges);
+            numbers.push(nodes);
+            numbers
+        }
+    }
+}
+
+// Appends each number behind a blank.
+fn push_numbers(text: &mut Vec<u8>, numbers: &[u32]) -> Result<(), NoMemory>
+    ensures { OnOk result (text.new.items ≡ text.old.items ++ number_texts numbers.now) }
+{
+    let [number, others @ ..] = numbers else {
+        return push_words(text, "");
+    };
+    let alloc = *text.allocator();
+    push_words(text, " ")?;
+    push_number(alloc, text, *number as usize)?;
+    push_numbers(text, others)
+}
+
+// Appends the line of these words.
+fn push_way(text: &mut Vec<u8>, way: Way) -> Result<(), NoMemory>
+    ensures { OnOk result (text.new.items ≡ text.old.items ++ way_line way) }
+{
+    let numbers = way_numbers(way);
+    push_words(text, "by: ")?;
+    push_words(text, way_words(way))?;
+    push_numbers(text, numbers.as_slice())?;
+    push_words(text, "\n")
+}
+
+// Appends the lines of the words that show what is known.
+fn push_ways(text: &mut Vec<u8>, settled: Settled) -> Result<(), NoMemory>
+    ensures { OnOk result (text.new.items ≡ text.old.items ++ way_lines settled) }
+{
+    match settled {
+        Settled::AtOnce => push_way(text, Way::Zero),
+        Settled::Never(way) => push_way(text, way),
+        Settled::Within(more, None) => push_way(text, more.way),
+        Settled::Within(more, Some(most)) => {
+            push_way(text, more.way)?;
+            push_way(text, most.way)
+        }
+    }
+}
+
+// The text of what is known of a problem whose passive nodes have this degree.
+fn settled_text(alloc: Global, passive: u8, settled: Settled) -> Result<Vec<u8>, NoMemory>
+    ensures { IfOk result (λ text. text.items ≡ settled_text passive settled) }
+{
+    let mut text = Vec::new(alloc);
+    push_claim(&mut text, passive, claim_of(settled))?;
+    push_words(&mut text, "\n")?;
+    push_ways(&mut text, settled)?;
+    Ok(text)
+}
+
+/// The output for what is known of a problem whose passive nodes have this degree.
+pub(crate) fn settled_output(
+    alloc: Global,
+    passive: u8,
+    settled: Settled,
+) -> Result<Output, NoMemory>
+    ensures { IfOk result (λ output. outcome_of output ≡ settled_outcome passive settled) }
+{
+    let text = settled_text(alloc, passive, settled)?;
+    if is_final(claim_of(settled)) {
+        Ok(done(text))
+    } else {
+        Ok(refused(text))
+    }
+}

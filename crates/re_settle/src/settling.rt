@@ -1,0 +1,122 @@
+//! What is known of a problem.
+ghost use Rattle.re_chain_texts.specs.ChainTexts.{problem_chain};
+ghost use Rattle.re_problem.specs.NamedProblems.{unnamed};
+ghost use Rattle.re_problem.specs.Zero.{zero_place};
+ghost use Rattle.re_settle.specs.Ways.{IsSettled};
+ghost use Rattle.std.specs.Prelude.{◌≡◌, ◌≤◌, IfOk, IfSome, None};
+
+use crate::bounds::{long_way, lower_way, upper_way};
+use crate::never::never_way;
+use crate::types::Settled;
+use re_cert::Certificate;
+use re_chain_texts::problem_chain;
+use re_labels::NoMemory;
+use re_problem::Problem;
+use re_search::types::Rounds;
+use re_search::{RoundsFault, rounds};
+use re_zero::zero_round;
+use std::alloc::Global;
+
+/// Up to how many rounds are counted by steps.
+pub const MAX_ROUNDS: u8 = 8;
+
+// How many steps can be taken to problems that aren't solvable without communication, and whether the next one leads to one that is.
+#[derive(Clone, Copy, Debug, PartialEq, Eq)]
+struct Count {
+    steps: u8,
+    ends: bool,
+}
+
+// Counts them, up to `MAX_ROUNDS`. Nothing rests on it.
+fn counted(alloc: Global, problem: &Problem) -> Result<Count, NoMemory>
+    ensures { IfOk result (λ count. count.steps ≤ 8) }
+{
+    let (steps, ends) = match rounds(alloc, problem, MAX_ROUNDS) {
+        Ok(Rounds::Exactly(k)) => (k.saturating_sub(1), true),
+        Ok(Rounds::MoreThan(k)) => (k, false),
+        Err(RoundsFault::StepLimit { step, .. }) => (step.saturating_sub(1), false),
+        Err(RoundsFault::NoMemory) => return Err(NoMemory),
+    };
+    Ok(Count {
+        steps: steps.min(MAX_ROUNDS),
+        ends,
+    })
+}
+
+// More than so many rounds, and one more suffices: by steps without changes.
+fn exact(alloc: Global, problem: &Problem, steps: u8) -> Result<Option<Settled>, NoMemory>
+    requires { steps ≤ 8 }
+    ensures { IfOk result (λ found. IfSome found (IsSettled problem.now)) }
+{
+    let Some(lower) = lower_way(alloc, problem, steps)? else {
+        return Ok(None);
+    };
+    match upper_way(alloc, problem, steps + 1, 0)? {
+        Some(upper) => Ok(Some(Settled::Within(lower, Some(upper)))),
+        None => Ok(None),
+    }
+}
+
+// Two bounds.
+fn bounded(
+    alloc: Global,
+    problem: &Problem,
+    chain: &Certificate,
+    steps: u8,
+) -> Result<Settled, NoMemory>
+    requires chain { chain.now ≡ problem_chain problem.now }
+    requires not_zero { zero_place (unnamed problem.now) ≡ None }
+    requires steps { steps ≤ 8 }
+    ensures { IfOk result (IsSettled problem.now) }
+{
+    let lower = long_way(alloc, problem, chain, steps)?;
+    let upper = upper_way(alloc, problem, 2, 1)?;
+    Ok(Settled::Within(lower, upper))
+}
+
+// What is known beyond steps without changes.
+fn searched(
+    alloc: Global,
+    problem: &Problem,
+    chain: &Certificate,
+    steps: u8,
+) -> Result<Settled, NoMemory>
+    requires chain { chain.now ≡ problem_chain problem.now }
+    requires not_zero { zero_place (unnamed problem.now) ≡ None }
+    requires steps { steps ≤ 8 }
+    ensures { IfOk result (IsSettled problem.now) }
+{
+    match never_way(alloc, problem, chain)? {
+        Some(way) => Ok(Settled::Never(way)),
+        None => bounded(alloc, problem, chain, steps),
+    }
+}
+
+// What is known where the problem isn't solvable without communication.
+fn settled(alloc: Global, problem: &Problem, chain: &Certificate) -> Result<Settled, NoMemory>
+    requires chain { chain.now ≡ problem_chain problem.now }
+    requires not_zero { zero_place (unnamed problem.now) ≡ None }
+    ensures { IfOk result (IsSettled problem.now) }
+{
+    let count = counted(alloc, problem)?;
+    if count.ends {
+        if let Some(settled) = exact(alloc, problem, count.steps)? {
+            return Ok(settled);
+        }
+    }
+    searched(alloc, problem, chain, count.steps)
+}
+
+/// What the searches of this crate find out of how many rounds the problem takes, and the words that show it. It is true, and the
+/// words that are named give certificates of it; where they find less, nothing more is known. The crate's page says what is tried in
+/// which order; the cost is that of these searches.
+pub fn settle(alloc: Global, problem: &Problem) -> Result<Settled, NoMemory>
+    ensures { IfOk result (IsSettled problem.now) }
+{
+    let _names = problem.names();
+    if let Some(_place) = zero_round(problem) {
+        return Ok(Settled::AtOnce);
+    }
+    let chain = problem_chain(alloc, problem.copy()?);
+    settled(alloc, problem, &chain)
+}

@@ -1,0 +1,55 @@
+//! What is known of a problem, and the words that show it.
+
+/// Words whose answer to a problem shows something of it.
+#[derive(Clone, Copy, Debug, PartialEq, Eq)]
+pub enum Way {
+    /// `re zero`: it is solvable without communication.
+    Zero,
+    /// `re lower K M`: a lower bound of K steps with at most M merges in each.
+    Lower(u8, u8),
+    /// `re upper K M`: an upper bound of at most K steps, in each of which at most M labels are left out.
+    Upper(u8, u8),
+    /// `re fixed K M`: a fixed point of at most K steps with at most M merges in each.
+    Fixed(u8, u8),
+    /// `explore closure`: the fixed point of its closure; or behind 1 step, or as many as are named.
+    Closure(u8),
+    /// `explore cover M`: a graph of at most M active nodes without a solution.
+    Cover(u8),
+    /// `explore cycle K M N`: a fixed point of at most K steps with at most M merges in each, of at most N problems that are looked at.
+    Cycle(u8, u8, u32),
+    /// `explore longest K L`: a lower bound of at most K steps, each to a problem of at most L labels.
+    Longest(u8, u8),
+}
+
+/// How many rounds a problem takes.
+#[derive(Clone, Copy, Debug, PartialEq, Eq)]
+pub enum Claim {
+    /// So many rounds solve it, and no fewer do.
+    Exactly(u8),
+    /// No number of rounds solves it.
+    Never,
+    /// It isn't solvable in so many rounds or fewer.
+    MoreThan(u8),
+    /// So many rounds solve it.
+    AtMost(u8),
+    /// It isn't solvable in the first number of rounds or fewer, and the second solves it.
+    Between(u8, u8),
+}
+
+/// A number of rounds, and the words that show it.
+#[derive(Clone, Copy, Debug, PartialEq, Eq)]
+pub struct Shown {
+    pub rounds: u8,
+    pub way: Way,
+}
+
+/// What is known of how many rounds a problem takes, and the words that show it.
+#[derive(Clone, Copy, Debug, PartialEq, Eq)]
+pub enum Settled {
+    /// It is solvable without communication.
+    AtOnce,
+    /// No number of rounds solves it.
+    Never(Way),
+    /// It takes more than the first number of rounds, and where a second one is known, at most that many.
+    Within(Shown, Option<Shown>),
+}

@@ -1,0 +1,68 @@
+#!/bin/sh
+# Draws 200 lines of the tables by a fixed rule, runs the words that they name, and has `re check` or `explore solve` judge what these give.
+#
+#     examples/catalogue/check.sh RE EXPLORE [TABLE..]
+#
+# Drawn are the first 20 of the lines with `exactly 0`, and the first 180 of all others, in the order of the remainders of
+# 7919 times the problem's number and 31 times the line's by 10007. It writes a line for each that fails, and at last how many lines were
+# drawn and how many commands were run. Without a TABLE: those of this folder.
+set -eu
+here=$(dirname "$0") re=$(realpath "$1") explore=$(realpath "$2")
+shift 2
+[ $# -gt 0 ] || set -- "$here"/*.tsv "$here"/*.tsv.xz
+folder=$(mktemp -d)
+trap 'rm -rf "$folder"' EXIT
+
+for table in "$@"; do
+    case $table in *.xz) xz -dc "$table";; *) cat "$table";; esac
+done | awk -F '\t' '{ printf "%d\t%s\n", ($1 * 7919 + 31 * NR) % 10007, $0 }' | sort -n > "$folder/ordered"
+{
+    grep "$(printf '\texactly 0')" "$folder/ordered" | head -n 20
+    grep -v "$(printf '\texactly 0')" "$folder/ordered" | head -n 180
+} | cut -f2- > "$folder/drawn"
+
+# What `check` says of a certificate of these words where the claim is this one.
+wanted() {
+    case $2 in
+    're zero') echo yes;;
+    're upper '*) echo "accepted: solvable in $(echo "$1" | sed 's/^exactly //; s/.*at most //; s/ .*//') rounds";;
+    're lower '* | 'explore longest '*)
+        case $1 in
+        exactly*) echo "accepted: not solvable in $(($(echo "$1" | sed 's/^exactly //; s/ .*//') - 1)) or fewer rounds";;
+        *) echo "accepted: not solvable in $(echo "$1" | sed 's/^more than //; s/[ ,].*//') or fewer rounds";;
+        esac;;
+    'explore cover '*) echo 'no: no solution on this graph, so not solvable in any number of rounds';;
+    *) echo 'accepted: not solvable in any number of rounds';;
+    esac
+}
+
+# What is said of the answer of these words.
+judged() {
+    program=$re
+    case $2 in explore*) program=$explore;; esac
+    words=${2#* }
+    case $2 in
+    're zero') "$program" zero < "$1" | sed 's/^yes: .*/yes/';;
+    # shellcheck disable=SC2086
+    'explore cover '*) "$program" $words < "$1" | "$explore" solve;;
+    # shellcheck disable=SC2086
+    *) "$program" $words < "$1" | "$re" check;;
+    esac
+}
+
+count=0 commands=0 failed=0
+while IFS="$(printf '\t')" read -r number problem claim by; do
+    "$here/settle.sh" --text "$problem" > "$folder/problem"
+    count=$((count + 1))
+    echo "$by" | sed 's/; /\n/g' > "$folder/by"
+    while IFS= read -r words; do
+        commands=$((commands + 1))
+        said=$(judged "$folder/problem" "$words") || true
+        if [ "$said" != "$(wanted "$claim" "$words")" ]; then
+            failed=$((failed + 1))
+            echo "problem $number ($problem): $claim, by $words: $said"
+        fi
+    done < "$folder/by"
+done < "$folder/drawn"
+echo "$count lines, $commands commands, $failed failed"
+[ "$failed" = 0 ]

@@ -1,0 +1,138 @@
+#!/usr/bin/env python3
+"""The summary of tables that settle.sh made, in Markdown.
+
+    examples/catalogue/summary.py [TABLE..]
+
+A table is named by the number of labels and the degrees of active and passive nodes, as 3-3-2.tsv, or 3-3-2.tsv.xz where it is
+compressed. Without a TABLE: those of this folder.
+"""
+import collections
+import lzma
+import pathlib
+import sys
+
+HERE = pathlib.Path(__file__).parent
+NEVER = "not solvable in any number of rounds"
+TRIED = "`rounds 8`, `fixed 4 0`, `closure`, `cover 4`, `cycle 3 1 100`, `longest 8 12`, `upper 2 1`"
+HEAD = """# All small problems, up to the names of their labels
+
+`problems.py` writes the problems of some labels in which each label stands on both sides, each once, with its number; `settle.sh` runs
+`explore settle` on them, over many processors or machines; `check.sh` draws 200 lines and has `re check` judge what they name; `summary.py`
+wrote this page from the tables:
+
+    examples/catalogue/problems.py 3 3 2 > LIST
+    examples/catalogue/settle.sh EXPLORE LIST examples/catalogue/3-3-2.tsv
+    examples/catalogue/check.sh RE EXPLORE
+    examples/catalogue/summary.py > examples/catalogue/README.md
+
+A table holds a line for each problem: its number, its active and passive configurations, the first line of the answer (in hops, and in rounds of
+the graph where passive nodes are edges), and the words that show it. The answers are for port-numbering algorithms on trees. What a fixed point
+excludes (`fixed`, `closure`) no constant number of rounds solves with unique identifiers either, where passive nodes are edges
+(`re_given_bounds::unique_identifiers_law`). What a graph alone excludes (`cover`) may be solvable with identifiers, as a maximal independent set is.
+What is solved in k hops may use the orientation of each edge that its ports give; from unique identifiers one comes in a round.
+"""
+
+
+def lines_of(path):
+    with lzma.open(path, "rt") if path.suffix == ".xz" else open(path) as table:
+        return [line.rstrip("\n").split("\t") for line in table]
+
+
+def title_of(path):
+    labels, active, passive = path.name.split(".")[0].split("-")
+    return int(labels), int(active), int(passive)
+
+
+def kind_of(claim):
+    """The answer without rounds of the graph, and without the number of what is open."""
+    claim = claim.split(" (")[0]
+    return claim if claim == NEVER or claim.startswith("exactly") else "open"
+
+
+def by_kind(lines):
+    """How many problems have each answer, and by which words."""
+    counts = collections.Counter()
+    for _, _, claim, by in lines:
+        kind = kind_of(claim)
+        counts[(kind, f"`{by}`" if kind == NEVER else "")] += 1
+    order = {"open": 2, NEVER: 1}
+    return sorted(counts.items(), key=lambda it: (order.get(it[0][0], 0), it[0][0] if it[0][0] != NEVER else "", -it[1]))
+
+
+def counts_part(path, lines):
+    labels, active, passive = title_of(path)
+    yield f"## {labels} labels, active nodes of degree {active}, passive nodes of degree {passive}: {len(lines)} problems"
+    yield ""
+    yield "| Answer | By | Problems |"
+    yield "|---|---|---|"
+    for (kind, by), count in by_kind(lines):
+        yield f"| {kind} | {by} | {count} |"
+    yield ""
+
+
+def is_constant(problem):
+    """Whether one side allows everything, or one label alone may stand everywhere."""
+    active, passive = (side.split() for side in problem.split(" / "))
+    degrees = len(active[0]), len(passive[0])
+    whole = len(active) == degrees[0] + 1 or len(passive) == degrees[1] + 1
+    return whole or any(label * degrees[0] in active and label * degrees[1] in passive for label in "AB")
+
+
+def binary_part(tables):
+    yield "## Two labels, beside the published classification"
+    yield ""
+    yield "Balliu, Brandt, Efron, Hirvonen, Maus, Olivetti and Suomela (Classification of distributed binary labeling problems, DISC 2020) show"
+    yield "that each problem of 2 labels on trees has, for deterministic algorithms with unique identifiers, one of the complexities O(1), Θ(log n)"
+    yield "and Θ(n), or is unsolvable; none lies between O(1) and Θ(log n). Here each is solvable in exactly 0 or 1 hops, or in no number of rounds,"
+    yield "and none is open. In all four tables the first are those where one side allows everything, or one label alone may stand everywhere: such"
+    yield "a problem is O(1) there too. The others aren't solvable in any constant number of rounds with unique identifiers either where passive"
+    yield "nodes have degree 2 and a fixed point shows it, as it does for each of them (`re_given_bounds::unique_identifiers_law`); that they need"
+    yield "Ω(log n) rounds then is that paper's theorem."
+    yield ""
+    yield "| Degrees | Problems | exactly 0 | exactly 1 | in no number of rounds | open | one side whole, or one label alone |"
+    yield "|---|---|---|---|---|---|---|"
+    for path, lines in tables:
+        _, active, passive = title_of(path)
+        kinds = collections.Counter(kind_of(claim) for _, _, claim, _ in lines)
+        constant = {number for number, problem, _, _ in lines if is_constant(problem)}
+        solved = {number for number, _, claim, _ in lines if kind_of(claim).startswith("exactly")}
+        same = "the same problems as those solved" if constant == solved else f"differs: {sorted(constant ^ solved, key=int)}"
+        yield f"| {active}, {passive} | {len(lines)} | {kinds['exactly 0']} | {kinds['exactly 1']} | {kinds[NEVER]} | {kinds['open']} | {len(constant)}: {same} |"
+    yield ""
+
+
+def open_part(tables):
+    parts = [(path, [line for line in lines if kind_of(line[2]) == "open"]) for path, lines in tables]
+    if not any(rest for _, rest in parts):
+        return
+    yield "## Open problems"
+    yield ""
+    yield f"With the best bounds that were found, in hops. On each of them was tried: {TRIED}."
+    yield ""
+    for path, rest in parts:
+        if rest:
+            labels, active, passive = title_of(path)
+            yield f"{labels} labels, degrees {active} and {passive}: {len(rest)}"
+            yield ""
+            yield "| Number | Problem | Known | By |"
+            yield "|---|---|---|---|"
+            for number, problem, claim, by in rest:
+                yield f"| {number} | {problem} | {claim.split(' (')[0]} | `{by}` |"
+            yield ""
+
+
+def main(words):
+    paths = [pathlib.Path(word) for word in words] or sorted([*HERE.glob("*.tsv"), *HERE.glob("*.tsv.xz")])
+    tables = sorted(((path, lines_of(path)) for path in paths), key=lambda it: title_of(it[0]))
+    lines = [HEAD]
+    for path, rows in tables:
+        lines += counts_part(path, rows)
+    lines += binary_part([it for it in tables if title_of(it[0])[0] == 2])
+    lines += open_part(tables)
+    print("\n".join(lines).rstrip("\n"))
+
+
+if __name__ == "__main__":
+    if sys.argv[1:2] == ["--help"]:
+        sys.exit(__doc__)
+    main(sys.argv[1:])

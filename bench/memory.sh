@@ -42,6 +42,7 @@ void *realloc(void *old, size_t size) { return refuses() ? 0 : __libc_realloc(ol
 END
 printf '== from\n[IO]^3\n\nI O\n== to\nA B\n\n[AB]^3\n== map\nA [I]\nB [O]\n' > "$folder/restricted.txt"
 cat problems/maximal-matching-4.txt family/first.txt > "$folder/bridge.txt"
+printf 'A B\nC D\n\nA B\nC D\n' > "$folder/twice.txt"
 "${CC:-cc}" -O2 -shared -fPIC -o "$folder/refuse.so" "$folder/refuse.c"
 
 # Runs the words on the input with request number $1 refused; the text goes to the file `found`, the status to `status`.
@@ -133,6 +134,7 @@ sinkless.txt cycle 3 0 100
 gallery/two-colouring-3.txt closure
 bridge.txt bridge
 family/itself.txt bridge
+twice.txt reduce
 sinkless.txt describe
 gallery/maximal-matching-4-lower.txt describe
 colouring-refused.txt describe

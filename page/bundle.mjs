@@ -1,16 +1,18 @@
 // Puts the sources, the programs and the examples into one file.
 //
-//     node bundle.mjs PAGE NAME=PROGRAM.wasm=SOURCE..
+//     node bundle.mjs PAGE [NAME=PROGRAM.wasm=SOURCE..]
 //
-// SOURCE says what the program was built from: it is shown under Help.
+// SOURCE says what the program was built from: it is shown under Help. Without a program: those that PAGE holds, as it says of them.
+import {execFileSync} from 'child_process';
 import {createHash} from 'crypto';
 import {existsSync, readdirSync, readFileSync, writeFileSync} from 'fs';
-import {dirname, join} from 'path';
-import {fileURLToPath} from 'url';
+import {join} from 'path';
+import {Script} from 'vm';
 import {deflateRawSync} from 'zlib';
+import {pageFolder, programsIn, sourceIn, unpacked} from './held.mjs';
 
-const here = dirname(fileURLToPath(import.meta.url)), examples = join(here, '../examples');
-const source = name => readFileSync(join(here, 'src', name), 'utf8');
+const examples = join(pageFolder, '../examples');
+const source = name => readFileSync(join(pageFolder, 'src', name), 'utf8');
 
 // The modules that stand below one, each behind those that it imports.
 function modulesBelow(root) {
@@ -25,19 +27,13 @@ function modulesBelow(root) {
     return order;
 }
 
-// One script, without import and export lines. A script has one room for names, so they have to differ.
+// One script, without import and export lines. A script has one room for names, so they have to differ: it is read once to see that.
 function scriptOf(root) {
-    const owners = new Map();
-    return modulesBelow(root)
-        .map(name => {
-            for (const [, found] of source(name).matchAll(/^(?:export )?(?:async )?(?:const|let|function\*?|class) ([A-Za-z$_][\w$]*)/gm)) {
-                if (owners.has(found)) throw new Error(`${found} stands in ${owners.get(found)} and in ${name}`);
-                owners.set(found, name);
-            }
-            return `// ---- ${name}\n` +
-                source(name).replace(/^import [^;]*;\n/gm, '').replace(/^export (?=const|let|function|async|class)/gm, '');
-        })
-        .join('\n');
+    const parts = modulesBelow(root).map(name => `// ---- ${name}\n` +
+            source(name).replace(/^import [^;]*;\n/gm, '').replace(/^export (?=const|let|function|async|class)/gm, ''));
+    const script = parts.join('\n');
+    new Script(`'use strict'; async () => {{${script}\n}}`, {filename: `the modules below ${root}, as one script`});
+    return script;
 }
 
 const textsIn = folder => Object.fromEntries(
@@ -47,14 +43,15 @@ const textsIn = folder => Object.fromEntries(
         .map(name => [name.replace('.txt', '').replaceAll('-', ' '), readFileSync(join(examples, folder, name), 'utf8')]));
 const examplesHeld = () => ({
     'Problems': {'independent set': readFileSync(join(examples, 'independent.txt'), 'utf8'), ...textsIn('problems')},
-    'Known bounds (certificates)': textsIn('gallery'),
+    'Known bounds (certificates and graphs)': textsIn('gallery'),
 });
 
 // The tables of the catalogue, packed, where they stand there: {'3-3-2': packed}, by the numbers of labels and degrees.
 function catalogueHeld() {
     const folder = join(examples, 'catalogue'),
-          names = existsSync(folder) ? readdirSync(folder).filter(name => /^\d-\d-\d\.(tsv|txt)$/.test(name)).sort() : [];
-    return Object.fromEntries(names.map(name => [name.slice(0, 5), packed(readFileSync(join(folder, name)))]));
+          bytesOf = file => file.endsWith('.xz') ? execFileSync('xz', ['-dc', file], {maxBuffer: 1 << 28}) : readFileSync(file);
+    const names = existsSync(folder) ? readdirSync(folder).filter(name => /^\d-\d-\d\.tsv(\.xz)?$/.test(name)).sort() : [];
+    return Object.fromEntries(names.map(name => [name.slice(0, 5), packed(bytesOf(join(folder, name)))]));
 }
 
 const packed = bytes => deflateRawSync(bytes, {level: 9}).toString('base64');
@@ -64,10 +61,17 @@ const json = value => JSON.stringify(value).replaceAll('<', '\\u003c');
 const safe = text => text.replace(/<(?=\/script|!--)/gi, '\\x3c');
 
 const [page, ...given] = process.argv.slice(2);
-const programs = given.map(part => {
-    const [name, file, built] = part.split('=');
-    return {name, wasm: readFileSync(file), built};
-});
+
+function programsGiven() {
+    if (given.length)
+        return given.map(part => {
+            const [name, file, built] = part.split('=');
+            return {name, wasm: readFileSync(file), built};
+        });
+    const held = readFileSync(page, 'utf8');
+    return Object.entries(programsIn(held)).map(([name, wasm]) => ({name, wasm: unpacked(wasm), built: sourceIn(held, name)}));
+}
+const programs = programsGiven();
 const main = safe(scriptOf('main.js')), style = source('style.css');
 const parts = {
     'STYLE': style,

@@ -8,6 +8,7 @@
 # drawn and how many commands were run. Without a TABLE: those of this folder.
 set -eu
 here=$(dirname "$0") re=$(realpath "$1") explore=$(realpath "$2")
+. "$here/common.sh"
 shift 2
 [ $# -gt 0 ] || set -- "$here"/*.tsv "$here"/*.tsv.xz
 folder=$(mktemp -d)
@@ -38,21 +39,16 @@ wanted() {
 
 # What is said of the answer of these words.
 judged() {
-    program=$re
-    case $2 in explore*) program=$explore;; esac
-    words=${2#* }
     case $2 in
-    're zero') "$program" zero < "$1" | sed 's/^yes: .*/yes/';;
-    # shellcheck disable=SC2086
-    'explore cover '*) "$program" $words < "$1" | "$explore" solve;;
-    # shellcheck disable=SC2086
-    *) "$program" $words < "$1" | "$re" check;;
+    're zero') run_words "$2" < "$1" | sed 's/^yes: .*/yes/';;
+    'explore cover '*) run_words "$2" < "$1" | "$explore" solve;;
+    *) run_words "$2" < "$1" | "$re" check;;
     esac
 }
 
 count=0 commands=0 failed=0
 while IFS="$(printf '\t')" read -r number problem claim by; do
-    "$here/settle.sh" --text "$problem" > "$folder/problem"
+    problem_text "$problem" > "$folder/problem"
     count=$((count + 1))
     echo "$by" | sed 's/; /\n/g' > "$folder/by"
     while IFS= read -r words; do

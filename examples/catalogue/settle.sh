@@ -8,44 +8,30 @@
 #
 # The list is cut into parts of 50 problems, in the folder TABLE.parts. A run that was broken off goes on with the parts that are left,
 # by the log of jobs in there. With `--sshloginfile FILE` among the options other machines take parts too (the manual of GNU parallel says
-# what FILE holds); EXPLORE and this script have the same absolute paths there.
+# what FILE holds); EXPLORE and this folder have the same absolute paths there.
 set -eu
 tab=$(printf '\t')
-
-# A problem of the list as the programs read it.
-text() { printf '%s\n' "$1" | sed 's| / |\n\n|; s| |\n|g' | sed 's/./& /g; s/ $//'; }
+. "$(dirname "$0")/common.sh"
 
 # The line of the table for a problem.
 line() {
     status=0
-    answer=$(text "$3" | "$1" settle) || status=$?
-    [ "$status" -le 1 ] || { echo "settle.sh: problem $2: exit code $status: $answer" >&2; exit 1; }
-    printf '%s\n' "$answer" | awk -v number="$2" -v problem="$3" '
+    answer=$(problem_text "$2" | "$explore" settle) || status=$?
+    [ "$status" -le 1 ] || { echo "settle.sh: problem $1: exit code $status: $answer" >&2; exit 1; }
+    printf '%s\n' "$answer" | awk -v number="$1" -v problem="$2" '
         NR == 1 { claim = $0; next }
         { sub(/^by: /, ""); by = by (by == "" ? "" : "; ") $0 }
         END { print number "\t" problem "\t" claim "\t" by }'
 }
 
-case ${1:-} in
---part)
-    while IFS=$tab read -r number problem; do line "$2" "$number" "$problem"; done < "$3" > "$3.new"
-    mv "$3.new" "$3.table"
-    exit;;
---text)
-    text "$2"
-    exit;;
-esac
+if [ "${1:-}" = --part ]; then
+    part=$2 explore=$3
+    while IFS=$tab read -r number problem; do line "$number" "$problem"; done < "$part" > "$part.new"
+    mv "$part.new" "$part.table"
+    exit
+fi
 
 [ $# -ge 3 ] || { sed -n '2,/^set/s/^# \{0,1\}//p' "$0" >&2; exit 2; }
-explore=$(realpath "$1") list=$2 table=$(realpath "$3") script=$(realpath "$0")
+explore=$(realpath "$1") list=$2 table=$(realpath "$3")
 shift 3
-parts=$table.parts
-if [ -d "$parts" ]; then
-    cat "$parts"/part.*[0-9] | cmp -s - "$list" || { echo "settle.sh: $parts is of another list" >&2; exit 1; }
-else
-    mkdir "$parts"
-    split -l 50 -d -a 6 "$list" "$parts/part."
-fi
-case " $* " in *' --sshlogin'* | *' -S'* | *' --slf'*) set -- --transferfile {} --return {}.table --cleanup "$@";; esac
-parallel --joblog "$parts/jobs" --resume-failed "$@" "$script" --part "$explore" {} ::: "$parts"/part.*[0-9]
-cat "$parts"/part.*.table > "$table"
+over_parts "$(realpath "$0")" "$explore" "$list" "$table" "$@"

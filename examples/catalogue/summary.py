@@ -9,19 +9,22 @@ compressed. Without a TABLE: those of this folder.
 import collections
 import lzma
 import pathlib
+import re
 import sys
 
 HERE = pathlib.Path(__file__).parent
 NEVER = "not solvable in any number of rounds"
-TRIED = "`rounds 8`, `fixed 4 0`, `closure`, `cover 4`, `cycle 3 1 100`, `longest 8 12`, `upper 2 1`"
+TRIED = "`rounds 8`, `fixed 4 0`, `closure 2`, `cover 4`, `merge X Y | explore closure`, `cycle 3 1 100`, `longest 8 12`, `upper 2 1`"
+INPUTS = ("`both`", "`sides`", "`edges`", "`colouring`, 4")
 HEAD = """# All small problems, up to the names of their labels
 
 `problems.py` writes the problems of some labels in which each label stands on both sides, each once, with its number; `settle.sh` runs
-`explore settle` on them, over many processors or machines; `check.sh` draws 200 lines and has `re check` judge what they name; `summary.py`
-wrote this page from the tables:
+`explore settle` on them, over many processors or machines; `given.sh` asks what is known given input problems; `check.sh` draws 200 lines and
+has `re check` judge what they name; `summary.py` wrote this page from the tables:
 
     examples/catalogue/problems.py 3 3 2 > LIST
     examples/catalogue/settle.sh EXPLORE LIST examples/catalogue/3-3-2.tsv
+    examples/catalogue/given.sh RE EXPLORE examples/catalogue/3-3-2.tsv examples/catalogue/3-3-2.given
     examples/catalogue/check.sh RE EXPLORE
     examples/catalogue/summary.py > examples/catalogue/README.md
 
@@ -30,6 +33,10 @@ the graph where passive nodes are edges), and the words that show it. The answer
 excludes (`fixed`, `closure`) no constant number of rounds solves with unique identifiers either, where passive nodes are edges
 (`re_given_bounds::unique_identifiers_law`). What a graph alone excludes (`cover`) may be solvable with identifiers, as a maximal independent set is.
 What is solved in k hops may use the orientation of each edge that its ports give; from unique identifiers one comes in a round.
+
+Given an input problem (`both`, an orientation by which edges lead into each active node and out of it; two `sides`; a colouring of the `edges`; a
+proper `colouring` with 4 colours), `explore rounds` and `explore given` answer, up to the hops that are enough alone, else up to 4. In degree 3
+nodes with unique identifiers find 4 colours in order log* n rounds (Linial; not proved here): what constantly many hops solve given them, that many more do.
 """
 
 
@@ -49,12 +56,17 @@ def kind_of(claim):
     return claim if claim == NEVER or claim.startswith("exactly") else "open"
 
 
+def words_of(by):
+    """The words that show an answer, without the names of labels."""
+    return re.sub(r"merge \S+ \S+", "merge X Y", by).replace("|", "\\|")
+
+
 def by_kind(lines):
     """How many problems have each answer, and by which words."""
     counts = collections.Counter()
     for _, _, claim, by in lines:
         kind = kind_of(claim)
-        counts[(kind, f"`{by}`" if kind == NEVER else "")] += 1
+        counts[(kind, f"`{words_of(by)}`" if kind == NEVER else "")] += 1
     order = {"open": 2, NEVER: 1}
     return sorted(counts.items(), key=lambda it: (order.get(it[0][0], 0), it[0][0] if it[0][0] != NEVER else "", -it[1]))
 
@@ -76,6 +88,33 @@ def is_constant(problem):
     degrees = len(active[0]), len(passive[0])
     whole = len(active) == degrees[0] + 1 or len(passive) == degrees[1] + 1
     return whole or any(label * degrees[0] in active and label * degrees[1] in passive for label in "AB")
+
+
+def known_of(answer):
+    """What is known given an input problem, in the words of the page; what stays open is one kind."""
+    return "open" if answer.startswith(("more", "?")) else answer.removeprefix("exactly ")
+
+
+def given_part(path, lines):
+    """What is known of the problems of a table given input problems, by what is known of them alone, where given.sh made a table of that."""
+    table = next((it for it in (path.with_name(f"{path.name.split('.')[0]}.given{end}") for end in ("", ".xz")) if it.exists()), None)
+    if not table:
+        return
+    counts = collections.defaultdict(lambda: [collections.Counter() for _ in INPUTS])
+    for (number, _, claim, _), (same, *answers) in zip(lines, lines_of(table), strict=True):
+        assert number == same
+        for counter, answer in zip(counts[kind_of(claim)], answers):
+            counter[known_of(answer)] += 1
+    yield "Of these, given input problems (hops that are enough, or `never`, and how many problems):"
+    yield ""
+    yield f"| Alone | {' | '.join(INPUTS)} |"
+    yield f"|---|{'---|' * len(INPUTS)}"
+    order = lambda it: (it.startswith("exactly"), it == NEVER, it)
+    for kind in sorted(counts, key=order, reverse=True):
+        if kind != "exactly 0":
+            cells = [", ".join(f"{it}: {counter[it]}" for it in sorted(counter)) for counter in counts[kind]]
+            yield f"| {kind} | {' | '.join(cells)} |"
+    yield ""
 
 
 def binary_part(tables):
@@ -127,6 +166,7 @@ def main(words):
     lines = [HEAD]
     for path, rows in tables:
         lines += counts_part(path, rows)
+        lines += given_part(path, rows)
     lines += binary_part([it for it in tables if title_of(it[0])[0] == 2])
     lines += open_part(tables)
     print("\n".join(lines).rstrip("\n"))

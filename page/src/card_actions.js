@@ -19,6 +19,9 @@ export function cardActions(bench, card, view) {
             act('Merge equal', () => changes.mergeEqual(card, view),
                 'labels that are equally strong on both sides become one: as hard as before'),
             act('Trim', () => changes.trim(card, view), 'leave out labels that another one covers: as hard as before'),
+            words.has('reduce') &&
+                act('Reduce', () => changes.reduce(card, view),
+                    'leave only the labels that a map of the problem into itself needs: as hard as before'),
             act('Rename…', () => changes.rename(card, view), 'give the labels other names', 'r'),
             act('Edit…', () => changes.edit(card, view), 'relax or restrict: edit the text and give the map', 'e'),
             element('div.group.right', {}, act('Copy', event => bench.copyProblem(card, event.currentTarget), 'copy the problem', 'c'),

@@ -1,6 +1,7 @@
 // The catalogue of all small problems: tables of lines `number, problem, answer, what shows it`, with tabs between. A problem stands in
 // it as `AAB ABB / AB BB`, under the names by which its text comes first.
 import {configsOf, describe, SIDES} from './problems.js';
+import {byName} from './texts.js';
 
 const NAMES = 'ABCDE';
 
@@ -16,8 +17,9 @@ function* orders(list) {
         for (const rest of orders([...list.slice(0, i), ...list.slice(i + 1)])) yield [first, ...rest];
 }
 
-// The line of a problem in the catalogue, as far as it is that of the problem alone; null where it has too many labels.
-export function catalogueText(text) {
+// A problem as the catalogue writes it: {line, names}, the least line of all, and the labels in the order in which they are A, B, ..
+// there: their own order, if that gives the least line. Null where it has too many labels.
+export function namedForCatalogue(text) {
     const {labels} = describe(text), sides = SIDES.map(side => configsOf(text, side));
     if (labels.length > NAMES.length) return null;
     let least = null;
@@ -25,22 +27,25 @@ export function catalogueText(text) {
         const names = new Map(order.map((label, i) => [label, NAMES[i]]));
         const line =
             sides.map(side => side.map(config => config.map(label => names.get(label)).sort().join('')).sort().join(' ')).join(' / ');
-        if (least === null || line < least) least = line;
+        if (least === null || line < least.line) least = {line, names: [...names]};
     }
     return least;
 }
 
-// {number, answer, shownBy, more: [[column, value]]} of a problem, out of its table; null where it isn't in it.
+// {number, problem, answer, shownBy, count, names, isInOrder} of a problem, out of its table of `count` lines; null where it isn't in it.
+// `names` are [[label, its name there]], and `isInOrder` says whether the labels stand there in the same order.
 export function catalogueLine(table, text) {
-    const found = catalogueText(text), at = found === null ? -1 : table.indexOf(`\t${found}\t`);
+    const found = namedForCatalogue(text), at = found === null ? -1 : table.indexOf(`\t${found.line}\t`);
     if (at < 0) return null;
-    const start = table.lastIndexOf('\n', at) + 1, end = table.indexOf('\n', at),
-          cells = table.slice(start, end < 0 ? table.length : end).split('\t');
-    const columns = table.startsWith('#') ? table.slice(1, table.indexOf('\n')).split('\t').slice(4) : [];
+    const start = table.lastIndexOf('\n', at) + 1, [line] = table.slice(start).split('\n', 1);
+    const [number, problem, answer, by] = line.split('\t'), names = [...found.names].sort(([one], [other]) => byName(one, other));
     return {
-        number: cells[0],
-        answer: cells[2],
-        shownBy: (cells[3] || '').split(';').map(by => by.trim()).filter(Boolean),
-        more: columns.map((column, i) => [column, cells[4 + i]]).filter(([, value]) => value)
+        number,
+        problem,
+        answer,
+        shownBy: by.split('; '),
+        count: table.trimEnd().split('\n').length,
+        names,
+        isInOrder: String(names) === String(found.names)
     };
 }

@@ -1,5 +1,5 @@
 // For a card whose problem is in the catalogue its line, with buttons for what shows it. The tables are unpacked when one is asked for.
-import {$, element, hint} from './dom.js';
+import {$, element, hint, plural} from './dom.js';
 import {tableName} from './catalogue.js';
 
 function unpackedTable(packed) {
@@ -18,10 +18,13 @@ export class Catalogue {
 
     // What a card shows, or null.
     async node(card, view) {
-        const name = tableName(view.facts.problem), table = await this.table(name), {engine, settling} = this.workbench;
+        const {problem} = view.facts, table = await this.table(tableName(problem)), {engine, settling} = this.workbench;
         const found = table && await engine.work('catalogueLine', table, card.problem);
         if (!found) return null;
-        return element('div.group', {}, hint(`Number ${found.number} of the catalogue ${name}:`), element('span.line', {}, found.answer),
-            settling.buttons(card, view, found.shownBy), found.more.map(([column, value]) => hint(`given ${column}: ${value}`)));
+        const {number, answer, shownBy, count} = found, {labels, active, passive} = problem,
+                                        title = `of the ${plural(count, 'problem')} of ${plural(labels.length, 'label')} in degrees ${
+                                            active.degree} and ${passive.degree} that stand there; under these names: ${found.problem}`;
+        return element('div.group.catalogue', {}, element('span.hint', {title}, `The catalogue's line, number ${number}:`),
+            element('span.line', {}, answer), settling.buttons(card, view, shownBy, found));
     }
 }

@@ -9,6 +9,8 @@ import {openRenameDialog} from './rename_dialog.js';
 
 // The program reads no more bytes than these.
 const MOST_BYTES = 16777216;
+// So many images are tried when a map is looked for.
+const MOST_TRIES = 200000;
 
 // The restriction to some labels.
 const kept = labels => Object.fromEntries(labels.map(label => [label, [label]]));
@@ -41,6 +43,10 @@ export class Changes {
     mergeEqual(card, view) {
         return this.once(view, 'merge equal',
             () => this.simplify(card, view, 'merge', 'equal labels merged', 'no two labels are equally strong on both sides'));
+    }
+    reduce(card, view) {
+        return this.once(
+            view, 'reduce', () => this.simplify(card, view, 'reduce', 'reduced', 'no map of the problem into itself leaves labels out'));
     }
     trim(card, view) { return this.once(view, 'trim', () => this.simplify(card, view, 'trim', 'trimmed', 'no label covers another one')); }
 
@@ -144,48 +150,70 @@ export class Changes {
         await workbench.append(card, {kind: 'change', title: `without ${gone.join(', ')}`, problem: text, restrict: kept(left)});
     }
 
-    // `re merge` and `re trim` leave the problem as hard as it is; the labels that go have a covering one that stays.
+    // `re merge`, `re trim` and `explore reduce` leave the problem as hard as it is.
     async simplify(card, view, word, title, nothing) {
-        const {workbench} = this, answer = await workbench.ask(view, [word], card.problem);
+        const {workbench} = this, program = word === 'reduce' ? 'explore' : 're';
+        const answer = await workbench.noted(view, word, workbench.engine.start(program, [word], card.problem, {title: word}));
         if (!answer) return;
         if (answer.status !== 0) {
             view.complain(answer.text.trim());
             return;
         }
         if (answer.text === card.problem) {
-            view.note(hint(`re ${word}: ${nothing}.`));
+            view.note(hint(`${program} ${word}: ${nothing}.`));
             return;
         }
-        await Promise.all(SIDES.map(side => view.diagrams[side].learn()));
         const {labels} = view.facts.problem, left = (await workbench.facts.learn(answer.text)).problem.labels;
-        const covers = (label, by) => SIDES.every(side => view.isStronger(side, label, by));
-        const pairs = labels.map(label => [label, left.includes(label) ? label : left.find(by => covers(label, by))]);
-        const gone = pairs.filter(([from, to]) => from !== to).map(pair => pair.join('→')).join(' ');
+        const pairs = await this.mapOnto(card, view, answer.text, left, word === 'reduce');
+        const gone =
+            pairs ? pairs.filter(([from, to]) => from !== to).map(pair => pair.join('→')) : labels.filter(label => !left.includes(label));
         let relax;
-        if (pairs.every(([, to]) => to)) {
+        if (pairs) {
             const judged = await workbench.ask(view, ['relax'], mapInput(card.problem, answer.text, pairLines(pairs)));
             if (judged?.text.trim() === 'yes') relax = Object.fromEntries(pairs);
         }
-        await workbench.append(card, {kind: 'change', title: `${title} (${gone})`, problem: answer.text, relax, restrict: kept(left)});
+        await workbench.append(
+            card, {kind: 'change', title: `${title} (${gone.join(' ')})`, problem: answer.text, relax, restrict: kept(left)});
     }
 
-    // The same problem under other names, after `re rename` said yes.
+    // Where the labels go in what is left of a problem, each that stays to itself: to a covering label, or as a map that is looked for
+    // sends them. Null where none is found.
+    async mapOnto(card, view, text, left, isByMap) {
+        const {labels} = view.facts.problem;
+        if (isByMap) {
+            const pairs = await this.workbench.work(view, 'a map to it', 'findRelaxation', card.problem, text, MOST_TRIES);
+            // The labels that stay may be moved among each other: the map is followed by the way back.
+            const image = new Map(pairs || []), back = new Map(left.map(label => [image.get(label), label]));
+            return pairs && back.size === left.length ? labels.map(label => [label, back.get(image.get(label))]) : null;
+        }
+        await Promise.all(SIDES.map(side => view.diagrams[side].learn()));
+        const covers = (label, by) => SIDES.every(side => view.isStronger(side, label, by));
+        const pairs = labels.map(label => [label, left.includes(label) ? label : left.find(by => covers(label, by))]);
+        return pairs.every(([, to]) => to) ? pairs : null;
+    }
+
     async renamed(card, view, pairs) {
+        const made = await this.underNames(card, view, pairs);
+        if (made) await this.workbench.append(card, made);
+    }
+
+    // The card of the same problem under other names, after `re rename` said yes; else null.
+    async underNames(card, view, pairs) {
         const {workbench} = this, text = await this.canonical(view, await workbench.work(view, 'rename', 'mapped', card.problem, pairs));
-        if (!text) return;
+        if (!text) return null;
         const answer = await workbench.ask(view, ['rename'], mapInput(card.problem, text, pairLines(pairs)));
-        if (!answer) return;
+        if (!answer) return null;
         if (answer.text.trim() !== 'yes') {
             view.complain(`re rename: ${answer.text.trim()}`);
-            return;
+            return null;
         }
         const moved = pairs.filter(([from, to]) => from !== to).map(pair => pair.join('→'));
-        await workbench.append(card, {
+        return {
             kind: 'change',
             title: `renamed ${moved.slice(0, 5).join(' ')}${moved.length > 5 ? ' …' : ''}`,
             problem: text,
             relax: Object.fromEntries(pairs),
             restrict: Object.fromEntries(pairs.map(([from, to]) => [to, [from]]))
-        });
+        };
     }
 }

@@ -5,7 +5,7 @@ import {openDialog} from './dialogs.js';
 import {Stopped} from './engine.js';
 import {givenInput, INPUT_KINDS, inputCommand, readFit, readGiven} from './inputs.js';
 import {exchanged} from './problems.js';
-import {stagesOf} from './chains.js';
+import {stagesOf, titleOf} from './chains.js';
 
 const FIT_LIMIT = 20000;
 
@@ -119,8 +119,9 @@ export class Given {
         const {first, workbench: {cards, engine, sessions}} = this, {given} = cards.get(first.id);
         const {status, text} = await engine.ask('explore', ['product'], givenInput(first.problem, given.problem), {title: 'product'})
                                    .catch(error => ({status: 1, text: error.message}));
+        const {says} = INPUT_KINDS.find(({kind}) => kind === given.kind) || {says: 'a problem'};
         if (status !== 0) say(`explore product: ${text.trim().split('\n', 1)[0]}`, true);
-        else await sessions.openText(text, `${first.title || 'a problem'} and ${given.kind}`);
+        else await sessions.openText(text, `${titleOf(first)}, and ${says.replace('…', '')}`);
     }
 
     // ---- What the program says.

@@ -78,7 +78,7 @@ function startExamples(bench, setText) {
         const [group, name] = list.value.split('\n'), text = examples[group]?.[name];
         list.value = '';
         if (text === undefined) return;
-        if (text.startsWith('==')) await openAsCards(text, name);
+        if (/^==/m.test(text)) await openAsCards(text, name);
         else await setText(text, name);
     });
     // The buttons of the empty page.

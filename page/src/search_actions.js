@@ -1,5 +1,6 @@
 // The searches of a card: each has a button with its name and behind it its own numbers, kept from card to card.
 import {button, element} from './dom.js';
+import {kindsOf} from './chains.js';
 
 const STEPS = {
     name: 'k',
@@ -10,9 +11,16 @@ const STEPS = {
           name: 'm',
           most: 8,
           label: 'M, the most merges in each step'
+      },
+      SIZES = {
+          name: 'l',
+          least: 2,
+          most: 128,
+          label: 'L, the most labels of a problem'
       };
 
-// `word` is that of `explore` which has to be there, `more` the title of the button that asks again and again.
+// `word` is that of `explore` which has to be there, `kind` that of the chains that it goes on from, and `more` the title of the button
+// that asks again and again.
 const SEARCHES = [
     {
         name: 'lower',
@@ -34,16 +42,23 @@ const SEARCHES = [
     {
         name: 'longest',
         word: 'longest',
+        kind: 'lower',
         title: 'a long lower bound, by a heuristic: up to K more steps, to problems of at most L labels',
         more: 'asked again with twice as many steps or labels, until you stop; Stop keeps the best',
-        numbers: [
-            {...STEPS, start: 8, label: 'K, the most further steps'},
-            {name: 'l', least: 2, most: 128, start: 10, label: 'L, the most labels of a problem'}
-        ]
+        numbers: [{...STEPS, start: 8, label: 'K, the most further steps'}, {...SIZES, start: 10}]
+    },
+    {
+        name: 'shortest',
+        word: 'shortest',
+        kind: 'upper',
+        title: 'a short upper bound, by a heuristic: at most K more steps, to problems of at most L labels',
+        more: 'asked again with twice as many steps and labels, until one is found or you stop',
+        numbers: [{...STEPS, start: 8, label: 'K, the most further steps'}, {...SIZES, start: 10}]
     },
     {
         name: 'cycle',
         word: 'cycle',
+        kind: 'lower',
         title: 'the fewest further steps that come back, up to K, at most M merges in each',
         more: 'asked again with more steps, merges or problems looked at, until one is found or you stop',
         numbers: [{...STEPS, start: 4, label: 'K, the most further steps'}, {...MERGES, start: 1}]
@@ -51,6 +66,7 @@ const SEARCHES = [
     {
         name: 'closure',
         word: 'closure',
+        kind: 'lower',
         title: 'a fixed point by right-closed sets, of this problem or after up to K more steps',
         numbers: [{name: 'k', least: 0, most: 8, start: 3, label: 'K, the most further steps'}]
     },
@@ -67,8 +83,10 @@ export const firstNumbers = () =>
     Object.fromEntries(SEARCHES.map(({name, numbers}) => [name, Object.fromEntries(numbers.map(number => [number.name, number.start]))]));
 
 export function searchActions(bench, card, view) {
-    return element('div.group.search', {role: 'group', 'aria-label': 'searches'},
-        SEARCHES.filter(({word}) => !word || bench.words.has(word)).map(search => searchNode(bench, card, view, search)));
+    const kinds = kindsOf(bench.cards.path(card.id)),
+          offered = SEARCHES.filter(({word, kind}) => (!word || bench.words.has(word)) && (!kind || kinds.includes(kind)));
+    return element(
+        'div.group.search', {role: 'group', 'aria-label': 'searches'}, offered.map(search => searchNode(bench, card, view, search)));
 }
 
 function searchNode(bench, card, view, {name, title, more, numbers}) {
@@ -82,6 +100,7 @@ function searchNode(bench, card, view, {name, title, more, numbers}) {
 function numberInput(kept, search, {name, least = 0, most, label}) {
     const input = element('input', {
         type: 'number',
+        class: ['short', '', 'long'][String(most).length - 1],
         min: String(least),
         max: String(most),
         value: String(kept[name]),

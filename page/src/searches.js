@@ -1,7 +1,7 @@
 // Searches for bounds from a card, in the background, and the cards of what they find.
 import {element, hint, seconds} from './dom.js';
 import {Stopped} from './engine.js';
-import {kindsOf, stagesOf} from './chains.js';
+import {stagesOf} from './chains.js';
 import {givenInput} from './inputs.js';
 import {writtenChain} from './judge.js';
 import {runTask} from './tasks.js';
@@ -27,6 +27,7 @@ export class Searches {
             fixed: () => this.search(card, view, ['fixed', k, m]),
             rounds: () => this.rounds(card, view, k),
             longest: () => this.longest(card, view, k, l, goesOn),
+            shortest: () => this.shortest(card, view, k, l, goesOn),
             cycle: () => this.cycle(card, view, k, m, goesOn),
             closure: () => this.closure(card, view, k),
             cover: () => this.workbench.settling.cover(card, view, m),
@@ -89,7 +90,7 @@ export class Searches {
     // ---- Words of `explore` that read the chain down to the card, and go on from it.
 
     longest(card, view, k, l, goesOn) {
-        return this.fromChain(card, view, 'longest', goesOn, async (task, chain) => {
+        return this.fromChain(card, view, 'longest', 'lower', goesOn, async (task, chain) => {
             const before = stepsIn(chain);
             let best = null, most = before - 1;
             for (let next = [k, l]; next;) {
@@ -111,8 +112,22 @@ export class Searches {
         });
     }
 
+    shortest(card, view, k, l, goesOn) {
+        return this.fromChain(card, view, 'shortest', 'upper', goesOn, async (task, chain) => {
+            for (let [steps, labels] = [k, l];;) {
+                const words = ['shortest', String(steps), String(labels)];
+                task.state = goesOn ? `now ${words.join(' ')}` : '';
+                const answer = await task.ask('explore', words, chain);
+                await this.tried(view, task, words.join(' '), answer);
+                if (isFound(answer)) return {what: words.join(' '), certificate: answer.text};
+                if (!goesOn || !answer.text.startsWith('not found') || steps >= MOST_STEPS && labels >= MOST_LABELS) return null;
+                [steps, labels] = [twice(steps, MOST_STEPS), twice(labels, MOST_LABELS)];
+            }
+        });
+    }
+
     cycle(card, view, k, m, goesOn) {
-        return this.fromChain(card, view, 'cycle', goesOn, async (task, chain) => {
+        return this.fromChain(card, view, 'cycle', 'lower', goesOn, async (task, chain) => {
             for (let next = [k, m, FEW_PROBLEMS];;) {
                 const words = ['cycle', ...next.map(String)];
                 task.state = goesOn ? `now ${words.join(' ')}` : '';
@@ -133,22 +148,18 @@ export class Searches {
     // The closure of the problem, else that of what 1, 2, .. k further steps lead to.
     closure(card, view, k) {
         const words = k ? ['closure', String(k)] : ['closure'], what = words.join(' ');
-        return this.fromChain(card, view, 'closure', false, async (task, chain) => {
+        return this.fromChain(card, view, 'closure', 'lower', false, async (task, chain) => {
             const answer = await task.ask('explore', words, chain);
             await this.tried(view, task, what, answer);
             return isFound(answer) ? {what, certificate: answer.text} : null;
         });
     }
 
-    // A search that begins with the chain; `find(task, chain)` answers {what, certificate}, or null.
-    fromChain(card, view, name, goesOn, find) {
+    // A search that begins with the chain, of this kind; `find(task, chain)` answers {what, certificate}, or null.
+    fromChain(card, view, name, kind, goesOn, find) {
         const {workbench} = this, path = workbench.cards.path(card.id);
-        if (!kindsOf(path).includes('lower')) {
-            view.complain(`${name}: the chain down to this card is no lower bound.`);
-            return null;
-        }
         return this.inTask(card, view, goesOn ? `${name} and more` : name, async task => {
-            const found = await find(task, await writtenChain(workbench.facts, path, 'lower'));
+            const found = await find(task, await writtenChain(workbench.facts, path, kind));
             return found &&
                 {...found, cards: await this.cardsOf(found.certificate, {title: found.what, skipped: stagesOf(path).length - 1})};
         });

@@ -1,7 +1,8 @@
-// Texts that come in (problems, certificates, sessions), and the session that goes out: in the address, or as a file.
+// Texts that come in (problems, certificates, graphs, sessions), and the session that goes out: in the address, or as a file.
 import {$, button, download, element, faulty, replace, say} from './dom.js';
 import {faultLine} from './certificates.js';
 import {titleOf} from './chains.js';
+import {isGraphText, readGraph} from './graphs.js';
 import {isSession} from './sessions.js';
 import {blockOf, problemText} from './problems.js';
 import {blocksOf, fileNameOf} from './texts.js';
@@ -28,6 +29,7 @@ export class Sessions {
     async openText(text, title) {
         try {
             if (isSession(text)) await this.openSession(text);
+            else if (isGraphText(text) && this.workbench.words.has('solve')) return await this.openGraph(text, title);
             else if (/^==/m.test(text)) return await this.openCertificate(text, title);
             else return await this.openProblem(text, title);
             return null;
@@ -49,6 +51,16 @@ export class Sessions {
         await workbench.append(null,
             {kind: 'first', problem: problem.text, written: writtenOf(first), title, side: kind === 'upper' ? 'upper' : 'lower'},
             ...await workbench.searches.cardsOf(alone, {written: writtenOf}));
+        return null;
+    }
+
+    // A problem and a graph, as `explore cover` prints them: the problem becomes a card, and the graph is drawn.
+    async openGraph(text, title) {
+        const {engine, workbench} = this, {status, text: answer} = await engine.ask('explore', ['solve'], text);
+        if (status > 1) return {fault: answer.trim(), line: faultLine(answer)};
+        await this.openProblem(readGraph(text).problem, title);
+        const view = workbench.view(workbench.cards.path().at(-1));
+        workbench.settling.showGraph(view, 'solve', text).catch(error => view.complain(`solve: ${error.message}`));
         return null;
     }
 

@@ -3,7 +3,7 @@ import {button, code, element, hint} from './dom.js';
 import {openGraphDialog} from './graph_view.js';
 import {isGraphText} from './graphs.js';
 import {Stopped} from './engine.js';
-import {commandsIn, readSettled} from './settled.js';
+import {commandsIn, nameLabels, readSettled} from './settled.js';
 import {runTask} from './tasks.js';
 
 export class Settling {
@@ -25,22 +25,31 @@ export class Settling {
         view.note(element('strong', {}, 'settle: '), element('span.line', {}, line), ' ', this.buttons(card, view, shownBy));
     }
 
-    // A button for each command that shows what is known: it opens the chain, or draws the graph.
-    buttons(card, view, shownBy) {
+    // A button for each command that shows what is known: it opens the chain, or draws the graph. Where it was found under other names,
+    // [[label, name]], the problem takes these first, if what the command finds hangs on them: it does on the order of the labels.
+    buttons(card, view, shownBy, {names = [], isInOrder = true} = {}) {
+        const isNamed = names.every(([label, name]) => label === name);
         return element('span.group.by', {}, shownBy.length ? hint('shown by') : null, shownBy.map(text => {
             const commands = commandsIn(text, Object.keys(this.workbench.engine.programs));
-            return commands
-                ? button(text, () => this.open(card, view, text, commands), {title: 'run it on this problem, and open what it finds'})
-                : code(text);
+            if (!commands) return code(text);
+            const under = !isNamed && (!isInOrder || nameLabels(commands)) ? names : null,
+                  where = under ? `, under the names ${under.map(pair => pair.join(' → ')).join(', ')}` : '';
+            return button(text, () => this.open(card, view, text, commands, under),
+                {title: `run it on this problem${where}, and open what it finds`});
         }));
     }
 
     // Runs commands on the card's problem, each on what the one before prints.
-    open(card, view, what, commands) {
-        const {searches} = this.workbench;
+    open(card, view, what, commands, names = null) {
+        const {changes, searches} = this.workbench;
         return searches.inTask(card, view, what, async task => {
-            let answer = {text: card.problem};
-            for (const {program, words} of commands) answer = await task.ask(program, words, answer.text);
+            const named = names ? [await changes.underNames(card, view, names)] : [];
+            if (named.includes(null)) return null;
+            let answer = {text: [card, ...named].at(-1).problem};
+            for (const {program, words} of commands) {
+                answer = await task.ask(program, words, answer.text);
+                if (answer.status !== 0) break;
+            }
             if (isGraphText(answer.text)) {
                 await this.showGraph(view, what, answer.text);
                 return null;
@@ -49,11 +58,8 @@ export class Settling {
                 await searches.tried(view, task, what, answer);
                 return null;
             }
-            return {
-                what,
-                certificate: answer.text,
-                cards: await searches.cardsOf(answer.text, {title: what, offset: searches.stepsAbove(card)})
-            };
+            const found = await searches.cardsOf(answer.text, {title: what, offset: searches.stepsAbove(card)});
+            return {what, certificate: answer.text, cards: found.length ? [...named, ...found] : []};
         });
     }
 

@@ -6,7 +6,7 @@ import {tmpdir} from 'os';
 import {join} from 'path';
 import {pageFile} from './place.mjs';
 
-const PATIENCE = Number(process.env.PATIENCE || 60000);
+export const PATIENCE = Number(process.env.PATIENCE || 60000);
 export const wait = ms => new Promise(resolve => setTimeout(resolve, ms));
 const text = value => JSON.stringify(value);
 

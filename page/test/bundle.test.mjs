@@ -5,7 +5,8 @@ import {mkdtempSync, readdirSync, readFileSync, rmSync, writeFileSync} from 'fs'
 import {tmpdir} from 'os';
 import {join} from 'path';
 import {checked} from './checks.mjs';
-import {html, namesOfPrograms, pageFolder, wasmOf} from './place.mjs';
+import {unpacked} from '../held.mjs';
+import {catalogueTables, html, namesOfPrograms, pageFolder, wasmOf} from './place.mjs';
 
 const text = html(), built = /This file holds <span class="build">([^]*?)<\/span>/.exec(text)[1];
 
@@ -21,15 +22,17 @@ await checked('its size and what it holds', (checks, context) => {
 
 await checked('made anew from its sources', checks => {
     // Made anew from the sources, with the programs that it holds.
-    const folder = mkdtempSync(join(tmpdir(), 'page-'));
-    const programs = namesOfPrograms().map(name => {
-        const wasm = join(folder, `${name}.wasm`), [, from] = new RegExp(`<code>${name}</code>, (built by .*?) \\(SHA-256`).exec(built);
-        writeFileSync(wasm, wasmOf(name));
-        return `${name}=${wasm}=${from}`;
-    });
-    spawnSync('node', [join(pageFolder, 'bundle.mjs'), join(folder, 'again.html'), ...programs]);
-    checks.check('bundle.mjs makes the same file of the sources', readFileSync(join(folder, 'again.html'), 'utf8') === text);
+    const folder = mkdtempSync(join(tmpdir(), 'page-')), again = join(folder, 'again.html');
+    writeFileSync(again, text);
+    spawnSync('node', [join(pageFolder, 'bundle.mjs'), again]);
+    checks.check('bundle.mjs makes the same file of the sources', readFileSync(again, 'utf8') === text);
     rmSync(folder, {recursive: true});
+});
+
+await checked('the catalogue is that of the examples', checks => {
+    const held = JSON.parse(/<script [^>]*id="catalogue">([^]*?)<\/script>/.exec(text)[1]), tables = catalogueTables();
+    checks.equal('its tables', Object.keys(held).sort(), Object.keys(tables).sort());
+    for (const [name, table] of Object.entries(tables)) checks.check(name, unpacked(held[name]).toString() === table);
 });
 
 await checked('the policy: no network, no other scripts', checks => {

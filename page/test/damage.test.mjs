@@ -1,12 +1,12 @@
 // Damaged certificates: the page says of each what the native programs say of the very text, and of a refused one why. DAMAGED is their count.
 import {openBrowser} from './browser.mjs';
 import {checked} from './checks.mjs';
-import {answer, example, namesIn, randomFrom, whyOf} from './place.mjs';
+import {answer, certificatesOfGallery, example, randomFrom, whyOf} from './place.mjs';
 
 const count = Number(process.env.DAMAGED || 100), random = randomFrom(5);
 const names = [
     ...['sinkless-fixed', 'orientation-upper', 'orientation-lower', 'colouring-refused'].map(name => `${name}.txt`),
-    ...namesIn('gallery').filter(name => /-[23]/.test(name)).map(name => `gallery/${name}`)
+    ...certificatesOfGallery().filter(name => /-[23]/.test(name)).map(name => `gallery/${name}`)
 ];
 const texts = names.map(example).filter(text => text.length < 4000);
 

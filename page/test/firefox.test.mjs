@@ -61,6 +61,7 @@ async function drive(socket) {
 
 const ready = `document.body.classList.contains('ready')`, cardsAre = n => `document.querySelectorAll('.card').length === ${n}`;
 const click = selector => `document.querySelector('${selector}').click()`;
+const step = `[...document.querySelectorAll('.card.last .actions button')].find(node => node.textContent === 'Step')`;
 
 async function session(checks, {value, until, go, reload}) {
     await go(`file://${pageFile}`);
@@ -68,9 +69,11 @@ async function session(checks, {value, until, go, reload}) {
     await value(`bench.editor.set('M^3\\nP O^2', 'M [PO]\\nO^2')`);
     await until(`!document.querySelector('#editor > .group button').disabled`);
     await value(click('#editor > .group button'));
+    checks.check('its line of the catalogue',
+        (await until(`document.querySelector('.card.last .catalogue')?.textContent`)).startsWith(`The catalogue's line, number `));
     for (const n of [1, 2, 3]) {
-        await until(`${cardsAre(n)} && Boolean(document.querySelector('.card.last .actions button'))`);
-        await value(click('.card.last .actions button'));
+        await until(`${cardsAre(n)} && Boolean(${step})`);
+        await value(`${step}.click()`);
     }
     const line = 'accepted: not solvable in 3 or fewer rounds';
     await until(`document.querySelector('#verdict-line')?.textContent === '${
@@ -113,6 +116,12 @@ async function inAndOut(checks, {value, until}) {
           input = answer(['family', 'colouring', '3', '2', '4']);
     checks.equal('what is given', line,
         natively('explore', ['given'], `${await value('bench.claim.verdict.certificate')}== given\n${input}`).text.split('\n', 1)[0]);
+    await value(`[...document.querySelectorAll('.card.last .actions button')].find(node => node.textContent === 'Settle').click()`);
+    const problem = await value('bench.cards.path().at(-1).problem'),
+          [settled] = natively('explore', ['settle'], problem).text.split('\n', 1);
+    checks.check(`settle: ${settled}`,
+        await until(`[...document.querySelectorAll('.card.last .note')].some(node => node.textContent.startsWith(${
+            JSON.stringify(`settle: ${settled}`)}))`));
     await value(click('#report'));
     checks.equal('the report', await until(`document.querySelector('#report-box pre')?.textContent`), never);
 }

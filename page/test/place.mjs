@@ -27,6 +27,16 @@ export const whyOf = text => natively('explore', ['why'], text).text.split('\n')
 
 export const example = name => readFileSync(join(examples, name), 'utf8');
 export const namesIn = folder => readdirSync(join(examples, folder)).filter(name => name.endsWith('.txt')).sort();
+// The gallery holds graphs too.
+export const certificatesOfGallery = () => namesIn('gallery').filter(name => example(`gallery/${name}`).startsWith('=='));
+
+// The tables of the catalogue as they stand in the examples: {'3-3-2': text}.
+export function catalogueTables() {
+    const folder = join(examples, 'catalogue'), names = readdirSync(folder).filter(name => /\.tsv(\.xz)?$/.test(name));
+    return Object.fromEntries(
+        names.map(name => [name.split('.')[0], spawnSync('xz', ['-dcf', join(folder, name)], {maxBuffer: 1 << 28}).stdout.toString()]));
+}
+export const linesOfTable = text => text.trimEnd().split('\n').map(line => line.split('\t'));
 
 // Numbers from a seed, the same ones each time: random(n) is below n.
 export function randomFrom(seed) {

@@ -5,16 +5,16 @@ import * as groups from '../src/groups.js';
 import * as certificates from '../src/certificates.js';
 import * as chains from '../src/chains.js';
 import * as sessions from '../src/sessions.js';
-import {catalogueLine, catalogueText, tableName} from '../src/catalogue.js';
+import {catalogueLine, namedForCatalogue, tableName} from '../src/catalogue.js';
 import {graphPlaces, isGraphText, readGraph, readSolution} from '../src/graphs.js';
 import {inputCommand, readFit, readGiven} from '../src/inputs.js';
 import {findRelaxation, findRenaming} from '../src/maps.js';
 import {blocksOfReport, latexOfReport, partsOfText, roundsOfGraph} from '../src/reports.js';
-import {commandsIn, readSettled} from '../src/settled.js';
+import {commandsIn, nameLabels, readSettled} from '../src/settled.js';
 import {wordsIn} from '../src/words.js';
 import {deliveriesOf, randomFrom, readRun, runInput, treeAround} from '../src/trees.js';
 import {checked} from './checks.mjs';
-import {answer, example, namesIn, natively, re} from './place.mjs';
+import {answer, catalogueTables, certificatesOfGallery, example, linesOfTable, namesIn, natively, randomFrom as numbersFrom, re} from './place.mjs';
 
 // The test that runs.
 let checks = null;
@@ -83,7 +83,7 @@ await about('problems', () => {
 
 await about('certificates', () => {
     // Certificates: what is read of a chain and written again is the same text.
-    for (const name of namesIn('gallery')) {
+    for (const name of certificatesOfGallery()) {
         const text = example(`gallery/${name}`), bound = certificates.readCertificate(text),
               side = bound.kind === 'upper' ? 'upper' : 'lower';
         const path = [
@@ -232,6 +232,10 @@ await about('what settles a problem', () => {
     is('a command', commandsIn('explore cycle 3 1 2000', ['re', 'explore']), [{program: 'explore', words: ['cycle', '3', '1', '2000']}]);
     is('a pipe', commandsIn('explore merge A B | explore closure', ['re', 'explore']),
         [{program: 'explore', words: ['merge', 'A', 'B']}, {program: 'explore', words: ['closure']}]);
+    is('names of labels',
+        ['explore merge A B | explore closure', 're lower 2 0', 'explore step | explore closure 2'].map(
+            text => nameLabels(commandsIn(text, ['re', 'explore']))),
+        [true, false, false]);
     is('no command', [commandsIn('rm file', ['re', 'explore']), commandsIn('re', ['re'])], [null, null]);
 });
 
@@ -261,18 +265,50 @@ await about('finite graphs', () => {
     is('none', readSolution('no: no solution on this graph, so not solvable in any number of rounds\n').labels, null);
 });
 
+// A problem of the catalogue in other names and another order of lines, as `read` writes it.
+function renamedAtRandom(line, random) {
+    const labels = [...new Set(line.match(/[A-Z]/g))], free = ['A', 'B', 'C', 'X', '(on)', '(AB)', '7'];
+    const names = new Map(labels.map(label => [label, free.splice(random(free.length), 1)[0]]));
+    const mixed = list => list.map(item => [random(1000), item]).sort((a, b) => a[0] - b[0]).map(([, item]) => item);
+    const side = text => mixed(text.split(' ')).map(config => mixed([...config]).map(label => names.get(label)).join(' ')).join('\n');
+    return answer(['read'], line.split(' / ').map(side).join('\n\n') + '\n');
+}
+
 await about('the catalogue', () => {
     const table =
-        '#number\tproblem\tanswer\tby\torientation\n1\tAAA / AA\texactly 0\tre upper 0 0\tyes\n2\tAAA AAB ABB / AB\tnot solvable in any number of rounds\tre fixed 3 0; explore closure\tno\n';
+        '1\tAAA / AA\texactly 0\tre zero\n2\tAAA AAB ABB / AB\tnot solvable in any number of rounds\tre fixed 4 0; explore closure\n';
     const problem = answer(['read'], 'O [IO]^2\n\nI O\n');
-    is('the names by which it comes first', catalogueText(problem), 'AAA AAB ABB / AB');
+    is('the names by which it comes first', namedForCatalogue(problem), {line: 'AAA AAB ABB / AB', names: [['O', 'A'], ['I', 'B']]});
     is('its table', tableName(problems.describe(problem)), '2-3-2');
     is('its line', catalogueLine(table, problem), {
         number: '2',
+        problem: 'AAA AAB ABB / AB',
         answer: 'not solvable in any number of rounds',
-        shownBy: ['re fixed 3 0', 'explore closure'],
-        more: [['orientation', 'no']]
+        shownBy: ['re fixed 4 0', 'explore closure'],
+        count: 2,
+        names: [['I', 'B'], ['O', 'A']],
+        isInOrder: false
     });
     is('one that lacks', catalogueLine(table, answer(['read'], 'A^3\nB^3\n\nA B\n')), null);
-    is('too many labels', catalogueText(answer(['family', 'colouring', '3', '2', '8'])), null);
+    is('too many labels', namedForCatalogue(answer(['family', 'colouring', '3', '2', '8'])), null);
+});
+
+await about('each problem of the catalogue is found under any names', () => {
+    const random = numbersFrom(11);
+    for (const [name, table] of Object.entries(catalogueTables())) {
+        const lines = linesOfTable(table);
+        const written = line => line.split(' / ').map(side => side.split(' ').map(config => [...config].join(' ')).join('\n')).join('\n\n');
+        is(`${name}: each line stands under the names by which it comes first`,
+            lines.filter(([, line]) => catalogueLine(table, `${written(line)}\n`)?.problem !== line), []);
+        for (let n = 0; n < 12; n++) {
+            const [number, line, claim, by] = lines[random(lines.length)], problem = renamedAtRandom(line, random);
+            is(`${name}: the table of ${line}`, tableName(problems.describe(problem)), name);
+            const {names, isInOrder, ...found} = catalogueLine(table, problem);
+            is(`${name}: number ${number}`, found, {number, problem: line, answer: claim, shownBy: by.split('; '), count: lines.length});
+            // Its names lead to the problem of the line.
+            is(`${name}: the names of number ${number}`, answer(['read'], problems.mapped(problem, names)),
+                answer(['read'], `${written(line)}\n`));
+            is('in order', isInOrder, names.map(pair => pair[1]).join('') === [...new Set(line.match(/[A-Z]/g))].sort().join(''));
+        }
+    }
 });

@@ -1,16 +1,16 @@
 -- What passes with labels for all places of the rows does with the first ones.
-use Rattle.std.proofs.Common.{◌≡◌, ℕ, zero, suc, ◌<◌, ◌≤◌, ◌+◌, ◌-◌, ◌*◌, ◌/◌, ◌%◌, min, Bool, true, false, cond, eqb, List, [], ◌∷◌, ◌++◌, length, map, take, drop, replicate, None, Some, Option, refl, sym, ap, ◌∙◌, subst, arith, true≢false, append_assoc, length-drop}
-use Rattle.std.specs.Prelude.{◌&&◌, Contains, find, is_some}
+use Rattle.std.proofs.Common.{◌≡◌, ℕ, zero, suc, ◌<◌, ◌≤◌, ◌+◌, ◌-◌, ◌*◌, ◌/◌, ◌%◌, min, Bool, true, false, cond, eqb, List, [], ◌∷◌, ◌++◌, length, map, take, drop, refl, sym, ap, ◌∙◌, subst, arith, true≢false, append_assoc, length-drop}
+use Rattle.std.specs.Prelude.{◌&&◌, Contains}
 use Rattle.std.specs.List.{AllByRecursion}
-use Rattle.std.proofs.lemmas.List.{drop-take, length-take, map-append, take-append-drop, take-take}
+use Rattle.std.proofs.lemmas.List.{drop-take, length-take, map-append, take-take}
 use Rattle.std.proofs.lemmas.Nat.{div-add-mod'}
 use Rattle.std.proofs.Math.Nat.{mod-lt, mul-le-mul_left}
-use Rattle.re_labels.proofs.Membership.{Contains-count_from, Contains-here, Contains-map, all-append, any_true, count_from_range, map-alike}
+use Rattle.re_labels.proofs.Membership.{Contains-count_from, Contains-map, all-append, count_from_range, map-alike}
 use Rattle.re_labels.proofs.Tests.{and-true, true-and}
 use Rattle.re_labels.specs.Lists.{count_from}
-use Rattle.re_config.specs.Rows.{IsChoice, choices, singles}
+use Rattle.re_config.specs.Rows.{IsChoice}
 use Rattle.re_table.proofs.Goodness.{Has-has_config, has_config-Has}
-use Rattle.re_table.specs.Constraints.{Constraint, Has, has_config}
+use Rattle.re_table.specs.Constraints.{Has, has_config}
 use Rattle.re_problem.specs.NamedProblems.{IsNamedProblem, NamedProblem}
 use Rattle.re_entry_clauses.proofs.RowChoices.{keeps_allowed_by_row_law}
 use Rattle.re_entry_clauses.specs.LabelsOver.{labels_over}

@@ -9,7 +9,6 @@ use Rattle.re_labels.specs.Lists.{IsRising, same_list}
 use Rattle.re_labels.specs.Sets.{number}
 use Rattle.re_table.proofs.SaidChoices.{found-is}
 use Rattle.re_table.specs.Constraints.{Constraint, has_config}
-use Rattle.re_table.specs.GoodRows.{allowed}
 use Rattle.re_config.specs.Configs.{sorted}
 use Rattle.re_problem.specs.Steps.{SetEntry, entry_sets, label_of}
 use Rattle.re_entry_clauses.proofs.RowSets.{HasSetsOf}

@@ -1,9 +1,8 @@
 -- The map of a lower step between two problems.
-use Rattle.std.specs.Prelude.{◌≡◌, ◌≤◌, ℕ, ◌==◌, ◌*◌, ◌-◌, ◌/◌, nat_lt, Bool, true, not, ◌&&◌, ◌||◌, List, ◌++◌, length, map, take, drop, replicate, find, if◌then◌else◌, is_some, Option, None, Some}
+use Rattle.std.specs.Prelude.{◌≡◌, ◌≤◌, ℕ, ◌==◌, ◌*◌, ◌/◌, nat_lt, Bool, true, not, ◌&&◌, ◌||◌, List, length, map, take, drop, if◌then◌else◌, Option, None, Some}
 use Rattle.std.specs.List.{list_all, list_any}
 use Rattle.re_config.specs.declared.TheConstants.{MAX_ROWS}
 use Rattle.re_labels.specs.Lists.{count_from, same_list}
-use Rattle.re_config.specs.Rows.{choices, singles}
 use Rattle.re_table.specs.Constraints.{Constraint, has_config}
 use Rattle.re_table.specs.GoodRows.{max_rows, max_sets}
 use Rattle.re_problem.specs.NamedProblems.{NamedProblem}

@@ -1,2 +1,3 @@
 pub mod Bridges
 pub mod Laws
+pub mod Reductions

@@ -8,7 +8,7 @@ use Rattle.re_labels.proofs.Tests.{and-true, or-left, or-right, true-and}
 use Rattle.re_problem.specs.NamedProblems.{NamedProblem}
 use Rattle.re_problem.specs.ProblemTexts.{last_or}
 use Rattle.re_cert.proofs.FittingStates.{one_more}
-use Rattle.re_cert.specs.Bounds.{Bound, BoundStep, built, has_row_maps, is_bound, is_by_row, last_problem, next_problems, one_form, renaming_fits, step_fits, steps_fit}
+use Rattle.re_cert.specs.Bounds.{Bound, BoundStep, built, has_row_maps, is_bound, is_by_row, last_problem, one_form, renaming_fits, step_fits, steps_fit}
 use Rattle.re_cert.specs.declared.certificate.Kind.TheVariants.{Lower}
 use Rattle.re_cert.specs.declared.certificate.TheConstants.{MAX_STEPS}
 use Rattle.re_chain_parts.specs.Chains.{IsSound, chain_with}

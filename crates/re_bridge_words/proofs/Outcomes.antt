@@ -1,8 +1,9 @@
 -- What is given to a chain, case by case, and what may be said.
-use Rattle.std.proofs.Common.{◌≡◌, ℕ, suc, ◌<◌, Bool, true, false, List, length, refl, ap, ◌∙◌, subst, codes, Option, Some, None}
+use Rattle.std.proofs.Common.{◌≡◌, ℕ, suc, ◌<◌, Bool, true, false, List, length, refl, ap, ◌∙◌, codes, Option, Some, None}
 use Rattle.std.specs.Prelude.{if◌then◌else◌, nat_lt}
 use Rattle.re_labels.proofs.Tests.{true-below}
 use Rattle.re_problem.specs.NamedProblems.{NamedProblem}
+use Rattle.re_problem.specs.ProblemTexts.{first_fault, lines_of, problem_of}
 use Rattle.re_cert.specs.Bounds.{Bound, last_problem}
 use Rattle.re_cert.specs.declared.certificate.Kind.{Kind}
 use Rattle.re_cert.specs.declared.certificate.Kind.TheVariants.{Fixed, Lower, Upper}
@@ -14,14 +15,18 @@ use Rattle.re_frame.proofs.Said.{check_says}
 use Rattle.re_frame.specs.Outcomes.{Outcome, limit}
 use Rattle.re_frame.specs.Runs.{MaySay}
 use Rattle.re_frame.specs.StepLimits.{limit_line}
-use Rattle.re_frame.specs.declared.status.Status.TheVariants.{Done}
 use Rattle.re_step.specs.declared.derivation.StepLimit.TheVariants.{Rows}
 use Rattle.re_bridge.specs.Bridges.{Bridge, bridge_of, cut_off, has_many_rows, missing, over}
+use Rattle.re_bridge.specs.Reductions.{reduced_of}
 use Rattle.re_chain_parts.specs.Chains.{chain_of}
 use Rattle.re_two_texts.specs.TwoTexts.{back_problem, front_bound, two_fault}
 use Rattle.re_bridge_words.specs.Bridged.{bridged}
-use Rattle.re_bridge_words.specs.BridgeWords.{BridgeWorth, MayGive, bridge_outcome, kind_outcome, over_bridge, sound_outcome, text_outcome}
+use Rattle.re_bridge_words.specs.BridgeWords.{bridge_outcome, kind_outcome, over_bridge, sound_outcome, text_outcome}
+use Rattle.re_bridge_words.specs.Answers.{is_judging, word_outcome}
+use Rattle.re_bridge_words.specs.ReduceWords.{reduce_outcome, reduced_outcome}
 use Rattle.re_bridge_words.specs.declared.answering.TheConstants.{MAX_TRIES}
+use Rattle.re_bridge_words.specs.declared.words.BridgeWord.{BridgeWord}
+use Rattle.re_bridge_words.specs.declared.words.BridgeWord.TheVariants.{Bridge as BridgeTo, Reduce}
 
 -- ---- by cases
 
@@ -71,12 +76,18 @@ refusal_says None outcome says = says
 sound_says : (next : NamedProblem) (chain : Bound) → MaySay (sound_outcome next chain).status true
 sound_says next chain = refusal_says (steps_refusal chain) (kind_outcome chain.kind next chain) (kind_says chain.kind next chain)
 
-pub text_says : (bytes : List ℕ) → MaySay (text_outcome bytes).status true
+text_says : (bytes : List ℕ) → MaySay (text_outcome bytes).status true
 unfolding text_outcome
 text_says bytes =
     or_fault_says (two_fault (codes "to") bytes) (sound_outcome (back_problem (codes "to") bytes) (chain_of (front_bound (codes "to") bytes))) true
     (sound_says (back_problem (codes "to") bytes) (chain_of (front_bound (codes "to") bytes)))
 
--- ---- what may be given
-pub may_give : (bytes text : List ℕ) (outcome : Outcome) → bytes ≡ text → outcome ≡ text_outcome bytes → (outcome.status ≡ Done → BridgeWorth bytes outcome.text) → MayGive text outcome
-may_give bytes text outcome same one worth = subst (λ b. MayGive b outcome) same (record { one = one; worth = worth })
+reduced_says : (reduced : Option NamedProblem) → MaySay (reduced_outcome reduced).status false
+reduced_says (Some reduced) = tt
+reduced_says None = tt
+
+pub word_says : (word : BridgeWord) (bytes : List ℕ) → MaySay (word_outcome word bytes).status (is_judging word)
+unfolding reduce_outcome
+word_says BridgeTo bytes = text_says bytes
+word_says Reduce bytes =
+    or_fault_says (first_fault 0 1 (lines_of bytes)) (reduced_outcome (reduced_of (problem_of (lines_of bytes)) MAX_TRIES)) false (reduced_says (reduced_of (problem_of (lines_of bytes)) MAX_TRIES))

@@ -1,6 +1,5 @@
--- The word `bridge`, and what it answers.
-use Rattle.std.specs.Prelude.{◌≡◌, ℕ, suc, Bool, false, nat_lt, List, [], ◌∷◌, codes, length, if◌then◌else◌, Some}
-use Rattle.std.specs.Str.{bytes_eq}
+-- What the word `bridge` answers.
+use Rattle.std.specs.Prelude.{ℕ, suc, nat_lt, List, codes, length, if◌then◌else◌, Some}
 use Rattle.re_problem.specs.NamedProblems.{NamedProblem}
 use Rattle.re_cert.specs.Bounds.{Bound, last_problem}
 use Rattle.re_cert.specs.declared.certificate.Kind.{Kind}
@@ -10,23 +9,12 @@ use Rattle.re_chain_parts.specs.Chains.{chain_of}
 use Rattle.re_chain_texts.specs.OverChains.{IsTextOf, certificate_outcome, or_fault, or_refusal, steps_refusal}
 use Rattle.re_frame.specs.Outcomes.{Outcome, limit, refused}
 use Rattle.re_frame.specs.StepLimits.{limit_line}
-use Rattle.re_frame.specs.declared.status.Status.TheVariants.{Done}
 use Rattle.re_step.specs.declared.derivation.StepLimit.TheVariants.{Rows}
 use Rattle.re_bridge.specs.Bridges.{Bridge, bridge_of, cut_off, has_many_rows, missing, over}
 use Rattle.re_bridge_words.specs.Bridged.{IsBridged, bridged}
 use Rattle.re_two_texts.specs.TwoTexts.{back_problem, front_bound, two_fault}
 use Rattle.re_bridge_words.specs.declared.answering.TheConstants.{MAX_TRIES}
 
--- the words are this one
-abbrev pub names_bridge : List (List ℕ) → Bool
-names_bridge (word ∷ []) = bytes_eq (codes "bridge") word
-names_bridge words = false
-
--- the line of help
-unfoldable pub bridge_help : List ℕ
-bridge_help = codes "bridge: reads a chain of kind lower, a line == to and a problem, gives the chain with one more step, to this problem\n"
-
--- ---- answers
 -- the chain with the step by the map of the bridge, or that there is none, or that the tries don't suffice
 abbrev pub over_bridge : Bridge → NamedProblem → Bound → Outcome
 over_bridge (over map) next chain = certificate_outcome (bridged chain next map)
@@ -60,8 +48,3 @@ IsBridgedText next chain text = (longer : Bound) × IsTextOf longer text × IsBr
 
 unfoldable pub BridgeWorth : List ℕ → List ℕ → Type 0
 BridgeWorth bytes text = IsBridgedText (back_problem (codes "to") bytes) (chain_of (front_bound (codes "to") bytes)) text
-
--- what the word may answer to a text: one outcome alone, and this is known of its text
-pub record MayGive (bytes : List ℕ) (outcome : Outcome) : Type 0 where
-  pub one : outcome ≡ text_outcome bytes
-  pub worth : outcome.status ≡ Done → BridgeWorth bytes outcome.text

@@ -1,3 +1,5 @@
+pub mod Answers
 pub mod BridgeWords
-pub mod Laws
 pub mod Bridged
+pub mod Laws
+pub mod ReduceWords

@@ -1,6 +1,6 @@
-//! The word, and what it answers.
+//! What the word `bridge` answers.
 ghost use Rattle.re_bridge.specs.Bridges.{has_many_rows};
-ghost use Rattle.re_bridge_words.specs.BridgeWords.{BridgeWorth, IsBridgedText, bridge_help, bridge_outcome, kind_outcome, names_bridge, sound_outcome, text_outcome};
+ghost use Rattle.re_bridge_words.specs.BridgeWords.{BridgeWorth, IsBridgedText, bridge_outcome, kind_outcome, sound_outcome, text_outcome};
 ghost use Rattle.re_cert.specs.Bounds.{last_problem};
 ghost use Rattle.re_cert.specs.declared.certificate.Kind.TheVariants.{Fixed, Lower};
 ghost use Rattle.re_cert.specs.declared.certificate.TheConstants.{MAX_STEPS};
@@ -8,16 +8,14 @@ ghost use Rattle.re_chain_parts.specs.Chains.{IsSound, chain_of};
 ghost use Rattle.re_frame.specs.Outcomes.{limit as limited_by, outcome_of};
 ghost use Rattle.re_frame.specs.declared.status.Status.TheVariants.{Done};
 ghost use Rattle.re_io.specs.declared.read.TheConstants.{MAX_BYTES};
-ghost use Rattle.std.specs.Prelude.{◌≡◌, ◌<◌, ◌≤◌, IfOk, length, map, string_bytes, suc};
+ghost use Rattle.std.specs.Prelude.{◌≡◌, ◌<◌, ◌≤◌, IfOk, length, suc};
 
 use crate::bridge;
 use re_bridge::BridgeFault;
 use re_cert::{Certificate, Kind, MAX_STEPS};
 use re_chain_parts::chain;
 use re_chain_texts::{certificate_output, steps_refusal};
-use re_frame::{
-    Answer, Finding, Output, begun, fault_output, limit_output, refused, verdict_output,
-};
+use re_frame::{Answer, Output, begun, fault_output, limit_output, refused, verdict_output};
 use re_labels::NoMemory;
 use re_problem::{Problem, TextFault};
 use re_step::StepLimit;
@@ -27,34 +25,11 @@ use std::alloc::Global;
 // The name of the line between the chain and the problem.
 const TO: &[u8] = b"to";
 
-/// The most tries of each of the two walks: over maps by sets, and over maps by rows.
+/// The most tries of each walk: of `bridge` over maps by sets, and over maps by rows, and of `reduce` over the maps to so many labels.
 pub const MAX_TRIES: u32 = 1_000_000;
 
-/// The word `bridge`. It reads its input as a whole, and takes the time of `check` on the chain, beside that of `bridge` of
-/// `re_bridge_chain` with `MAX_TRIES` tries.
-#[derive(Clone, Copy, Debug, PartialEq, Eq)]
-pub struct BridgeWord;
-
-/// Whether the words are this word.
-pub fn names_bridge(words: &[String]) -> bool
-    ensures { result ≡ names_bridge (map string_bytes words.now) }
-{
-    match words {
-        [word] => "bridge" == word.as_str(),
-        _ => false,
-    }
-}
-
-/// The line of help.
-#[tactic(auto, unfolding(crate::specs::BridgeWords::bridge_help))]
-pub fn bridge_help() -> &'static str
-    ensures { result.now ≡ bridge_help }
-{
-    "bridge: reads a chain of kind lower, a line == to and a problem, gives the chain with one more step, to this problem\n"
-}
-
-// The output of a line that tells of a limit.
-fn limited(alloc: Global, line: &str) -> Result<Output, NoMemory>
+/// The output of a line that tells of a limit.
+pub(crate) fn limited(alloc: Global, line: &str) -> Result<Output, NoMemory>
     ensures output { IfOk result (λ output. outcome_of output ≡ limited_by line.now) }
     ensures limit { IfOk result (λ output. output.answer ≡ Answer.Limit) }
 {
@@ -142,9 +117,9 @@ fn bound_output(alloc: Global, texts: &TwoTexts) -> Result<Output, NoMemory>
     }
 }
 
-// What the word gives to a text.
+/// What the word gives to a text.
 #[tactic(auto, unfolding(crate::specs::BridgeWords::text_outcome))]
-fn text_output(alloc: Global, text: &[u8]) -> Result<Output, NoMemory>
+pub(crate) fn text_output(alloc: Global, text: &[u8]) -> Result<Output, NoMemory>
     requires { length text.now ≤ MAX_BYTES }
     ensures output { IfOk result (λ output. outcome_of output ≡ text_outcome text.now) }
     ensures text { IfOk result (λ output. (outcome_of output).status ≡ Done → BridgeWorth text.now output.text.items) }
@@ -153,20 +128,5 @@ fn text_output(alloc: Global, text: &[u8]) -> Result<Output, NoMemory>
         Ok(texts) => bound_output(alloc, &texts),
         Err(TextFault::Bad(fault)) => Ok(fault_output(alloc, fault)?),
         Err(TextFault::NoMemory) => Err(NoMemory),
-    }
-}
-
-impl Finding for BridgeWord {
-    ghost use Rattle.std.specs.Prelude.{true};
-    ghost use Rattle.re_bridge_words.specs.BridgeWords.{MayGive};
-
-    ghost fits = { λ _. Unit {0} };
-
-    ghost may = { λ _ bytes outcome. MayGive bytes outcome };
-
-    ghost judging = { λ _. true };
-
-    fn find(&self, alloc: Global, text: Vec<u8>) -> Result<Output, NoMemory> {
-        text_output(alloc, text.as_slice())
     }
 }

@@ -1,5 +1,5 @@
 -- Shaping the last problem of a sound chain leaves it sound.
-use Rattle.std.proofs.Common.{◌≡◌, ℕ, ◌<◌, Bool, true, false, not, eqb, List, [], ◌∷◌, length, None, Some, refl, sym, ap, ◌∙◌}
+use Rattle.std.proofs.Common.{◌≡◌, ℕ, ◌<◌, Bool, true, false, not, eqb, List, [], ◌∷◌, length, None, Some, refl, sym, ap, ◌∙◌, subst, arith}
 use Rattle.std.specs.Prelude.{if◌then◌else◌}
 use Rattle.std.specs.List.{AllByRecursion}
 use Rattle.re_items.specs.Steps.{is_nil}
@@ -8,8 +8,13 @@ use Rattle.re_problem.specs.NamedProblems.{IsNamedProblem, NamedProblem}
 use Rattle.re_cert.specs.Bounds.{Bound, BoundStep, is_bound, is_label, is_lower, last_problem, next_problems}
 use Rattle.re_cert.specs.declared.certificate.Kind.{Kind}
 use Rattle.re_chain.proofs.LastSteps.{Keeps, LastIs, chain_with-bound, last-next, with_last-bound, with_last-sound}
+use Rattle.re_changes.proofs.Merges.{merge-relaxed}
+use Rattle.re_config.specs.Configs.{image_at}
+use Rattle.re_problem.proofs.TextLines.{nil_of}
+use Rattle.re_problem.specs.ProblemTexts.{last_or}
 use Rattle.re_chain.proofs.DroppedSteps.{drop-keeps}
-use Rattle.re_chain.proofs.MergedSteps.{merge-keeps}
+use Rattle.re_chain.proofs.FirstSteps.{first-bound, first-sound}
+use Rattle.re_chain.proofs.MergedSteps.{count-names, merge-keeps, merged-named, number-below}
 use Rattle.re_chain.proofs.NamedSteps.{name-keeps, named-named}
 use Rattle.re_chain_parts.proofs.ChainBounds.{lower-chain}
 use Rattle.re_chain_parts.specs.Chains.{chain_kind, chain_with}
@@ -19,52 +24,92 @@ use Rattle.re_chain.specs.Dropping.{drop_refusal, dropped, dropped_step}
 use Rattle.re_chain_parts.specs.Chains.{IsSoundChain}
 use Rattle.re_chain.specs.Laws.{DropLaw, MergeLaw, NameLaw}
 use Rattle.re_chain.specs.Naming.{is_taken, name_refusal, named, named_problem, named_step}
-use Rattle.re_chain.specs.Merging.{merge_refusal, merged, merged_step}
+use Rattle.re_chain.specs.Merging.{first_merged, merge_limit, merge_numbers, merge_refusal, merged, merged_problem, merged_step}
+use Rattle.re_chain.specs.Relaxing.{relaxed_limit}
 use Rattle.re_chain.specs.declared.refusal.Refusal.TheVariants.{NotALabel, NotLower, NotUpper, NoStep, Same, Taken}
 
 -- ---- merges
 -- what is known where a merge isn't refused
 pub record MayMerge (x y : ℕ) (bound : Bound) : Type 0 where
   pub lower : is_lower bound.kind ≡ true
-  pub some : is_nil bound.steps ≡ false
   pub from : x < length (last_problem bound).names
   pub to : y < length (last_problem bound).names
   pub apart : x ≡ y → ⊥
 
 pub may-merge : (x y : ℕ) (bound : Bound) → merge_refusal x y bound ≡ None → MayMerge x y bound
-may-merge x y bound none = go (is_lower bound.kind) (is_nil bound.steps) (is_label (last_problem bound) x) (is_label (last_problem bound) y) (eqb x y) refl refl refl refl refl none
+may-merge x y bound none = go (is_lower bound.kind) (is_label (last_problem bound) x) (is_label (last_problem bound) y) (eqb x y) refl refl refl refl none
   where
-    go : (l n a b e : Bool) → is_lower bound.kind ≡ l → is_nil bound.steps ≡ n → is_label (last_problem bound) x ≡ a → is_label (last_problem bound) y ≡ b → eqb x y ≡ e
-        → (if not l then Some NotLower else if n then Some NoStep else if not a then Some (NotALabel x) else if not b then Some (NotALabel y) else if e then Some Same else None) ≡ None
+    go : (l a b e : Bool) → is_lower bound.kind ≡ l → is_label (last_problem bound) x ≡ a → is_label (last_problem bound) y ≡ b → eqb x y ≡ e
+        → (if not l then Some NotLower else if not a then Some (NotALabel x) else if not b then Some (NotALabel y) else if e then Some Same else None) ≡ None
         → MayMerge x y bound
-    go false n a b e hl hn ha hb he h = cc
-    go true true a b e hl hn ha hb he h = cc
-    go true false false b e hl hn ha hb he h = cc
-    go true false true false e hl hn ha hb he h = cc
-    go true false true true true hl hn ha hb he h = cc
-    go true false true true false hl hn ha hb he h = record {
+    go false a b e hl ha hb he h = cc
+    go true false b e hl ha hb he h = cc
+    go true true false e hl ha hb he h = cc
+    go true true true true hl ha hb he h = cc
+    go true true true false hl ha hb he h = record {
       lower = hl;
-      some = hn;
       from = below-true x (length (last_problem bound).names) ha;
       to = below-true y (length (last_problem bound).names) hb;
       apart = λ s. let wrong : false ≡ true = sym he ∙ ap (eqb x) (sym s) ∙ eqb-same x in cc;
     }
 
-module _ (bound : Bound) (x y : ℕ) (may : merge_refusal x y bound ≡ None) where
+-- with a step, the last step is another one
+module _ (bound : Bound) (x y : ℕ) (may : merge_refusal x y bound ≡ None) (some : is_nil bound.steps ≡ false) where
   last : LastIs (λ (s : BoundStep). y < length s.next.names) bound.steps
-  last = let m = may-merge x y bound may in last-next (λ (p : NamedProblem). y < length p.names) bound.first bound.steps m.some m.to
+  last = let m = may-merge x y bound may in last-next (λ (p : NamedProblem). y < length p.names) bound.first bound.steps some m.to
 
   keeps : (before : NamedProblem) (s : BoundStep) → y < length s.next.names → IsNamedProblem s.next → Keeps (chain_kind bound.kind) before s (merged_step x y s)
   keeps before s l is = let m = may-merge x y bound may in merge-keeps (chain_kind bound.kind) x y before s (lower-chain bound.kind ∙ m.lower) l m.apart is
 
-  pub merged-bound : is_bound bound ≡ true → AllByRecursion IsNamedProblem (next_problems bound.steps) → is_bound (merged x y bound) ≡ true
+  pub merged-bound : is_bound bound ≡ true → AllByRecursion IsNamedProblem (next_problems bound.steps) → is_bound (with_last (merged_step x y) bound) ≡ true
   merged-bound = with_last-bound bound (merged_step x y) (λ (s : BoundStep). y < length s.next.names) last keeps
 
-  pub merged-sound : IsSoundChain bound → IsSoundChain (merged x y bound)
+  merged-sound : IsSoundChain bound → IsSoundChain (with_last (merged_step x y) bound)
   merged-sound = with_last-sound bound (merged_step x y) (λ (s : BoundStep). y < length s.next.names) last keeps
 
+-- without one, the step leads from the first problem to the derived problem of the merged one
+module _ (x y : ℕ) (problem : NamedProblem) (m : y < length problem.names) (apart : x ≡ y → ⊥) where
+  pub number-fits : (label : ℕ) → label < length problem.names → image_at (merge_numbers x y problem) label < length (merged_problem x y problem).names
+  number-fits label l = let k = number-below x y problem m apart label l in let c = count-names x problem in omega arith
+
+  module _ (is : IsNamedProblem problem) (limit : relaxed_limit problem (merged_problem x y problem) ≡ None) (kind : Kind) (lower : is_lower kind ≡ true) where
+    pub first_merged-bound : is_bound (chain_with kind problem (first_merged x y problem ∷ [])) ≡ true
+    first_merged-bound =
+        first-bound problem (merged_problem x y problem) (image_at (merge_numbers x y problem)) number-fits (merge-relaxed y x problem) (merged-named x y problem m apart is) limit kind lower
+
+    pub first_merged-sound : IsSoundChain (chain_with kind problem (first_merged x y problem ∷ []))
+    first_merged-sound =
+        first-sound problem (merged_problem x y problem) (image_at (merge_numbers x y problem)) number-fits (merge-relaxed y x problem) (merged-named x y problem m apart is) limit kind lower is
+
+module _ (kind : Kind) (back : ℕ) (first : NamedProblem) (renaming : List (ℕ × ℕ)) (x y : ℕ) where
+  abbrev of_steps : List BoundStep → Bound
+  of_steps steps = record { kind = kind; back = back; first = first; steps = steps; renaming = renaming }
+
+  merge_sound_of : (steps : List BoundStep) → IsSoundChain (of_steps steps) → merge_refusal x y (of_steps steps) ≡ None → merge_limit x y (of_steps steps) ≡ None → IsSoundChain (merged x y (of_steps steps))
+  merge_sound_of [] is may limit =
+      let m = may-merge x y (of_steps []) may in
+      first_merged-sound x y first m.to m.apart is.problems.first limit kind m.lower
+  merge_sound_of (s ∷ steps) is may limit = merged-sound (of_steps (s ∷ steps)) x y may refl is
+
 pub merge_law : MergeLaw
-merge_law bound x y is may = merged-sound bound x y may is
+merge_law bound x y is may limit = merge_sound_of bound.kind bound.back bound.first bound.renaming x y bound.steps is may limit
+
+-- what the chain becomes, with a step and without one
+pub whole-merged : (x y : ℕ) (bound : Bound) → is_nil bound.steps ≡ false → with_last (merged_step x y) bound ≡ merged x y bound
+whole-merged x y bound some = ap (λ b. if b then chain_with bound.kind bound.first (first_merged x y bound.first ∷ []) else with_last (merged_step x y) bound) (sym some)
+
+pub begun-merged : (x y : ℕ) (bound : Bound) → is_nil bound.steps ≡ true → chain_with bound.kind bound.first (first_merged x y bound.first ∷ []) ≡ merged x y bound
+begun-merged x y bound none = ap (λ b. if b then chain_with bound.kind bound.first (first_merged x y bound.first ∷ []) else with_last (merged_step x y) bound) (sym none)
+
+pub begun-limit : (x y : ℕ) (bound : Bound) → is_nil bound.steps ≡ true → relaxed_limit bound.first (merged_problem x y bound.first) ≡ merge_limit x y bound
+begun-limit x y bound none = ap (λ b. if b then relaxed_limit bound.first (merged_problem x y bound.first) else None) (sym none)
+
+pub no-limit : (x y : ℕ) (bound : Bound) → is_nil bound.steps ≡ false → merge_limit x y bound ≡ None
+no-limit x y bound some = ap (λ b. if b then relaxed_limit bound.first (merged_problem x y bound.first) else None) some
+
+-- the last problem of a chain without steps is the first one
+pub begun-last : (P : NamedProblem → Type 0) (bound : Bound) → is_nil bound.steps ≡ true → P (last_problem bound) → P bound.first
+begun-last P bound none held = subst (λ steps. P (last_or bound.first (next_problems steps))) (nil_of bound.steps none) held
 
 -- ---- labels that go
 -- what is known where dropping isn't refused

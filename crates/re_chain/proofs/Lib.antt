@@ -1,6 +1,9 @@
 pub mod ChangedLast
+pub mod DerivedRelaxations
 pub mod DroppedParts
 pub mod DroppedSteps
+pub mod FirstSteps
+pub mod ImagesOfRows
 pub mod LastSteps
 pub mod Laws
 pub mod LeftEntries
@@ -8,7 +11,9 @@ pub mod MergedSteps
 pub mod NamedProblems
 pub mod NamedSteps
 pub mod NewNames
+pub mod OrderedBounds
 pub mod RelaxedSteps
 pub mod StepsAlong
 pub mod StableSorts
 pub mod TidiedBounds
+pub mod ValidOrders

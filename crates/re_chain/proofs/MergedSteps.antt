@@ -70,7 +70,7 @@ module _ (x y : ℕ) (named : NamedProblem) (m : y < length named.names) (apart 
         merged-built
 
 -- ---- the step
-count-names : (x : ℕ) (named : NamedProblem) → length (map (λ label. get_or named.names label []) (others x named)) ≡ length (others x named)
+pub count-names : (x : ℕ) (named : NamedProblem) → length (map (λ label. get_or named.names label []) (others x named)) ≡ length (others x named)
 count-names x named = length-map' (λ label. get_or named.names label []) (others x named)
 
 pub merge-keeps : (kind : Kind) (x y : ℕ) (before : NamedProblem) (s : BoundStep) → is_lower kind ≡ true → y < length s.next.names → (x ≡ y → ⊥) → IsNamedProblem s.next → Keeps kind before s (merged_step x y s)

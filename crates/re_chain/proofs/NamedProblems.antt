@@ -1,8 +1,8 @@
 -- What makes a problem with names.
-use Rattle.std.proofs.Common.{◌≡◌, ℕ, ◌<◌, Bool, true, false, cond, List, [], ◌∷◌, length, map, get_or, None, Some, refl, sym, subst, arith, zero, suc, inl, inr}
+use Rattle.std.proofs.Common.{◌≡◌, ℕ, ◌<◌, Bool, true, false, cond, List, [], length, map, get_or, None, Some, refl, sym, subst, arith, inl, inr}
 use Rattle.std.specs.Prelude.{◌&&◌, ◌||◌}
 use Rattle.re_config.proofs.LeastLabels.{length-set}
-use Rattle.re_labels.proofs.Membership.{AllByRecursion-In, AllByRecursion-from_In, In, In-map_from, all-In, length-map'}
+use Rattle.re_labels.proofs.Membership.{AllByRecursion-In, AllByRecursion-from_In, In-map_from, all-In, length-map'}
 use Rattle.re_labels.proofs.Tests.{or-true}
 use Rattle.re_labels.specs.Lists.{count_from}
 use Rattle.re_labels.specs.Names.{IsName, IsNames}

@@ -27,7 +27,7 @@ label-sent : (image : ℕ → ℕ) (entries : List SetEntry) (k : ℕ) → k < l
 label-sent image entries k l = ap (λ (entry : SetEntry). entry.label) (get_or-map (entry_sent image) entries k (record { set = []; label = 0 }) (record { set = []; label = 0 }) l)
 
 -- ---- the images of labels that a constraint has
-through : (image : ℕ → ℕ) (constraint next : Constraint) (labels : List ℕ) → ((config : List ℕ) → Contains next.configs config → Has constraint (map image config)) → Has next labels → Has constraint (map image labels)
+pub through : (image : ℕ → ℕ) (constraint next : Constraint) (labels : List ℕ) → ((config : List ℕ) → Contains next.configs config → Has constraint (map image config)) → Has next labels → Has constraint (map image labels)
 through image constraint next labels h held = subst (Contains constraint.configs) (sorted_map image labels) (h (sorted labels) held)
 
 module _ (image : ℕ → ℕ) (problem next relaxed : Problem) (rows : List (List (List ℕ))) (is : IsRelaxed next relaxed image) where

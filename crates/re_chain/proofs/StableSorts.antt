@@ -1,10 +1,11 @@
 -- A list that was sorted, its ties in their order, is the list in order.
-use Rattle.std.proofs.Common.{◌≡◌, ℕ, suc, ◌<◌, ◌≤◌, Bool, true, false, not, ◌&&◌, cond, List, [], ◌∷◌, length, get_or, refl, sym, ap, ◌∙◌, subst, arith}
-use Rattle.std.proofs.lemmas.List.Sorted.{sorted_far}
+use Rattle.std.proofs.Common.{◌≡◌, ℕ, zero, suc, ◌+◌, ◌<◌, ◌≤◌, Bool, true, false, not, ◌&&◌, cond, List, [], ◌∷◌, length, get_or, refl, sym, ap, ◌∙◌, subst, arith}
+use Rattle.std.proofs.lemmas.List.Sorted.{IsPermutation-cons, IsPermutation-middle, IsPermutation-refl, IsPermutation-trans, sorted_far}
 use Rattle.std.specs.Cmp.{IsStrictWeakOrder}
 use Rattle.std.specs.List.{AllByRecursion}
-use Rattle.std.specs.List.Sorted.{IsSortedBy, IsStableBy, ties}
+use Rattle.std.specs.List.Sorted.{IsPermutation, IsSortedBy, IsStableBy, ties}
 use Rattle.std.specs.Prelude.{filter}
+use Rattle.re_chain.specs.Ordered.{IsInOrder}
 use Rattle.re_chain.specs.Orders.{in_order, inserted}
 
 module _ {X : Type 0} (before : X → X → Bool) (order : IsStrictWeakOrder before) where
@@ -133,3 +134,35 @@ module _ {X : Type 0} (before : X → X → Bool) (order : IsStrictWeakOrder bef
   pub sorted_in_order : (xs ys : List X) → IsSortedBy before ys → IsStableBy before xs ys → ys ≡ in_order before xs
   sorted_in_order xs ys sorted stable =
       same_lists ys (in_order before xs) (up_of ys (sorted_far before order ys sorted)) (up_in_order xs) (λ z. stable z ∙ sym (ties_in_order xs z))
+
+  -- ---- what the list in order is
+  -- no element is before the one in front of it
+  next_up : (xs : List X) → Up xs → (k : ℕ) (d : X) → suc k < length xs → before (get_or xs (suc k) d) (get_or xs k d) ≡ false
+  next_up [] up k d low = absurd (omega arith)
+  next_up (x ∷ []) up k d low = absurd (omega arith)
+  next_up (x ∷ y ∷ ys) up zero d low = up.0.0
+  next_up (x ∷ y ∷ ys) up (suc k) d low = next_up (y ∷ ys) up.1 k d (omega arith)
+
+  sorted_up : (xs : List X) → Up xs → IsSortedBy before xs
+  sorted_up xs up k d low more =
+      let e : suc k ≡ k + 1 = omega arith in
+      let inside : suc k < length xs = omega arith in
+      subst (λ m. before (get_or xs m d) (get_or xs k d) ≡ false) e (next_up xs up k d inside)
+
+  -- the elements are those that there were
+  same_inserted : (x : X) (ys : List X) → IsPermutation (x ∷ ys) (inserted before x ys)
+  same_inserted x [] = IsPermutation-refl (x ∷ [])
+  same_inserted x (y ∷ ys) = go (before y x) (same_inserted x ys)
+    where
+      go : (b : Bool) → IsPermutation (x ∷ ys) (inserted before x ys) → IsPermutation (x ∷ y ∷ ys) (cond b (y ∷ inserted before x ys) (x ∷ y ∷ ys))
+      go true rest =
+          IsPermutation-trans (x ∷ y ∷ ys) (y ∷ x ∷ ys) (y ∷ inserted before x ys) (IsPermutation-middle (x ∷ []) y ys) (IsPermutation-cons y (x ∷ ys) (inserted before x ys) rest)
+      go false rest = IsPermutation-refl (x ∷ y ∷ ys)
+
+  same_in_order : (xs : List X) → IsPermutation xs (in_order before xs)
+  same_in_order [] = IsPermutation-refl []
+  same_in_order (x ∷ xs) =
+      IsPermutation-trans (x ∷ xs) (x ∷ in_order before xs) (inserted before x (in_order before xs)) (IsPermutation-cons x xs (in_order before xs) (same_in_order xs)) (same_inserted x (in_order before xs))
+
+  pub in_order-law : (xs : List X) → IsInOrder before xs (in_order before xs)
+  in_order-law xs = record { same = same_in_order xs; ascends = sorted_up (in_order before xs) (up_in_order xs); stable = ties_in_order xs }

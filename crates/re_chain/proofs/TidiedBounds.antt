@@ -1,5 +1,5 @@
 -- A bound in order is a bound.
-use Rattle.std.proofs.Common.{◌≡◌, ℕ, suc, ◌+◌, Some, None, Bool, true, false, not, ◌&&◌, ◌||◌, cond, List, [], ◌∷◌, ◌++◌, length, map, drop, refl, ap, ◌∙◌, arith, length-append}
+use Rattle.std.proofs.Common.{◌≡◌, ℕ, suc, ◌+◌, Some, None, Bool, true, false, not, ◌&&◌, ◌||◌, cond, List, [], ◌∷◌, length, map, drop, refl, ap, ◌∙◌, arith, length-append}
 use Rattle.std.proofs.lemmas.List.{length-map}
 use Rattle.std.specs.List.{list_all, zip}
 use Rattle.std.specs.Prelude.{◌==◌, if◌then◌else◌, nat_le, nat_lt, slice_index_or}
@@ -75,7 +75,7 @@ all_images p rows images =
     (all-map p (λ (pair : List (List ℕ) × List ℕ). pair.1) (in_order first_row_before (zip rows images)) ∙ all_in_order first_row_before (λ (pair : List (List ℕ) × List ℕ). p pair.1) (zip rows images))
     ∙ all_zipped p rows images
 
-length_images : (rows : List (List (List ℕ))) (images : List (List ℕ)) → length (images_in_order rows images) ≡ length images
+pub length_images : (rows : List (List (List ℕ))) (images : List (List ℕ)) → length (images_in_order rows images) ≡ length images
 length_images rows images =
     length-append (map (λ (pair : List (List ℕ) × List ℕ). pair.1) (in_order first_row_before (zip rows images))) (drop (length rows) images)
     ∙ ap (λ n. n + length (drop (length rows) images)) (length-map (in_order first_row_before (zip rows images)) (λ (pair : List (List ℕ) × List ℕ). pair.1) ∙ length_in_order first_row_before (zip rows images))
@@ -115,7 +115,7 @@ one_form_kept steps =
     ap (λ b. b || list_all (λ (s : BoundStep). not (is_by_row s.map)) (map step_in_order steps)) (forms_kept (λ b. b) steps)
     ∙ ap (λ b. list_all (λ (s : BoundStep). is_by_row s.map) steps || b) (forms_kept not steps)
 
-problems_kept : (steps : List BoundStep) → next_problems (map step_in_order steps) ≡ next_problems steps
+pub problems_kept : (steps : List BoundStep) → next_problems (map step_in_order steps) ≡ next_problems steps
 problems_kept [] = refl
 problems_kept (s ∷ steps) = ap (λ l. s.next ∷ l) (problems_kept steps)
 

@@ -3,5 +3,7 @@ pub mod Merging
 pub mod Dropping
 pub mod Naming
 pub mod Laws
+pub mod Ordered
 pub mod Orders
+pub mod Relaxing
 pub mod Tidied

@@ -1,21 +1,28 @@
 //! Two labels of the last problem become one.
 ghost use Rattle.re_chain.specs.Chains.{HasLabelsBelow};
-ghost use Rattle.re_chain.specs.Merging.{merge_numbers, merge_refusal, merged, merged_label, merged_problem, merged_step};
+ghost use Rattle.re_cert.specs.Bounds.{is_bound};
+ghost use Rattle.re_chain.specs.Merging.{first_merged, merge_limit, merge_numbers, merge_refusal, merged, merged_label, merged_problem, merged_step};
+ghost use Rattle.re_chain.specs.Relaxing.{relaxed_limit};
 ghost use Rattle.re_chain.specs.declared.refusal.Refusal.{Refusal};
+ghost use Rattle.re_chain_parts.specs.Chains.{chain_with};
 ghost use Rattle.re_changes.specs.Renumbering.{number_among};
+ghost use Rattle.re_items.specs.Steps.{is_nil};
 ghost use Rattle.re_labels.specs.Lists.{count_from};
 ghost use Rattle.re_labels.specs.Sets.{without_label};
-ghost use Rattle.std.specs.Prelude.{◌≡◌, ◌≢◌, ◌<◌, ◌≤◌, Err, IfOk, None, Some, length, map};
+ghost use Rattle.re_step.specs.declared.derivation.StepLimit.{StepLimit as Passed};
+ghost use Rattle.std.specs.Prelude.{◌≡◌, ◌≢◌, ◌<◌, ◌≤◌, ◌∷◌, [], Err, IfOk, None, Some, false, length, map, true};
 
 use crate::last_step::with_last;
-use crate::refusal::{ChainFault, Refusal};
+use crate::refusal::{MergeFault, Refusal};
+use crate::relaxing::relaxed_step;
 use crate::sending::step_along;
 use arrayvec::ArrayVec;
 use re_cert::{Certificate, Kind, Step};
-use re_chain_parts::over_problems;
+use re_chain_parts::{chain_kind, over_problems};
 use re_changes::{number_among, renumbered};
 use re_labels::{MAX_LABELS, NoMemory};
 use re_problem::Problem;
+use re_step::StepFault;
 use std::alloc::Global;
 
 // All labels below this number but the one.
@@ -107,9 +114,6 @@ fn merge_refusal(certificate: &Certificate, from: u8, to: u8) -> Option<Refusal>
     if certificate.kind() == Kind::Upper {
         return Some(Refusal::NotLower);
     }
-    if certificate.steps().is_empty() {
-        return Some(Refusal::NoStep);
-    }
     let labels = certificate.last().names().len();
     if from as usize >= labels {
         return Some(Refusal::NotALabel(from));
@@ -123,14 +127,15 @@ fn merge_refusal(certificate: &Certificate, from: u8, to: u8) -> Option<Refusal>
     None
 }
 
-// The same where it isn't refused.
-fn merged(
+// The chain with the one label in place of the other in its last problem, where it has a step.
+fn merged_last(
     alloc: Global,
     certificate: &Certificate,
     from: u8,
     to: u8,
 ) -> Result<Certificate, NoMemory>
-    requires { merge_refusal from to certificate.now ≡ None }
+    requires may { merge_refusal from to certificate.now ≡ None }
+    requires some { is_nil certificate.now.steps ≡ false }
     ensures { IfOk result (λ chain. chain ≡ merged from to certificate.now) }
 {
     over_problems(certificate);
@@ -139,24 +144,84 @@ fn merged(
     with_last(alloc, certificate, last)
 }
 
+// The step from the problem to the derived problem of the one with the one label in place of the other.
+fn first_merged(alloc: Global, problem: &Problem, from: u8, to: u8) -> Result<Step, StepFault>
+    requires from { from < length problem.now.names }
+    requires to { to < length problem.now.names }
+    requires apart { from ≢ to }
+    ensures step { IfOk result (λ s. s ≡ first_merged from to problem.now) }
+    ensures none { IfOk result (λ _. relaxed_limit problem.now (merged_problem from to problem.now) ≡ None) }
+    ensures limit { (limit : Passed) → result ≡ Err (StepFault.Limit limit) → relaxed_limit problem.now (merged_problem from to problem.now) ≡ Some limit }
+{
+    let numbers = merge_numbers(problem, from, to);
+    let merged = merged_problem(alloc, problem, from, to, numbers.as_slice())?;
+    relaxed_step(alloc, problem, &merged, numbers.as_slice())
+}
+
+// The chain of one step from this first problem.
+fn begun(alloc: Global, kind: Kind, first: &Problem, step: Step) -> Result<Certificate, NoMemory>
+    requires { is_bound (chain_with kind first.now (step ∷ [])) ≡ true }
+    ensures { IfOk result (λ chain. chain ≡ chain_with kind first.now (step ∷ [])) }
+{
+    let first = first.copy()?;
+    let mut steps = Vec::new(alloc);
+    steps.push(step)?;
+    match Certificate::build(chain_kind(kind), 0, first, steps, Vec::new(alloc)) {
+        Some(chain) => Ok(chain),
+        None => unreachable!(),
+    }
+}
+
+// The chain with a step to the derived problem of the merged first problem, where it has none.
+fn merged_first(
+    alloc: Global,
+    certificate: &Certificate,
+    from: u8,
+    to: u8,
+) -> Result<Certificate, StepFault>
+    requires may { merge_refusal from to certificate.now ≡ None }
+    requires none { is_nil certificate.now.steps ≡ true }
+    ensures merged { IfOk result (λ chain. chain ≡ merged from to certificate.now) }
+    ensures none { IfOk result (λ _. merge_limit from to certificate.now ≡ None) }
+    ensures limit { (limit : Passed) → result ≡ Err (StepFault.Limit limit) → merge_limit from to certificate.now ≡ Some limit }
+{
+    over_problems(certificate);
+    let step = first_merged(alloc, certificate.first(), from, to)?;
+    Ok(begun(alloc, certificate.kind(), certificate.first(), step)?)
+}
+
 /// The chain in whose last problem `from` has become `to`: the label `from` is no more, the other labels keep their names, and the map
-/// of the last step is sent along. A fixed point is taken as the lower bound with its steps.
+/// of the last step is sent along. A chain without steps gets one, from its first problem to the derived problem of the one in which `from`
+/// has become `to`: each maximal row goes, place by place, to the first maximal row of that problem that dominates its image. A fixed point
+/// is taken as the lower bound with its steps.
 ///
-/// It is refused, in this order, where the chain isn't lower, has no step, where `from` or `to` is no label of the last problem, and
-/// where they are the same. It sorts the images of the configurations of the last problem, and copies the rest.
+/// It is refused, in this order, where the chain isn't lower, where `from` or `to` is no label of the last problem, and where they are the
+/// same. Without a step comes the limit then that the new one passes: of the maximal rows of the first problem, or one of the derived
+/// problem. It sorts the images of the configurations of the last problem, and copies the rest; without a step it costs what `relaxed_step` costs.
 pub fn merge(
     alloc: Global,
     certificate: &Certificate,
     from: u8,
     to: u8,
-) -> Result<Certificate, ChainFault>
+) -> Result<Certificate, MergeFault>
     ensures merged { IfOk result (λ chain. chain ≡ merged from to certificate.now) }
     ensures may { IfOk result (λ _. merge_refusal from to certificate.now ≡ None) }
-    ensures refused { (refusal : Refusal) → result ≡ Err (ChainFault.Refused refusal) → merge_refusal from to certificate.now ≡ Some refusal }
+    ensures within { IfOk result (λ _. merge_limit from to certificate.now ≡ None) }
+    ensures refused { (refusal : Refusal) → result ≡ Err (MergeFault.Refused refusal) → merge_refusal from to certificate.now ≡ Some refusal }
+    ensures limit { (limit : Passed) → result ≡ Err (MergeFault.Limit limit) → (merge_refusal from to certificate.now ≡ None) × (merge_limit from to certificate.now ≡ Some limit) }
 {
     if let Some(refusal) = merge_refusal(certificate, from, to) {
-        return Err(ChainFault::Refused(refusal));
+        return Err(MergeFault::Refused(refusal));
     }
-    let merged = merged(alloc, certificate, from, to)?;
-    Ok(merged)
+    if !certificate.steps().is_empty() {
+        return match merged_last(alloc, certificate, from, to) {
+            Ok(merged) => Ok(merged),
+            Err(NoMemory) => Err(MergeFault::NoMemory),
+        };
+    }
+    match merged_first(alloc, certificate, from, to) {
+        Ok(merged) => Ok(merged),
+        Err(StepFault::Limit(limit)) => Err(MergeFault::Limit(limit)),
+        Err(StepFault::NoMemory) => Err(MergeFault::NoMemory),
+    }
 }

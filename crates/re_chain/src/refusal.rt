@@ -2,6 +2,7 @@
 ghost use Rattle.std.specs.Prelude.{◌≡◌};
 
 use re_labels::NoMemory;
+use re_step::StepLimit;
 
 /// Why a change of the last problem of a chain is refused.
 #[derive(Clone, Copy, Debug, PartialEq, Eq)]
@@ -37,4 +38,15 @@ impl From<NoMemory> for ChainFault {
     fn from(_: NoMemory) -> Self {
         ChainFault::NoMemory
     }
+}
+
+/// Why labels of a chain aren't merged.
+#[derive(Clone, Copy, Debug, PartialEq, Eq)]
+pub enum MergeFault {
+    /// It is refused.
+    Refused(Refusal),
+    /// The step to the derived problem of the merged first problem passes this limit.
+    Limit(StepLimit),
+    /// There was no memory.
+    NoMemory,
 }

@@ -1,3 +1,4 @@
+pub mod MergesGiven
 pub mod NamesGiven
 pub mod Places
 pub mod WordsSay

@@ -10,9 +10,10 @@ use Rattle.re_frame.specs.Runs.{MaySay}
 use Rattle.re_chain.specs.declared.refusal.Refusal.{Refusal}
 use Rattle.re_chain_steps.specs.declared.stepping.ChainStepFault.{ChainStepFault}
 use Rattle.re_chain_steps.specs.declared.stepping.ChainStepFault.TheVariants.{Limit, NoMemory, TooManySteps}
+use Rattle.re_step.specs.declared.derivation.StepLimit.{StepLimit}
 use Rattle.re_chain_texts.proofs.WordsGiven.{certificate_says, or_fault_says, over_any_says, over_sound_says}
 use Rattle.re_chain_words.specs.Answers.{begin_outcome, is_judging, last_outcome, or_stop, shaped_outcome, step_outcome, tidy_outcome, word_outcome}
-use Rattle.re_chain_words.specs.Shapings.{drop_outcome, merge_outcome, name_outcome, or_line}
+use Rattle.re_chain_words.specs.Shapings.{drop_outcome, merge_outcome, name_outcome, or_line, or_merge_line}
 use Rattle.re_chain_words.specs.declared.words.ChainWord.{ChainWord}
 use Rattle.re_chain_words.specs.declared.words.ChainWord.TheVariants.{Begin, Last, Shape, Tidy}
 use Rattle.re_chain_words.specs.declared.words.Shaping.{Shaping}
@@ -28,10 +29,15 @@ or_line_says : (line : Refusal → List ℕ) (refusal : Option Refusal) (chain :
 or_line_says line (Some refusal) chain = refl
 or_line_says line None chain = certificate_says chain true
 
+or_merge_line_says : (line : Refusal → List ℕ) (refusal : Option Refusal) (passed : Option StepLimit) (chain : Bound) → MaySay (or_merge_line line refusal passed chain).status true
+or_merge_line_says line (Some refusal) passed chain = refl
+or_merge_line_says line None (Some passed) chain = tt
+or_merge_line_says line None None chain = certificate_says chain true
+
 shaped_says : (shaping : Shaping) (chain : Bound) → MaySay (shaped_outcome shaping chain).status true
 unfolding step_outcome merge_outcome name_outcome drop_outcome
 shaped_says Step chain = or_stop_says _ _ _
-shaped_says (Merge x y) chain = or_line_says _ _ _
+shaped_says (Merge x y) chain = or_merge_line_says _ _ _ _
 shaped_says (Name x y) chain = or_line_says _ _ _
 shaped_says (Drop x) chain = or_line_says _ _ _
 

@@ -2,9 +2,11 @@
 use Rattle.std.specs.Prelude.{ℕ, ◌==◌, List, ◌++◌, codes, if◌then◌else◌, Option, None, Some}
 use Rattle.re_labels.specs.Lists.{place_of}
 use Rattle.re_cert.specs.Bounds.{Bound, last_problem}
-use Rattle.re_frame.specs.Outcomes.{Outcome, refused}
+use Rattle.re_frame.specs.Outcomes.{Outcome, limit, refused}
+use Rattle.re_frame.specs.StepLimits.{limit_line}
+use Rattle.re_step.specs.declared.derivation.StepLimit.{StepLimit}
 use Rattle.re_chain.specs.Dropping.{drop_refusal, dropped}
-use Rattle.re_chain.specs.Merging.{merge_refusal, merged}
+use Rattle.re_chain.specs.Merging.{merge_limit, merge_refusal, merged}
 use Rattle.re_chain.specs.Naming.{name_refusal, named}
 use Rattle.re_chain.specs.declared.refusal.Refusal.{Refusal}
 use Rattle.re_chain.specs.declared.refusal.Refusal.TheVariants.{NotALabel, NotLower, NotUpper, NoStep, Same, Taken}
@@ -30,10 +32,17 @@ abbrev pub or_line : (Refusal → List ℕ) → Option Refusal → Bound → Out
 or_line line (Some refusal) chain = refused (line refusal)
 or_line line None chain = certificate_outcome chain
 
+-- the line of a refusal, else that of a limit of the first step, and where there is neither the text of the chain
+abbrev pub or_merge_line : (Refusal → List ℕ) → Option Refusal → Option StepLimit → Bound → Outcome
+or_merge_line line (Some refusal) passed chain = refused (line refusal)
+or_merge_line line None (Some passed) chain = limit (limit_line 1 passed)
+or_merge_line line None None chain = certificate_outcome chain
+
 -- the chain with y in place of x
 unfoldable pub merge_outcome : LabelWord → LabelWord → Bound → Outcome
 merge_outcome x y chain =
-    or_line (refusal_line x y (label_in chain x)) (merge_refusal (label_in chain x) (label_in chain y) chain) (merged (label_in chain x) (label_in chain y) chain)
+    or_merge_line (refusal_line x y (label_in chain x)) (merge_refusal (label_in chain x) (label_in chain y) chain) (merge_limit (label_in chain x) (label_in chain y) chain)
+    (merged (label_in chain x) (label_in chain y) chain)
 
 -- the chain with the name y for x
 unfoldable pub name_outcome : LabelWord → LabelWord → Bound → Outcome

@@ -15,7 +15,9 @@ ghost use Rattle.std.specs.Prelude.{◌≡◌, ◌++◌, IfOk, codes, length, su
 use crate::labels::{LabelWord, push_given};
 use crate::words::Shaping;
 use re_cert::Certificate;
-use re_chain::{ChainFault, Refusal, drop_label, drop_law, merge, merge_law, name_label, name_law};
+use re_chain::{
+    ChainFault, MergeFault, Refusal, drop_label, drop_law, merge, merge_law, name_label, name_law,
+};
 use re_chain_steps::{ChainStepFault, step, step_law};
 use re_chain_texts::certificate_output;
 use re_frame::{Answer, Output, begun, limit_output, push_words, refused};
@@ -79,7 +81,8 @@ fn refusal_output(
     Ok(refused(refusal_text(alloc, first, second, from, refusal)?))
 }
 
-// The chain in whose last problem the first label has become the second, or why not.
+// The chain in whose last problem the first label has become the second, or, without a step, with one to the derived problem of the merged first
+// problem; or why not.
 #[tactic(auto, unfolding(crate::specs::Shapings::merge_outcome))]
 fn merge_output(
     alloc: Global,
@@ -96,8 +99,9 @@ fn merge_output(
     let to = label_in(chain, second);
     match merge(alloc, chain, from, to) {
         Ok(merged) => certificate_output(alloc, &merged),
-        Err(ChainFault::Refused(refusal)) => refusal_output(alloc, first, second, from, refusal),
-        Err(ChainFault::NoMemory) => Err(NoMemory),
+        Err(MergeFault::Refused(refusal)) => refusal_output(alloc, first, second, from, refusal),
+        Err(MergeFault::Limit(passed)) => limit_output(alloc, 1, passed),
+        Err(MergeFault::NoMemory) => Err(NoMemory),
     }
 }
 

@@ -5,7 +5,7 @@ use Rattle.re_table.specs.declared.constraint_table.TheConstants.{MAX_CONFIGURAT
 use Rattle.re_problem.specs.Problems.{Problem}
 use Rattle.re_closure_laws.specs.Closures.{AreClosure}
 use Rattle.re_closure_laws.specs.Lines.{Family, below}
-use Rattle.re_closure_lines.specs.ProblemFamilies.{HasManySide}
+use Rattle.re_closure_lines.specs.ProblemFamilies.{HasManySide, HasManySideCombinations}
 use Rattle.re_config.specs.declared.TheConstants.{MAX_ROWS}
 use Rattle.re_closure.specs.declared.types.ClosureLimit.{ClosureLimit}
 use Rattle.re_closure.specs.declared.types.ClosureLimit.TheVariants.{Combinations, Configurations, Labels, Rows, Steps}
@@ -35,11 +35,11 @@ pub record HasManyConfigurations (problem : Problem) : Type 0 where
   pub labels : length passive.sets ≤ MAX_LABELS
   pub many : MAX_CONFIGURATIONS < length (below passive).configs ⊎ MAX_CONFIGURATIONS < length (below active).configs
 
--- what a limit says of the problem: on the way to its closure too many lines, of which none dominates another, come from its own; its closure has too many
--- labels, or configurations; the number of combinations says nothing of it
+-- what a limit says of the problem: on the way to its closure too many lines, of which none dominates another, come from its own; its lines, and the
+-- combinations of those that come from them, are too many; its closure has too many labels, or configurations
 abbrev pub PassesLimit : Problem → ClosureLimit → Type 0
 PassesLimit problem Rows = HasManySide problem
-PassesLimit problem Combinations = Unit {0}
+PassesLimit problem Combinations = HasManySideCombinations problem
 PassesLimit problem (Labels count) = HasManyLabels problem count
 PassesLimit problem Configurations = HasManyConfigurations problem
 PassesLimit problem Steps = ⊥

@@ -26,7 +26,6 @@ use Rattle.re_boxes.proofs.BoxLaw.{same_shape}
 use Rattle.re_closure_lines.proofs.Places.{has_before, has_either, has_last}
 use Rattle.re_closure_lines.specs.Combining.{AreAllOf, IsCombination}
 use Rattle.re_closure_lines.specs.declared.topmost.LinesFault.{LinesFault}
-use Rattle.re_closure_lines.specs.declared.topmost.LinesFault.TheVariants.{TooManyLines}
 use Rattle.re_closure_lines.specs.Kept.{AreOfLength, AreOffered, AreSettled, AreSettledBefore, AreUnrelated, HasManyLines, IsAntichain, IsCovered, IsKept, IsTaken}
 
 -- ---- a list by its first elements
@@ -359,6 +358,6 @@ taken xs left i x low is e = subst (IsTaken xs x) (sym e) (record {
 })
 
 -- ---- faults
-pub err_is : {X : Type 0} (r : Result X LinesFault) (fault : LinesFault) → IsErrAnd r (λ e. e ≡ fault) → r ≡ Err TooManyLines → fault ≡ TooManyLines
-err_is (Ok x) fault gives e = cc
-err_is {X} (Err f) fault gives e = let same : f ≡ TooManyLines = cc in sym gives ∙ same
+pub err_is : {X : Type 0} (r : Result X LinesFault) (fault wanted : LinesFault) → IsErrAnd r (λ e. e ≡ fault) → r ≡ Err wanted → fault ≡ wanted
+err_is (Ok x) fault wanted gives e = cc
+err_is {X} (Err f) fault wanted gives e = let same : f ≡ wanted = cc in sym gives ∙ same

@@ -1,5 +1,6 @@
 mod Places
 mod Dominations
 mod Combinations
+mod Counting
 mod Keeping
 mod NeededSets

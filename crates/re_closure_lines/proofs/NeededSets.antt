@@ -17,12 +17,12 @@ use Rattle.re_closure_laws.proofs.Generated.{active_first, passive_first}
 use Rattle.re_problem.specs.NamedProblems.{NamedProblem, unnamed}
 use Rattle.re_problem.specs.Problems.{IsProblem}
 use Rattle.re_table.specs.Strength.{up_set}
-use Rattle.re_closure_lines.specs.Kept.{AreOfLength, HasManyLines}
+use Rattle.re_closure_lines.specs.Kept.{AreOfLength, HasManyCombinations, HasManyLines}
 use Rattle.re_labels.specs.Sets.{has, number, with_label}
 use Rattle.re_closure_laws.specs.Closures.{AreClosure, AreTopmost, down_lines, up_lines}
 use Rattle.re_closure_laws.specs.Lines.{others, up}
 use Rattle.re_closure_lines.proofs.Places.{has_before, has_either, has_last}
-use Rattle.re_closure_lines.specs.ProblemFamilies.{HasManySide, IsNeeded}
+use Rattle.re_closure_lines.specs.ProblemFamilies.{HasManySide, HasManySideCombinations, IsNeeded}
 
 -- ---- all other labels
 with_label-last : (s : List ℕ) (x : ℕ) → AllByRecursion (λ y. y < x) s → with_label s x ≡ s ++ x ∷ []
@@ -191,6 +191,15 @@ module _ (problem : NamedProblem) (ups left : List (List ℕ)) (starts downs : L
   pub many_active : ((d : ℕ) → AreOfLength d downs → HasManyLines d downs) → HasManySide (unnamed problem)
   many_active many =
       inr (subst (HasManyLines problem.active.degree) downs_are (many problem.active.degree (λ line h. (active_first (unnamed problem) is line (subst (λ l. Contains l line) downs_are h)).0)))
+
+  -- lines and combinations that are too many, of one side
+  pub full_passive : ((d : ℕ) → AreOfLength d starts → HasManyCombinations d starts) → HasManySideCombinations (unnamed problem)
+  full_passive full =
+      inl (subst (HasManyCombinations problem.passive.degree) starts_are (full problem.passive.degree (λ line h. (passive_first (unnamed problem) is line (subst (λ l. Contains l line) starts_are h)).0)))
+
+  pub full_active : ((d : ℕ) → AreOfLength d downs → HasManyCombinations d downs) → HasManySideCombinations (unnamed problem)
+  full_active full =
+      inr (subst (HasManyCombinations problem.active.degree) downs_are (full problem.active.degree (λ line h. (active_first (unnamed problem) is line (subst (λ l. Contains l line) downs_are h)).0)))
 
   -- the families are the closure
   pub closure_is : (passive active : List (List (List ℕ))) (sets : List (List ℕ)) → ((d : ℕ) → AreOfLength d starts → AreTopmost d starts passive) → ((d : ℕ) → AreOfLength d downs → AreTopmost d downs active)

@@ -1,5 +1,6 @@
 -- Lines that are kept, and lines that wait.
-use Rattle.std.specs.Prelude.{◌≡◌, ℕ, ◌<◌, ◌⊎◌, List, [], ◌∷◌, length, Contains}
+use Rattle.std.specs.Prelude.{◌≡◌, ℕ, zero, suc, ◌+◌, ◌*◌, ◌<◌, ◌≤◌, ◌⊎◌, List, [], ◌∷◌, length, Contains}
+use Rattle.re_config.specs.Orders.{factorial}
 use Rattle.re_config.specs.Rearranging.{Rearranged}
 use Rattle.re_config.specs.Rows.{Dominates, combined}
 use Rattle.re_config.specs.declared.TheConstants.{MAX_ROWS}
@@ -7,6 +8,7 @@ use Rattle.re_table.specs.GoodRows.{IsDominated}
 use Rattle.re_closure_laws.specs.Closures.{IsGenerated}
 use Rattle.re_closure_laws.specs.Lines.{AreApart}
 use Rattle.re_closure_lines.specs.Combining.{IsCombination}
+use Rattle.re_closure_lines.specs.declared.topmost.TheConstants.{MAX_COMBINATIONS}
 
 -- all lines are of d sets
 abbrev pub AreOfLength : ℕ → List (List (List ℕ)) → Type 0
@@ -27,6 +29,28 @@ pub record HasManyLines (d : ℕ) (starts : List (List (List ℕ))) : Type 0 whe
   pub generated : (line : List (List ℕ)) → Contains lines line → IsGenerated d starts line
   pub unrelated : IsAntichain lines
   pub many : MAX_ROWS < length lines
+
+-- no line is another one in another order
+abbrev pub AreDifferent : List (List (List ℕ)) → Type 0
+AreDifferent [] = Unit {0}
+AreDifferent (line ∷ lines) = ((other : List (List ℕ)) → Contains lines other → Rearranged line other → ⊥) × AreDifferent lines
+
+-- how many pairs n lines make, where each makes one with itself too
+abbrev pub pairs_of : ℕ → ℕ
+pairs_of zero = 0
+pairs_of (suc n) = pairs_of n + suc n
+
+-- how many combinations two lines of d sets have: one for each place, in each order of the second line's sets
+abbrev pub combinations_of : ℕ → ℕ
+combinations_of d = d * factorial d
+
+-- so many different lines come from the starts by combinations that the starts, and the combinations of two of these lines or of one with itself, are
+-- more than `MAX_COMBINATIONS`
+pub record HasManyCombinations (d : ℕ) (starts : List (List (List ℕ))) : Type 0 where
+  pub lines : List (List (List ℕ))
+  pub generated : (line : List (List ℕ)) → Contains lines line → IsGenerated d starts line
+  pub different : AreDifferent lines
+  pub many : MAX_COMBINATIONS < length starts + pairs_of (length lines) * combinations_of d
 
 -- a kept line or one that waits dominates the line
 abbrev pub IsCovered : List (List (List ℕ)) → List (List (List ℕ)) → List (List ℕ) → Type 0
@@ -61,3 +85,13 @@ pub record AreSettledBefore (kept : List (List (List ℕ))) (line : List (List �
 
 abbrev pub AreSettled : List (List (List ℕ)) → List (List ℕ) → List (List (List ℕ)) → List (List (List ℕ)) → Type 0
 AreSettled kept line old new = AreSettledBefore kept line kept old new
+
+-- lines that were settled, so many of which were looked at: different ones that come from the starts, each of them dominated by a kept one; as many as the
+-- kept ones at least; and those that were looked at and those that wait are no more than the starts and the combinations of these lines
+pub record IsCounted (d : ℕ) (starts kept waiting : List (List (List ℕ))) (looked : ℕ) : Type 0 where
+  pub lines : List (List (List ℕ))
+  pub generated : (line : List (List ℕ)) → Contains lines line → IsGenerated d starts line
+  pub different : AreDifferent lines
+  pub covered : (line : List (List ℕ)) → Contains lines line → IsDominated kept line
+  pub few : length kept ≤ length lines
+  pub count : looked + length waiting ≤ length starts + pairs_of (length lines) * combinations_of d

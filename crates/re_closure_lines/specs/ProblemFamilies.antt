@@ -4,7 +4,7 @@ use Rattle.re_problem.specs.NamedProblems.{NamedProblem}
 use Rattle.re_problem.specs.Problems.{Problem}
 use Rattle.re_closure_laws.specs.Closures.{Occurs, down_lines, up_lines}
 use Rattle.re_closure_laws.specs.Lines.{Family, others}
-use Rattle.re_closure_lines.specs.Kept.{HasManyLines}
+use Rattle.re_closure_lines.specs.Kept.{HasManyCombinations, HasManyLines}
 use Rattle.re_closure_lines.specs.declared.families.Families.{Families}
 
 -- the lines of the passive side, with the sets
@@ -22,3 +22,7 @@ IsNeeded n passive active set = Occurs passive set ⊎ ((other : List ℕ) × Oc
 -- on one of the two sides more than `MAX_ROWS` lines, of which none dominates another, come from the lines of the problem by combinations
 abbrev pub HasManySide : Problem → Type 0
 HasManySide problem = HasManyLines problem.passive.degree (up_lines problem) ⊎ HasManyLines problem.active.degree (down_lines problem)
+
+-- on one of the two sides the lines of the problem and the combinations of those that come from them are more than `MAX_COMBINATIONS`
+abbrev pub HasManySideCombinations : Problem → Type 0
+HasManySideCombinations problem = HasManyCombinations problem.passive.degree (up_lines problem) ⊎ HasManyCombinations problem.active.degree (down_lines problem)

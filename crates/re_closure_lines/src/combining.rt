@@ -1,8 +1,10 @@
 //! The combinations of two lines that neither dominates.
+ghost use Rattle.re_config.specs.Orders.{factorial};
 ghost use Rattle.re_config.specs.Rearranging.{Rearranged};
 ghost use Rattle.re_closure_lines.specs.Combining.{AreAllAgainst, AreAllAt, AreAllOf, AreMeetings};
 ghost use Rattle.re_labels.specs.Sets.{IsWithin};
-ghost use Rattle.std.specs.Prelude.{◌≡◌, ◌<◌, ◌≤◌, ◌+◌, ◌∷◌, ◌⊎◌, IfOk, IsTrue, OnOk, length};
+ghost use Rattle.re_closure_lines.specs.Kept.{combinations_of};
+ghost use Rattle.std.specs.Prelude.{◌≡◌, ◌<◌, ◌≤◌, ◌+◌, ◌-◌, ◌∷◌, ◌⊎◌, IfOk, IsTrue, OnOk, length};
 
 use crate::dominating::{is_again, without};
 use crate::line::SetLine;
@@ -44,7 +46,8 @@ fn push_meets(
 ) -> Result<(), NoMemory>
     requires six { length chosen.now + length rest.now ≤ 6 }
     requires alike { length left.now ≡ length rest.now }
-    ensures { OnOk result (AreMeetings chosen.now rest.now left.now found.old.items found.new.items) }
+    ensures all { OnOk result (AreMeetings chosen.now rest.now left.now found.old.items found.new.items) }
+    ensures few { OnOk result (length found.new.items ≤ length found.old.items + factorial (length left.now)) }
 {
     let [first, others @ ..] = rest else {
         found.push(SetLine::from_sets(chosen))?;
@@ -82,7 +85,8 @@ fn push_at(
     requires alike { length others.now ≡ length sets.now }
     requires place { place < length sets.now }
     requires against { against < length others.now }
-    ensures { OnOk result (AreAllAt sets.now others.now place against found.old.items found.new.items) }
+    ensures all { OnOk result (AreAllAt sets.now others.now place against found.old.items found.new.items) }
+    ensures few { OnOk result (length found.new.items ≤ length found.old.items + factorial (length sets.now - 1)) }
 {
     let set = sets[place];
     let other = others[against];
@@ -105,7 +109,8 @@ fn push_against(
     requires six { length sets.now ≤ 6 }
     requires alike { length others.now ≡ length sets.now }
     requires place { place < length sets.now }
-    ensures { OnOk result (AreAllAgainst sets.now others.now place found.old.items found.new.items) }
+    ensures all { OnOk result (AreAllAgainst sets.now others.now place found.old.items found.new.items) }
+    ensures few { OnOk result (length found.new.items ≤ length found.old.items + factorial (length sets.now)) }
 {
     for against in 0..others.len() {
         if !is_again(others, against) {
@@ -123,7 +128,8 @@ pub(crate) fn combinations(
     other: &SetLine,
 ) -> Result<Vec<SetLine>, NoMemory>
     requires { length other.now ≡ length line.now }
-    ensures { IfOk result (λ found. AreAllOf line.now other.now found.items) }
+    ensures all { IfOk result (λ found. AreAllOf line.now other.now found.items) }
+    ensures few { IfOk result (λ found. length found.items ≤ combinations_of (length line.now)) }
 {
     let mut found = Vec::new(alloc);
     let sets = line.sets();

@@ -7,7 +7,7 @@ ghost use Rattle.re_labels.specs.declared.TheConstants.{MAX_LABELS};
 ghost use Rattle.re_closure_laws.specs.Closures.{AreClosure};
 ghost use Rattle.re_closure_laws.specs.Lines.{others};
 ghost use Rattle.re_problem.specs.NamedProblems.{unnamed};
-ghost use Rattle.re_closure_lines.specs.ProblemFamilies.{HasManySide, IsNeeded, active_family, passive_family};
+ghost use Rattle.re_closure_lines.specs.ProblemFamilies.{HasManySide, HasManySideCombinations, IsNeeded, active_family, passive_family};
 ghost use Rattle.std.specs.List.Sorted.{IsNonDecreasingBy, IsPermutation};
 ghost use Rattle.std.specs.Prelude.{◌≡◌, ◌<◌, ◌≤◌, ◌↔◌, ◌++◌, Contains, Err, IfOk, List, flat_map, length, map, ℕ};
 
@@ -161,6 +161,7 @@ pub fn closure_families(alloc: Global, problem: &Problem) -> Result<Families, Li
     ensures few_passive { IfOk result (λ families. length families.passive.items ≤ MAX_ROWS) }
     ensures few_active { IfOk result (λ families. length families.active.items ≤ MAX_ROWS) }
     ensures many { result ≡ Err LinesFault.TooManyLines → HasManySide (unnamed problem.now) }
+    ensures full { result ≡ Err LinesFault.TooManyCombinations → HasManySideCombinations (unnamed problem.now) }
 {
     let labels = problem.names().len() as u8;
     let ups = re_rests::up_sets(problem.passive(), labels);

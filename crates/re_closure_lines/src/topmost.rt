@@ -2,8 +2,9 @@
 ghost use Rattle.re_config.specs.Rows.{Dominates};
 ghost use Rattle.re_config.specs.declared.TheConstants.{MAX_ROWS};
 ghost use Rattle.re_closure_laws.specs.Closures.{AreTopmost};
-ghost use Rattle.re_closure_lines.specs.Kept.{AreOfLength, AreOffered, AreSettled, HasManyLines, IsAntichain, IsKept, IsTaken};
-ghost use Rattle.std.specs.Prelude.{◌≡◌, ◌≢◌, Err, ◌<◌, ◌≤◌, ◌↔◌, Contains, IfOk, List, OnOk, length, ℕ, ◌∷◌};
+ghost use Rattle.re_closure_lines.specs.Kept.{AreOfLength, AreOffered, AreSettled, HasManyCombinations, HasManyLines, IsAntichain, IsCounted, IsKept, IsTaken, combinations_of};
+ghost use Rattle.re_closure_lines.specs.declared.topmost.TheConstants.{MAX_COMBINATIONS};
+ghost use Rattle.std.specs.Prelude.{◌≡◌, ◌≢◌, Err, ◌+◌, ◌*◌, ◌<◌, ◌≤◌, ◌↔◌, Contains, IfOk, List, OnOk, length, ℕ, ◌∷◌};
 
 use crate::combining::combinations;
 use crate::dominating::{dominates, is_dominated};
@@ -20,7 +21,7 @@ pub const MAX_COMBINATIONS: usize = 1_048_576;
 pub enum LinesFault {
     /// More than `re_config::MAX_ROWS` lines, of which none dominates another, would have been kept at a time on the way.
     TooManyLines,
-    /// More than `MAX_COMBINATIONS` combinations waited, or had to be looked at: a bound on the work of the search alone.
+    /// More than `MAX_COMBINATIONS` lines waited, or had to be looked at: the given ones, and combinations of lines that come from them.
     TooManyCombinations,
     /// There was no memory.
     NoMemory,
@@ -85,7 +86,8 @@ fn largest(lines: &[SetLine]) -> usize
 // Takes a line with the most labels from those that wait.
 fn take_largest(waiting: &mut Vec<SetLine>) -> SetLine
     requires { 0 < length waiting.old.items }
-    ensures { IsTaken waiting.old.items result waiting.new.items }
+    ensures taken { IsTaken waiting.old.items result waiting.new.items }
+    ensures count { length waiting.old.items ≡ length waiting.new.items + 1 }
 {
     let place = largest(waiting.as_slice());
     waiting.swap_remove(place)
@@ -95,6 +97,7 @@ fn take_largest(waiting: &mut Vec<SetLine>) -> SetLine
 fn not_below(alloc: Global, lines: &[SetLine], top: &SetLine) -> Result<Vec<SetLine>, NoMemory>
     ensures left { IfOk result (λ left. (line : List (List ℕ)) → Contains left.items line ↔ (Contains lines.now line × (¬ Dominates top.now line))) }
     ensures unrelated { IfOk result (λ left. IsAntichain lines.now → IsAntichain left.items) }
+    ensures few { IfOk result (λ left. length left.items ≤ length lines.now) }
 {
     let mut left = Vec::new(alloc);
     for line in lines {
@@ -108,6 +111,8 @@ fn not_below(alloc: Global, lines: &[SetLine], top: &SetLine) -> Result<Vec<SetL
 // Lets each line that was found wait, unless a kept one dominates it.
 fn offer(kept: &[SetLine], found: &[SetLine], waiting: &mut Vec<SetLine>) -> Result<(), LinesFault>
     ensures offered { OnOk result (AreOffered kept.now found.now waiting.old.items waiting.new.items) }
+    ensures few { OnOk result (length waiting.new.items ≤ length waiting.old.items + length found.now) }
+    ensures full { result ≡ Err LinesFault.TooManyCombinations → MAX_COMBINATIONS < length waiting.old.items + length found.now }
     ensures fault { result ≢ Err LinesFault.TooManyLines }
 {
     for line in found {
@@ -129,6 +134,9 @@ fn offer_combinations(
     waiting: &mut Vec<SetLine>,
 ) -> Result<(), LinesFault>
     ensures settled { OnOk result (AreSettled kept.now line.now waiting.old.items waiting.new.items) }
+    ensures few { OnOk result (length waiting.new.items ≤ length waiting.old.items + length kept.now * combinations_of (length line.now)) }
+    ensures full { result ≡ Err LinesFault.TooManyCombinations
+        → MAX_COMBINATIONS < length waiting.old.items + length kept.now * combinations_of (length line.now) }
     ensures fault { result ≢ Err LinesFault.TooManyLines }
 {
     let length = line.sets().len();
@@ -154,6 +162,11 @@ fn settle(
     ensures unrelated { OnOk result (IsAntichain kept.old.items → IsAntichain kept.new.items) }
     ensures many { result ≡ Err LinesFault.TooManyLines → (d : ℕ) (starts : List (List (List ℕ))) → IsAntichain kept.old.items
         → IsKept d starts kept.old.items (line.now ∷ waiting.old.items) → HasManyLines d starts }
+    ensures counted { OnOk result ((d looked : ℕ) (starts : List (List (List ℕ))) → IsKept d starts kept.old.items (line.now ∷ waiting.old.items)
+        → IsCounted d starts kept.old.items (line.now ∷ waiting.old.items) looked → IsCounted d starts kept.new.items waiting.new.items (looked + 1)) }
+    ensures full { result ≡ Err LinesFault.TooManyCombinations → (d looked : ℕ) (starts : List (List (List ℕ)))
+        → IsKept d starts kept.old.items (line.now ∷ waiting.old.items) → IsCounted d starts kept.old.items (line.now ∷ waiting.old.items) looked
+        → HasManyCombinations d starts }
 {
     if is_dominated(kept.as_slice(), line) {
         return Ok(());
@@ -173,7 +186,8 @@ fn settle(
 ///
 /// `TooManyLines` comes only where more lines than that, of which none dominates another, come from the given ones. Whether these are
 /// met on the way, before lines that dominate them, is the algorithm's: it settles lines with many labels first. `TooManyCombinations`
-/// bounds its work.
+/// comes only where the given lines, and the combinations of two different lines that come from them or of one with itself, are more than
+/// `MAX_COMBINATIONS`. Most such combinations are never looked at, so it is far from coming wherever there are so many.
 ///
 /// The cost is that of the combinations of each line that is kept at some time with those that are kept then, each compared with
 /// the kept ones.
@@ -181,6 +195,7 @@ pub fn topmost_lines(alloc: Global, starts: Vec<SetLine>) -> Result<Vec<SetLine>
     ensures topmost { IfOk result (λ lines. (d : ℕ) → AreOfLength d starts.items → AreTopmost d starts.items lines.items) }
     ensures few { IfOk result (λ lines. length lines.items ≤ MAX_ROWS) }
     ensures many { result ≡ Err LinesFault.TooManyLines → (d : ℕ) → AreOfLength d starts.items → HasManyLines d starts.items }
+    ensures full { result ≡ Err LinesFault.TooManyCombinations → (d : ℕ) → AreOfLength d starts.items → HasManyCombinations d starts.items }
 {
     let mut waiting = starts;
     let mut kept = Vec::new(alloc);
@@ -190,6 +205,9 @@ pub fn topmost_lines(alloc: Global, starts: Vec<SetLine>) -> Result<Vec<SetLine>
         }
         let line = take_largest(&mut waiting);
         settle(alloc, &mut kept, &line, &mut waiting)?;
+    }
+    if waiting.is_empty() {
+        return Ok(kept);
     }
     Err(LinesFault::TooManyCombinations)
 }

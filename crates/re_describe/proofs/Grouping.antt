@@ -1,5 +1,5 @@
 -- The groups of a constraint: none stands twice or dominates another one.
-use Rattle.std.proofs.Common.{◌≡◌, ℕ, ◌<◌, ◌+◌, arith, Bool, true, false, ◌||◌, List, [], ◌∷◌, ◌++◌, length, get_or, refl, sym, ap, ◌∙◌, subst, ◌⊎◌, inl, inr}
+use Rattle.std.proofs.Common.{◌≡◌, ℕ, ◌<◌, ◌+◌, arith, Bool, true, false, ◌||◌, List, [], ◌∷◌, ◌++◌, length, get_or, refl, sym, ap, ◌∙◌, subst, inl, inr}
 use Rattle.std.specs.Prelude.{Contains}
 use Rattle.std.specs.List.{AllByRecursion, IsDistinct}
 use Rattle.std.specs.List.Sorted.{IsPermutation}
@@ -12,7 +12,7 @@ use Rattle.re_config.proofs.Sorting.{sorted-Rearranged, sorted_again}
 use Rattle.re_config.specs.Configs.{IsConfig, sorted}
 use Rattle.re_config.specs.Rows.{Dominates, dominates, singles}
 use Rattle.re_config.specs.declared.TheConstants.{MAX_ROWS}
-use Rattle.re_labels.proofs.Membership.{AllByRecursion-contains, Contains-In, Contains-cases, Contains-here, Contains-later, Contains-none, In-Contains}
+use Rattle.re_labels.proofs.Membership.{AllByRecursion-contains, Contains-In, Contains-cases, Contains-here, Contains-later, Contains-none}
 use Rattle.re_table.proofs.Closure.{Choice-singles}
 use Rattle.re_table.proofs.ClosureLaw.{closure_law}
 use Rattle.re_table.proofs.MaxRows.{max_rows-IsMaximal}
@@ -72,9 +72,6 @@ alone_more constraint rows all row config alone held is more z at = elim (contai
   | inl before ↦ alone z before
   | inr e ↦ (config, held, e ∙ is)
 ]
-
-pub none_alone : (constraint : Constraint) → AreAlone constraint []
-none_alone constraint row held = absurd (Contains-none row held)
 
 -- ---- the groups so far
 pub record TakenFirst (constraint : Constraint) (count : ℕ) (others rows : Rows) : Type 0 where

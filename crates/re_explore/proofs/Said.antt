@@ -1,15 +1,13 @@
 -- What a run may say, by the words alone.
 use Rattle.std.proofs.Common.{◌≡◌, ◌≢◌, ◌++◌, append_assoc, ℕ, List, Option, Some, None, Result, Ok, Err, refl, sym, ap, ◌∙◌, subst}
 use Rattle.std.specs.Prelude.{IfOk, IsTrue}
-use Rattle.re_frame.specs.Outcomes.{IsAnswer, Outcome, outcome_of, status_of, within_limit}
+use Rattle.re_frame.specs.Outcomes.{IsAnswer, Outcome, outcome_of, status_of}
 use Rattle.re_frame.specs.Runs.{MaySay}
 use Rattle.re_frame.specs.declared.output.Output.{Output}
-use Rattle.re_frame.specs.declared.status.Answer.{Answer}
-use Rattle.re_frame.specs.declared.status.Answer.TheVariants as answered
 use Rattle.re_frame.specs.declared.status.Status.{Status}
 use Rattle.re_frame.specs.declared.status.Status.TheVariants.{BadInput, BadWords, Done, Limit, No, NoMemory, ReadFault, WriteFault}
-use Rattle.re_explore.specs.Commands.{IsOutcome, bad_words, command_of, is_judging, is_reading}
-use Rattle.re_explore.specs.Expected.{IsExpected, IsInput, Says}
+use Rattle.re_explore.specs.Commands.{bad_words, command_of, is_judging}
+use Rattle.re_explore.specs.Expected.{Says}
 use Rattle.re_explore.specs.declared.command.Command.{Command}
 
 pub says_none : (words : List (List ℕ)) (output : Output) → None ≡ command_of words → outcome_of output ≡ bad_words → Says (status_of output.answer) (command_of words)
@@ -56,12 +54,3 @@ joined_six a b c d e f =
 -- seven texts one behind the other
 pub joined_seven : (a b c d e f g : List ℕ) → (((((a ++ b) ++ c) ++ d) ++ e) ++ f) ++ g ≡ a ++ (b ++ (c ++ (d ++ (e ++ (f ++ g)))))
 joined_seven a b c d e f g = append_assoc ((((a ++ b) ++ c) ++ d) ++ e) f g ∙ joined_six a b c d e (f ++ g)
-
--- a command that reads has an outcome that it may have
-pub may_expected : {E : Type 0} (words : List (List ℕ)) (left : Option (List ℕ)) (command : Command) (result : Result Output E)
-    → Some command ≡ command_of words → IsTrue (is_reading (Some command))
-    → IfOk result (λ output. (bytes : List ℕ) → left ≡ Some bytes → IsOutcome (Some command) bytes (outcome_of output))
-    → IfOk result (λ output. (bytes : List ℕ) → IsInput words left bytes → IsExpected words bytes (outcome_of output))
-may_expected words left command (Ok output) is reads may = λ bytes input.
-    subst (λ c. IsOutcome c bytes (outcome_of output)) is (may bytes (input (subst (λ c. IsTrue (is_reading c)) is reads)))
-may_expected words left command (Err fault) is reads may = tt

@@ -28,9 +28,9 @@ use Rattle.re_frame.specs.Outcomes.{Outcome, too_long}
 use Rattle.re_frame.specs.TextFaults.{fault_outcome}
 use Rattle.re_frame.specs.declared.status.Status.TheVariants.{Done, Limit}
 use Rattle.re_io.specs.declared.read.TheConstants.{MAX_BYTES}
-use Rattle.re_search_words.specs.MayGive.{IsFound, MayFind, MayFindBehind, MayGive, MayGiveAt, MayGiveRead, MayGiveSound}
+use Rattle.re_search_words.specs.MayGive.{IsFound, MayFind, MayFindBehind, MayGive, MayGiveAt, MayGiveRead, MayGiveSound, MayShorten, word_chain}
 use Rattle.re_search_words.specs.declared.words.SearchWord.{SearchWord}
-use Rattle.re_search_words.specs.declared.words.SearchWord.TheVariants.{Cycle, Longest}
+use Rattle.re_search_words.specs.declared.words.SearchWord.TheVariants.{Cycle, Longest, Shortest}
 use Rattle.re_explore.specs.Commands.{IsOutcome}
 use Rattle.re_explore.specs.Worth.{IsAccepted, SearchWorth, TextWorth}
 use Rattle.re_explore.specs.declared.command.Command.{Command}
@@ -59,9 +59,10 @@ accepted kind most labels chain bound text text_of on = record {
 found_worth : (kind : Kind) (most labels : ℕ) (chain : Bound) (outcome : Outcome) → IsFound kind most labels chain outcome → outcome.status ≡ Done → IsAccepted kind most labels chain outcome.text
 found_worth kind most labels chain outcome (bound, on) finished = accepted kind most labels chain bound outcome.text (on.gives finished) on.goes_on
 
--- ---- the words `longest` and `cycle`
+-- ---- the words `longest`, `shortest` and `cycle`
 find_worth : (word : SearchWord) (chain : Bound) (outcome : Outcome) → MayFind word chain outcome → outcome.status ≡ Done → SearchWorth word chain outcome.text
 find_worth (Longest steps labels) chain outcome may finished = found_worth kind.Lower steps labels chain outcome may finished
+find_worth (Shortest steps labels) chain outcome may finished = absurd may
 find_worth (Cycle steps merges nodes) chain outcome (inl may) finished = found_worth kind.Fixed steps MAX_LABELS chain outcome may finished
 find_worth (Cycle steps merges nodes) chain outcome (inr (inl may)) finished = undone outcome _ may.2 (λ e. cc) finished
 find_worth (Cycle steps merges nodes) chain outcome (inr (inr may)) finished = undone outcome _ may (λ e. cc) finished
@@ -70,10 +71,22 @@ behind_worth : (place : Option ℕ) (word : SearchWord) (chain : Bound) (outcome
 behind_worth (Some place) word chain outcome may finished = undone outcome _ may (λ e. cc) finished
 behind_worth None word chain outcome may finished = find_worth word chain outcome may finished
 
+shorten_worth : (place : Option ℕ) (steps labels : ℕ) (chain : Bound) (outcome : Outcome) → MayShorten place steps labels chain outcome → outcome.status ≡ Done
+    → IsAccepted kind.Upper steps labels chain outcome.text
+shorten_worth (Some place) steps labels chain outcome may finished = found_worth kind.Upper steps labels chain outcome (chain, may) finished
+shorten_worth None steps labels chain outcome (inl may) finished = found_worth kind.Upper steps labels chain outcome may finished
+shorten_worth None steps labels chain outcome (inr may) finished = undone outcome _ may.2 (λ e. cc) finished
+
 at_worth : (of : Kind) (word : SearchWord) (chain : Bound) (outcome : Outcome) → MayGiveAt of word chain outcome → outcome.status ≡ Done → SearchWorth word chain outcome.text
-at_worth kind.Lower word chain outcome may finished = behind_worth (zero_place (unnamed (last_problem chain))) word chain outcome may finished
-at_worth kind.Upper word chain outcome may finished = undone outcome _ may (λ e. cc) finished
-at_worth kind.Fixed word chain outcome may finished = behind_worth (zero_place (unnamed (last_problem chain))) word chain outcome may finished
+at_worth kind.Upper (Shortest steps labels) chain outcome may finished = shorten_worth (zero_place (unnamed (last_problem chain))) steps labels chain outcome may finished
+at_worth kind.Lower (Shortest steps labels) chain outcome may finished = undone outcome _ may (λ e. cc) finished
+at_worth kind.Fixed (Shortest steps labels) chain outcome may finished = undone outcome _ may (λ e. cc) finished
+at_worth kind.Lower (Longest steps labels) chain outcome may finished = behind_worth (zero_place (unnamed (last_problem chain))) (Longest steps labels) chain outcome may finished
+at_worth kind.Upper (Longest steps labels) chain outcome may finished = undone outcome _ may (λ e. cc) finished
+at_worth kind.Fixed (Longest steps labels) chain outcome may finished = behind_worth (zero_place (unnamed (last_problem chain))) (Longest steps labels) chain outcome may finished
+at_worth kind.Lower (Cycle steps merges nodes) chain outcome may finished = behind_worth (zero_place (unnamed (last_problem chain))) (Cycle steps merges nodes) chain outcome may finished
+at_worth kind.Upper (Cycle steps merges nodes) chain outcome may finished = undone outcome _ may (λ e. cc) finished
+at_worth kind.Fixed (Cycle steps merges nodes) chain outcome may finished = behind_worth (zero_place (unnamed (last_problem chain))) (Cycle steps merges nodes) chain outcome may finished
 
 sound_worth : (fault : Option ClauseFault) (word : SearchWord) (chain : Bound) (outcome : Outcome) → MayGiveSound (option_map refusal_of fault) word chain outcome → outcome.status ≡ Done
     → SearchWorth word chain outcome.text
@@ -84,9 +97,9 @@ read_worth : (fault : Option InputFault) (word : SearchWord) (chain : Bound) (ou
 read_worth (Some fault) word chain outcome may finished = undone outcome (fault_outcome fault) may (fault_not_done fault) finished
 read_worth None word chain outcome may finished = sound_worth (steps_fault chain.first 1 chain.steps) word chain outcome may finished
 
-search_worth : (word : SearchWord) (bytes : List ℕ) (outcome : Outcome) → MayGive word bytes outcome → outcome.status ≡ Done → SearchWorth word (text_chain bytes) outcome.text
+search_worth : (word : SearchWord) (bytes : List ℕ) (outcome : Outcome) → MayGive word bytes outcome → outcome.status ≡ Done → SearchWorth word (word_chain word bytes) outcome.text
 unfolding MayGive
-search_worth word bytes outcome may finished = read_worth (chain_fault bytes) word (text_chain bytes) outcome may finished
+search_worth word bytes outcome may finished = read_worth (chain_fault bytes) word (word_chain word bytes) outcome may finished
 
 -- ---- the word `closure`
 -- a bound that goes on from the chain with a derived step more goes on from the chain
@@ -188,7 +201,7 @@ pub worth_of : (command : Option Command) (bytes : List ℕ) (outcome : Outcome)
 worth_of (Some (Chains word)) bytes outcome is finished = (within _ bytes outcome is finished).worth finished
 worth_of (Some (Searches word)) bytes outcome is finished = search_worth word bytes outcome (within _ bytes outcome is finished) finished
 worth_of (Some (Closes word)) bytes outcome is finished = closure_worth word bytes outcome (within _ bytes outcome is finished) finished
-worth_of (Some Bridges) bytes outcome is finished = (within _ bytes outcome is finished).worth finished
+worth_of (Some (Bridges word)) bytes outcome is finished = (within _ bytes outcome is finished).worth finished
 worth_of (Some Explains) bytes outcome is finished = tt
 worth_of (Some Describes) bytes outcome is finished = tt
 worth_of (Some (Graphs word)) bytes outcome is finished = tt

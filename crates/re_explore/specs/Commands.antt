@@ -3,7 +3,7 @@ use Rattle.std.specs.Prelude.{◌≡◌, ℕ, Bool, true, false, List, [], ◌�
 use Rattle.std.specs.Str.{bytes_eq}
 use Rattle.re_frame.specs.Outcomes.{Outcome, done, within_limit}
 use Rattle.re_frame.specs.declared.status.Status.TheVariants.{BadWords}
-use Rattle.re_bridge_words.specs.BridgeWords.{MayGive as MayGiveBridge, bridge_help, names_bridge}
+use Rattle.re_bridge_words.specs.Answers.{MayGive as MayGiveBridge, bridge_help, bridge_word_of, is_judging as bridge_judges}
 use Rattle.re_chain_words.specs.Answers.{MayGive as MayGiveChain, is_judging as chain_judges}
 use Rattle.re_chain_words.specs.ChainWords.{chain_help, chain_word_of}
 use Rattle.re_closure.specs.ClosureWords.{MayGive as MayGiveClosure, closure_help, closure_word_of}
@@ -36,7 +36,7 @@ abbrev pub command_over_chains : List (List ℕ) → Option Command
 command_over_chains words =
     or_else (option_map Chains (chain_word_of words))
     (or_else (option_map Searches (search_word_of words))
-    (or_else (option_map Closes (closure_word_of words)) (if names_bridge words then Some Bridges else None)))
+    (or_else (option_map Closes (closure_word_of words)) (option_map Bridges (bridge_word_of words))))
 
 -- the command that tells of a certificate
 abbrev pub command_over_certificates : List (List ℕ) → Option Command
@@ -64,7 +64,7 @@ Fits Help = Unit {0}
 Fits (Chains word) = Unit {0}
 Fits Explains = Unit {0}
 Fits (Closes word) = Unit {0}
-Fits Bridges = Unit {0}
+Fits (Bridges word) = Unit {0}
 Fits Describes = Unit {0}
 
 -- the lines of help of the words over chains and certificates
@@ -91,7 +91,7 @@ IsOutcome (Some (Chains word)) bytes outcome = MayAnswer (MayGiveChain word) byt
 IsOutcome (Some Explains) bytes outcome = outcome ≡ within_limit explaining_outcome bytes
 IsOutcome (Some (Searches word)) bytes outcome = MayAnswer (MayGive word) bytes outcome
 IsOutcome (Some (Closes word)) bytes outcome = MayAnswer (MayGiveClosure word) bytes outcome
-IsOutcome (Some Bridges) bytes outcome = MayAnswer MayGiveBridge bytes outcome
+IsOutcome (Some (Bridges word)) bytes outcome = MayAnswer (MayGiveBridge word) bytes outcome
 IsOutcome (Some Describes) bytes outcome = MayAnswer MayDescribe bytes outcome
 IsOutcome (Some (Graphs word)) bytes outcome = MayAnswer (MayGiveGraph word) bytes outcome
 IsOutcome (Some (Givens word)) bytes outcome = MayAnswer (MayGiveGiven word) bytes outcome
@@ -104,7 +104,7 @@ is_reading (Some (Chains word)) = true
 is_reading (Some Explains) = true
 is_reading (Some (Searches word)) = true
 is_reading (Some (Closes word)) = true
-is_reading (Some Bridges) = true
+is_reading (Some (Bridges word)) = true
 is_reading (Some Describes) = true
 is_reading (Some (Graphs word)) = true
 is_reading (Some (Givens word)) = true
@@ -119,7 +119,7 @@ is_judging (Some (Chains word)) = chain_judges word
 is_judging (Some Explains) = true
 is_judging (Some (Searches word)) = true
 is_judging (Some (Closes word)) = true
-is_judging (Some Bridges) = true
+is_judging (Some (Bridges word)) = bridge_judges word
 is_judging (Some (Graphs word)) = true
 is_judging (Some (Givens word)) = true
 is_judging (Some Settles) = true

@@ -1,9 +1,9 @@
--- What the text of an answer Done is worth that is a certificate.
+-- What the text of an answer Done is worth that is a certificate or a problem.
 use Rattle.std.specs.Prelude.{◌≡◌, ◌+◌, ℕ, List, length, Option, None, Some}
-use Rattle.re_bridge_words.specs.BridgeWords.{BridgeWorth}
+use Rattle.re_bridge_words.specs.Answers.{WordWorth as BridgeWorth}
 use Rattle.re_cert.specs.Bounds.{Bound}
 use Rattle.re_cert.specs.declared.certificate.Kind.{Kind}
-use Rattle.re_cert.specs.declared.certificate.Kind.TheVariants.{Fixed, Lower}
+use Rattle.re_cert.specs.declared.certificate.Kind.TheVariants.{Fixed, Lower, Upper}
 use Rattle.re_chain_texts.specs.ChainTexts.{text_chain}
 use Rattle.re_chain_texts.specs.OverChains.{IsTextOf}
 use Rattle.re_chain_words.specs.Answers.{WordWorth}
@@ -12,8 +12,9 @@ use Rattle.re_extend.specs.Extensions.{GoesOn}
 use Rattle.re_frame.specs.Check.{check_outcome, verdict_line}
 use Rattle.re_frame.specs.Outcomes.{done}
 use Rattle.re_labels.specs.declared.TheConstants.{MAX_LABELS}
+use Rattle.re_search_words.specs.MayGive.{word_chain}
 use Rattle.re_search_words.specs.declared.words.SearchWord.{SearchWord}
-use Rattle.re_search_words.specs.declared.words.SearchWord.TheVariants.{Cycle, Longest}
+use Rattle.re_search_words.specs.declared.words.SearchWord.TheVariants.{Cycle, Longest, Shortest}
 use Rattle.re_explore.specs.declared.command.Command.{Command}
 use Rattle.re_explore.specs.declared.command.Command.TheVariants.{Bridges, Chains, Closes, Describes, Explains, Givens, Graphs, Help, Inputs, Searches, Settles}
 
@@ -28,14 +29,15 @@ pub record IsAccepted (kind : Kind) (most labels : ℕ) (chain : Bound) (text : 
 -- what a search finds is accepted
 abbrev pub SearchWorth : SearchWord → Bound → List ℕ → Type 0
 SearchWorth (Longest steps labels) chain text = IsAccepted Lower steps labels chain text
+SearchWorth (Shortest steps labels) chain text = IsAccepted Upper steps labels chain text
 SearchWorth (Cycle steps merges nodes) chain text = IsAccepted Fixed steps MAX_LABELS chain text
 
 -- what the text is worth that a command gives to these bytes with Done
 abbrev pub TextWorth : Option Command → List ℕ → List ℕ → Type 0
 TextWorth (Some (Chains word)) bytes text = WordWorth word bytes text
-TextWorth (Some (Searches word)) bytes text = SearchWorth word (text_chain bytes) text
+TextWorth (Some (Searches word)) bytes text = SearchWorth word (word_chain word bytes) text
 TextWorth (Some (Closes word)) bytes text = IsAccepted Fixed (word.steps + 3) MAX_LABELS (text_chain bytes) text
-TextWorth (Some Bridges) bytes text = BridgeWorth bytes text
+TextWorth (Some (Bridges word)) bytes text = BridgeWorth word bytes text
 TextWorth (Some Explains) bytes text = Unit {0}
 TextWorth (Some Describes) bytes text = Unit {0}
 TextWorth (Some (Graphs word)) bytes text = Unit {0}

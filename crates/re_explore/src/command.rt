@@ -3,7 +3,7 @@ ghost use Rattle.re_explore.specs.Commands.{Fits, bad_words, command_of, chain_l
 ghost use Rattle.re_frame.specs.Outcomes.{done as done_with, outcome_of};
 ghost use Rattle.std.specs.Prelude.{◌≡◌, ◌++◌, IfOk, IfSome, OnOk, map, string_bytes};
 
-use re_bridge_words::{bridge_help, names_bridge};
+use re_bridge_words::{BridgeWord, bridge_help, bridge_word};
 use re_chain_words::{ChainWord, chain_help, chain_word};
 use re_closure::{ClosureWord, closure_help, closure_word};
 use re_describe::{describe_help, names_describe};
@@ -29,8 +29,8 @@ pub(crate) enum Command {
     Searches(SearchWord),
     /// The fixed point by right-closed sets.
     Closes(ClosureWord),
-    /// A step to a given problem.
-    Bridges,
+    /// A step to a given problem, or a problem with fewer labels.
+    Bridges(BridgeWord),
     /// A report on a certificate.
     Describes,
     /// How many rounds a problem takes.
@@ -66,8 +66,8 @@ fn command_over_chains(words: &[String]) -> Option<Command>
     if let Some(word) = closure_word(words) {
         return Some(Command::Closes(word));
     }
-    if names_bridge(words) {
-        return Some(Command::Bridges);
+    if let Some(word) = bridge_word(words) {
+        return Some(Command::Bridges(word));
     }
     None
 }

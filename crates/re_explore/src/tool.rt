@@ -9,7 +9,6 @@ ghost use Rattle.re_frame.specs.Outcomes.{IsAnswer, Outcome, outcome_of, status_
 ghost use Rattle.re_frame.specs.Runs.{Answers, StopsWithin, TakesInput};
 
 use crate::command::{Command, bad_words, command_from, help};
-use re_bridge_words::BridgeWord;
 use re_describe::Describe;
 use re_frame::{Output, Status, Stop, answer_input, find_input, put_output};
 use re_inputs::input_output;
@@ -38,7 +37,7 @@ fn output_from<S: Source>(alloc: Global, words: &[String], source: &mut S) -> Re
         Some(Command::Explains) => answer_input(alloc, &Why, source),
         Some(Command::Searches(word)) => find_input(alloc, &word, source),
         Some(Command::Closes(word)) => find_input(alloc, &word, source),
-        Some(Command::Bridges) => find_input(alloc, &BridgeWord, source),
+        Some(Command::Bridges(word)) => find_input(alloc, &word, source),
         Some(Command::Describes) => find_input(alloc, &Describe, source),
         Some(Command::Graphs(word)) => find_input(alloc, &word, source),
         Some(Command::Givens(word)) => find_input(alloc, &word, source),

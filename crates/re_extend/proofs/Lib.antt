@@ -1,1 +1,2 @@
 mod Continued
+mod PathSteps

@@ -1,12 +1,16 @@
 //! The step from a problem to what merges have made of its derived problem.
-ghost use Rattle.std.specs.Prelude.{◌≡◌, IfOk};
+ghost use Rattle.re_cert.specs.Bounds.{has_row_maps as have_row_maps, is_by_row as is_map_by_row, last_problem, map_of, next_problems};
+ghost use Rattle.re_extend.specs.Along.{label_left, map_along, step_found, steps_along};
+ghost use Rattle.re_problem.specs.ProblemTexts.{last_or};
+ghost use Rattle.re_tree.specs.Nodes.{entries_of};
+ghost use Rattle.std.specs.Prelude.{◌≡◌, ◌++◌, IfOk, OnOk, map, true};
 
 use arrayvec::ArrayVec;
 use re_cert::{Certificate, LowerMap, RowImage, SetEntry, Step, StepParts};
 use re_config::Row;
 use re_labels::{LabelSet, NoMemory};
 use re_problem::Problem;
-use re_step::{Derived, StepFault, step};
+use re_step::{Derived, StepFault, place_of, step};
 use std::alloc::Global;
 
 /// A problem on a path: what changes have made of the derived problem of the problem before it, and for each label of that derived
@@ -20,42 +24,48 @@ pub struct Stop {
 }
 
 // Whether the step has a map by rows.
-fn is_by_row(step: &Step) -> bool {
+fn is_by_row(step: &Step) -> bool
+    ensures { result ≡ is_map_by_row step.now.map }
+{
     match &step.parts {
         StepParts::Lower { map, .. } => matches!(map, LowerMap::ByRow(_)),
         StepParts::Upper { .. } => false,
     }
 }
 
-// Whether the maps of the certificate are by rows. Those of a certificate without steps are not.
-fn has_row_maps(certificate: &Certificate) -> bool {
-    match certificate.steps().first() {
-        Some(step) => is_by_row(step),
-        None => false,
-    }
+// Whether some step has a map by rows.
+fn have_row_maps(steps: &[Step]) -> bool
+    ensures { result ≡ have_row_maps steps.now }
+{
+    steps.iter().any(|step| is_by_row(step))
 }
 
 // The label that the set has become, and 0 where it is none of the sets, or is not left.
-fn image_of(sets: &[LabelSet], images: &[Option<u8>], set: LabelSet) -> u8 {
-    for (place, other) in sets.iter().enumerate() {
-        if other.number() == set.number() {
-            if let Some(Some(image)) = images.get(place) {
-                return *image;
-            }
-        }
+fn label_left(sets: &[LabelSet], images: &[Option<u8>], set: LabelSet) -> u8
+    ensures { result ≡ label_left sets.now images.now set }
+{
+    let place = place_of(sets, set);
+    if place >= images.len() {
+        return 0;
     }
-    0
+    match images[place] {
+        Some(image) => image,
+        None => 0,
+    }
 }
 
-// The image of a row, if it has one.
-fn row_image(sets: &[LabelSet], images: &[Option<u8>], row: &Row) -> Option<RowImage> {
+// The image of a row.
+fn row_image(sets: &[LabelSet], images: &[Option<u8>], row: &Row) -> RowImage
+    ensures { result ≡ map (label_left sets.now images.now) row.now }
+{
     let mut labels: ArrayVec<u8, 6> = ArrayVec::new();
     for set in row.sets() {
-        if labels.len() < 6 {
-            labels.push(image_of(sets, images, *set));
-        }
+        labels.push(label_left(sets, images, *set));
     }
-    RowImage::new(labels.as_slice())
+    match RowImage::new(labels.as_slice()) {
+        Some(image) => image,
+        None => unreachable!(),
+    }
 }
 
 // The images of the rows.
@@ -64,52 +74,59 @@ fn row_images(
     sets: &[LabelSet],
     images: &[Option<u8>],
     rows: &[Row],
-) -> Result<Vec<RowImage>, NoMemory> {
+) -> Result<Vec<RowImage>, NoMemory>
+    ensures { IfOk result (λ all. all.items ≡ map (map (label_left sets.now images.now)) rows.now) }
+{
     let mut all = Vec::new(alloc);
     for row in rows {
-        if let Some(image) = row_image(sets, images, row) {
-            all.push(image)?;
-        }
+        all.push(row_image(sets, images, row))?;
     }
     Ok(all)
 }
 
-// The entries of the sets whose label is left.
-fn entries_of(
-    alloc: Global,
+// Appends the entries of the sets whose label is left.
+fn push_entries(
+    entries: &mut Vec<SetEntry>,
     sets: &[LabelSet],
     images: &[Option<u8>],
-) -> Result<Vec<SetEntry>, NoMemory> {
-    let mut entries = Vec::new(alloc);
-    for (set, image) in sets.iter().zip(images) {
-        if let Some(label) = image {
+) -> Result<(), NoMemory>
+    ensures { OnOk result (entries.new.items ≡ entries.old.items ++ entries_of sets.now images.now) }
+{
+    let [set, sets @ ..] = sets else {
+        return Ok(());
+    };
+    let [image, images @ ..] = images else {
+        return Ok(());
+    };
+    match image {
+        Some(label) => {
             entries.push(SetEntry {
                 set: *set,
                 label: *label,
             })?;
+            push_entries(entries, sets, images)
         }
+        None => push_entries(entries, sets, images),
     }
-    Ok(entries)
 }
 
-// The lower step to a problem that changes have made of the derived problem with these sets and rows. Its map is by sets or by rows.
-fn step_with(
+// The map to the labels that the sets have become.
+fn map_along(
     alloc: Global,
-    next: Problem,
     sets: &[LabelSet],
-    rows: Vec<Row>,
+    rows: &[Row],
     images: &[Option<u8>],
     by_rows: bool,
-) -> Result<Step, NoMemory>
-    ensures { IfOk result (λ s. s.next ≡ next) }
+) -> Result<LowerMap, NoMemory>
+    ensures { IfOk result (λ made. map_of made ≡ map_along by_rows sets.now rows.now images.now) }
 {
-    let map = if by_rows {
-        LowerMap::ByRow(row_images(alloc, sets, images, rows.as_slice())?)
-    } else {
-        LowerMap::BySet(entries_of(alloc, sets, images)?)
-    };
-    let parts = StepParts::Lower { rows, map };
-    Ok(Step { next, parts })
+    if by_rows {
+        let images = row_images(alloc, sets, images, rows)?;
+        return Ok(LowerMap::ByRow(images));
+    }
+    let mut entries = Vec::new(alloc);
+    push_entries(&mut entries, sets, images)?;
+    Ok(LowerMap::BySet(entries))
 }
 
 // The step to the next problem of a path, if the derived problem passes no limit.
@@ -118,35 +135,52 @@ fn step_to(
     before: &Problem,
     stop: Stop,
     by_rows: bool,
-) -> Result<Option<Step>, NoMemory> {
+) -> Result<Option<Step>, NoMemory>
+    ensures { IfOk result (λ found. found ≡ step_found by_rows before.now stop) }
+{
     let Stop { problem, images } = stop;
-    match step(alloc, before) {
-        Ok(derived) => {
-            let Derived { sets, rows, .. } = derived;
-            let images = images.as_slice();
-            let step = step_with(alloc, problem, sets.as_slice(), rows, images, by_rows)?;
-            Ok(Some(step))
-        }
-        Err(StepFault::Limit(_)) => Ok(None),
-        Err(StepFault::NoMemory) => Err(NoMemory),
-    }
+    let derived = match step(alloc, before) {
+        Ok(derived) => derived,
+        Err(StepFault::Limit(_)) => return Ok(None),
+        Err(StepFault::NoMemory) => return Err(NoMemory),
+    };
+    let Derived { sets, rows, .. } = derived;
+    let map = map_along(
+        alloc,
+        sets.as_slice(),
+        rows.as_slice(),
+        images.as_slice(),
+        by_rows,
+    )?;
+    let parts = StepParts::Lower { rows, map };
+    Ok(Some(Step {
+        next: problem,
+        parts,
+    }))
 }
 
 // The problem behind the steps.
-fn end_of<'a>(first: &'a Problem, steps: &'a [Step]) -> &'a Problem {
-    match steps.last() {
-        Some(step) => step.next(),
-        None => first,
+fn end_of<'a>(first: &'a Problem, steps: &'a [Step]) -> &'a Problem
+    ensures { result.now ≡ last_or first.now (next_problems steps.now) }
+{
+    if steps.is_empty() {
+        first
+    } else {
+        steps[steps.len() - 1].next()
     }
 }
 
-/// The steps along a path from the chain's last problem. Their maps are by rows where those of the chain are. It derives each problem anew.
+/// The steps along a path from the chain's last problem, each with the maximal rows of the problem before it. Their maps, to the labels
+/// that the sets have become, are by rows where those of the chain are. A stop to which no step leads, since the derived problem before it
+/// passes a limit, is passed over. It derives each problem anew. Whether the steps meet their clauses, `extended` finds out.
 pub fn steps_along(
     alloc: Global,
     chain: &Certificate,
     path: Vec<Stop>,
-) -> Result<Vec<Step>, NoMemory> {
-    let by_rows = has_row_maps(chain);
+) -> Result<Vec<Step>, NoMemory>
+    ensures { IfOk result (λ steps. steps.items ≡ steps_along (have_row_maps chain.now.steps) (last_problem chain.now) path.items) }
+{
+    let by_rows = have_row_maps(chain.steps());
     let mut steps: Vec<Step> = Vec::new(alloc);
     for stop in path {
         let before = end_of(chain.last(), steps.as_slice());

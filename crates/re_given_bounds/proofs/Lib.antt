@@ -1,3 +1,4 @@
 pub mod BoundChains
 pub mod GivenMeaning
 pub mod LocalMeaning
+pub mod OnlyUnavoidable

@@ -1,2 +1,3 @@
 pub mod GivenBounds
 pub mod LocalBounds
+pub mod OnlyUnavoidable

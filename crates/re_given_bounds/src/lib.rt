@@ -3,6 +3,7 @@
 #![tactic(auto)]
 
 ghost use Rattle.re_given_bounds.specs.GivenBounds.{BesideLaw, ColouredBoundLaw, EvenBoundLaw, FixedBoundLaw, OddBoundLaw, UpperBoundLaw, ValidGivenLaw};
+ghost use Rattle.re_given_bounds.specs.OnlyUnavoidable.{OnlyUnavoidableLaw};
 ghost use Rattle.re_given_bounds.specs.LocalBounds.{LocalBoundLaw, UniqueIdentifiersLaw};
 
 /// A bound that is valid given an input problem of its first problem says what bounds of its kind say, given the input problem.
@@ -55,4 +56,9 @@ pub fn local_bound_law()
 /// which on no local algorithm of so many rounds solves what is accepted as a fixed point; at a lower bound, for less rounds than it has steps.
 pub fn unique_identifiers_law()
     ensures { UniqueIdentifiersLaw }
+{}
+
+/// An input problem helps no problem of n labels in 0 rounds exactly where it is unavoidable for lists of n labels.
+pub fn only_unavoidable_law()
+    ensures { OnlyUnavoidableLaw }
 {}

@@ -4,5 +4,6 @@ mod EndNumbers
 mod GivenCuts
 mod GivenMeans
 mod Held
+mod ProductMeaning
 mod RoundsAnswers
 mod Saying

@@ -14,11 +14,16 @@ use Rattle.re_check.specs.declared.verdict.Verdict.{Verdict}
 use Rattle.re_frame.proofs.Said.{check_says, fault_says, says_as}
 use Rattle.re_frame.specs.Outcomes.{Outcome}
 use Rattle.re_frame.specs.Runs.{MaySay}
+use Rattle.re_inputs.specs.NamedProducts.{product_fault}
+use Rattle.re_inputs.specs.declared.products.ProductFault.{ProductFault}
+use Rattle.re_inputs.specs.declared.products.ProductFault.TheVariants.{Nameless, NoMemory, TooManyConfigurations, TooManyLabels}
 use Rattle.re_two_texts.specs.TwoTexts.{back_problem, front_bound, two_fault}
 use Rattle.re_walks.specs.Walking.{Walk, cut, found, nowhere}
 use Rattle.re_given_words.specs.Answers.{MayGive}
 use Rattle.re_given_words.specs.Counting.{IsCountedLine, counted_outcome}
+use Rattle.re_given_words.specs.GivenTexts.{given_fault, given_input, given_problem}
 use Rattle.re_given_words.specs.InputFaults.{or_input_fault}
+use Rattle.re_given_words.specs.ProductTexts.{made_or_refused, product_answer, product_outcome, product_refusal}
 use Rattle.re_given_words.specs.RoundsTexts.{MayCount, MayCountBeside, MayCountRead, beside_fault, rounds_fault, rounds_input, rounds_problem}
 use Rattle.re_given_words.specs.Verdicts.{bound_outcome, end_number, end_outcome, fit_with, fixed_with, given_outcome, lower_with, or_back, sound_outcome, upper_with}
 use Rattle.re_given_words.specs.Walks.{walk_at}
@@ -27,7 +32,7 @@ use Rattle.re_given_words.specs.declared.counting.Counted.TheVariants.{Exactly, 
 use Rattle.re_given_words.specs.declared.words.BoundWord.{BoundWord}
 use Rattle.re_given_words.specs.declared.words.BoundWord.TheVariants.{Fit, Given}
 use Rattle.re_given_words.specs.declared.words.GivenWord.{GivenWord}
-use Rattle.re_given_words.specs.declared.words.GivenWord.TheVariants.{OfBound, Rounds}
+use Rattle.re_given_words.specs.declared.words.GivenWord.TheVariants.{OfBound, Product, Rounds}
 
 -- ---- `fit` and `given`
 fit_says : (input : NamedProblem) (bound : Bound) (w : Walk) → MaySay (fit_with input bound w).status true
@@ -100,8 +105,27 @@ count_says : (most : ℕ) (bytes : List ℕ) (outcome : Outcome) → MayCount mo
 unfolding MayCount
 count_says most bytes outcome may = read_says (rounds_fault bytes) (rounds_problem bytes) (rounds_input bytes) most outcome may
 
+-- ---- `product`
+reason_says : (problem input : NamedProblem) (fault : ProductFault) → MaySay (product_refusal problem input fault).status true
+reason_says problem input TooManyLabels = tt
+reason_says problem input (Nameless pair) = refl
+reason_says problem input TooManyConfigurations = tt
+reason_says problem input NoMemory = tt
+
+made_says : (problem input : NamedProblem) (fault : Option ProductFault) → MaySay (made_or_refused problem input fault).status true
+made_says problem input (Some fault) = reason_says problem input fault
+made_says problem input None = tt
+
+product_says : (bytes : List ℕ) → MaySay (product_outcome bytes).status true
+unfolding product_outcome
+product_says bytes =
+    or_fault_says (given_fault bytes) (product_answer (given_problem bytes) (given_input bytes)) true
+    (input_says (given_input bytes) (input_fault (given_problem bytes) (given_input bytes)) (made_or_refused (given_problem bytes) (given_input bytes) (product_fault (given_problem bytes) (given_input bytes)))
+    (made_says (given_problem bytes) (given_input bytes) (product_fault (given_problem bytes) (given_input bytes))))
+
 -- ---- all words
 pub give_says : (word : GivenWord) (bytes : List ℕ) (outcome : Outcome) → MayGive word bytes outcome → MaySay outcome.status true
 unfolding MayGive
 give_says (OfBound word) bytes outcome may = says_as outcome _ may.answer (bound_says word bytes)
 give_says (Rounds most) bytes outcome may = count_says most bytes outcome may
+give_says Product bytes outcome may = says_as outcome _ may.answer (product_says bytes)

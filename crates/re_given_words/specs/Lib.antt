@@ -3,6 +3,7 @@ pub mod Counting
 pub mod GivenTexts
 pub mod InputFaults
 pub mod Meanings
+pub mod ProductTexts
 pub mod RoundsTexts
 pub mod Verdicts
 pub mod Walks

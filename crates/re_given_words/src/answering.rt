@@ -7,6 +7,7 @@ ghost use Rattle.re_io.specs.declared.read.TheConstants.{MAX_BYTES};
 ghost use Rattle.std.specs.Prelude.{◌≤◌, IfOk, length, true};
 
 use crate::judging::bound_output;
+use crate::multiplying::product_output;
 use crate::rounds::rounds_output;
 use crate::words::GivenWord;
 use re_frame::{Finding, Output};
@@ -23,6 +24,7 @@ fn text_output(alloc: Global, word: GivenWord, text: &[u8]) -> Result<Output, No
     match word {
         GivenWord::OfBound(word) => bound_output(alloc, word, text),
         GivenWord::Rounds(most) => rounds_output(alloc, most, text),
+        GivenWord::Product => product_output(alloc, text),
     }
 }
 

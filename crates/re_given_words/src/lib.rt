@@ -1,4 +1,4 @@
-//! The words `fit`, `given` and `rounds`: problems and bounds where a solution of an input problem is given.
+//! The words `fit`, `given`, `rounds` and `product`: problems and bounds where a solution of an input problem is given.
 #![tactic(auto)]
 
 mod answering;
@@ -6,6 +6,7 @@ mod counting;
 mod faults;
 mod fitting;
 mod judging;
+mod multiplying;
 mod rounds;
 mod texts;
 mod verdicts;

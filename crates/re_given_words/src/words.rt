@@ -21,6 +21,8 @@ pub enum GivenWord {
     OfBound(BoundWord),
     /// `rounds K`: the number of rounds, where it is at most K.
     Rounds(u8),
+    /// `product`: the problem with the labels of the input problem beside its own.
+    Product,
 }
 
 fn rounds_with(most: Option<u32>) -> Option<GivenWord>
@@ -47,6 +49,8 @@ pub fn given_word(words: &[String]) -> Option<GivenWord>
                 Some(GivenWord::OfBound(BoundWord::Fit))
             } else if "given" == word.as_str() {
                 Some(GivenWord::OfBound(BoundWord::Given))
+            } else if "product" == word.as_str() {
+                Some(GivenWord::Product)
             } else {
                 None
             }
@@ -67,5 +71,5 @@ pub fn given_word(words: &[String]) -> Option<GivenWord>
 pub fn given_help() -> &'static str
     ensures { result.now ≡ help_lines }
 {
-    "fit: reads a chain, a line == given and an input problem, gives the labels that solve its last problem in 0 rounds given that input\ngiven: reads a chain or a certificate, a line == given and an input problem, gives the verdict on it given that input\nrounds K: reads a problem, or one with a line == given and an input problem, gives its number of rounds, up to K, given that input\n"
+    "fit: reads a chain, a line == given and an input problem, gives the labels that solve its last problem in 0 rounds given that input\ngiven: reads a chain or a certificate, a line == given and an input problem, gives the verdict on it given that input\nrounds K: reads a problem, or one with a line == given and an input problem, gives its number of rounds, up to K, given that input\nproduct: reads a problem, a line == given and an input problem, gives the problem whose labels are pairs of a label of each\n"
 }

@@ -1,30 +1,18 @@
--- One line more, and one word more on it.
-use Rattle.std.proofs.Common.{◌≡◌, ◌+◌, ◌∷◌, ◌++◌, ◌∙◌, [], ℕ, List, Bool, true, false, Result, Ok, Err, ap, arith, length, sym}
+-- One line more.
+use Rattle.std.proofs.Common.{◌≡◌, ◌+◌, ◌∷◌, ◌++◌, ◌∙◌, [], ℕ, List, Bool, true, false, Result, Ok, Err, ap}
 use Rattle.std.specs.Prelude.{if◌then◌else◌}
 use Rattle.re_cover.specs.Graphs.{PortGraph}
 use Rattle.re_cover.specs.declared.ends.GraphEnd.{GraphEnd}
 use Rattle.re_items.specs.Bytes.{is_empty_line}
 use Rattle.re_labels.specs.declared.sides.Degrees.{Degrees}
 use Rattle.re_problem.specs.declared.fault.InputFault.TheVariants.{BadSection}
-use Rattle.re_problem.specs.ProblemTexts.{lines_of}
 use Rattle.re_sections.specs.SectionLines.{is_section, words_of}
-use Rattle.re_graph_words.specs.GraphLines.{and_then, end_on, graph_from, judged_word, line_from, whole_graph}
+use Rattle.re_graph_words.specs.GraphLines.{and_then, graph_from, line_from}
 use Rattle.re_graph_words.specs.Reading.{IsRefused, LineRefuses}
 use Rattle.re_graph_words.specs.declared.faults.GraphFault.{GraphFault}
 use Rattle.re_graph_words.specs.declared.faults.GraphFault.TheVariants.{Text}
 use Rattle.re_graph_words.specs.declared.faults.ReadFault.{ReadFault}
 use Rattle.re_graph_words.specs.declared.faults.ReadFault.TheVariants.{Bad, NoMemory}
-
--- ---- words
-pub word-fault : (degrees : Degrees) (number : ℕ) (passive : List (List GraphEnd)) (ends : List GraphEnd) (words : List (List ℕ)) (word : List ℕ) (rest : List (List ℕ)) (fault : GraphFault)
-    → words ≡ word ∷ rest → judged_word degrees number passive ends (end_on word) ≡ Err fault → line_from degrees number passive ends words ≡ Err fault
-word-fault degrees number passive ends words word rest fault is wrong =
-    ap (line_from degrees number passive ends) is ∙ ap (λ r. and_then r (λ here. line_from degrees number passive (ends ++ here ∷ []) rest)) wrong
-
-pub word-on : (degrees : Degrees) (number : ℕ) (passive : List (List GraphEnd)) (ends : List GraphEnd) (words : List (List ℕ)) (word : List ℕ) (rest : List (List ℕ)) (here : GraphEnd)
-    → words ≡ word ∷ rest → judged_word degrees number passive ends (end_on word) ≡ Ok here → line_from degrees number passive ends words ≡ line_from degrees number passive (ends ++ here ∷ []) rest
-word-on degrees number passive ends words word rest here is right =
-    ap (line_from degrees number passive ends) is ∙ ap (λ r. and_then r (λ here. line_from degrees number passive (ends ++ here ∷ []) rest)) right
 
 -- ---- lines
 abbrev graph-of : Degrees → ℕ → List (List GraphEnd) → List (List ℕ) → Bool → Bool → Result (List GraphEnd) GraphFault → Result PortGraph GraphFault
@@ -67,12 +55,6 @@ line-on degrees number passive rest line lines ends is full plain right =
     full-is degrees number passive rest line lines false is full plain ∙ ap (graph-of degrees number passive lines false false) right
 
 -- ---- the loop over lines
--- behind all lines, what the passive nodes make is given
-pub all-lines : (degrees : Degrees) (number first : ℕ) (text rest : List ℕ) (passive : List (List GraphEnd)) (given : Result PortGraph GraphFault) → graph_from degrees first [] (lines_of text) ≡ graph_from degrees number passive (lines_of rest)
-    → length rest ≡ 0 → given ≡ whole_graph degrees number passive → graph_from degrees first [] (lines_of text) ≡ given
-all-lines degrees number first text [] passive given so_far end is = so_far ∙ sym is
-all-lines degrees number first text (b ∷ rest) passive given so_far end is = absurd (omega arith)
-
 pub line-refused : (wanted : Result PortGraph GraphFault) (degrees : Degrees) (number : ℕ) (line : List ℕ) (passive : List (List GraphEnd)) (lines : List (List ℕ)) (fault : ReadFault)
     → wanted ≡ graph_from degrees number passive (line ∷ lines) → LineRefuses degrees number line passive fault → IsRefused wanted fault
 line-refused wanted degrees number line passive lines (Bad fault) is refuses = is ∙ refuses lines

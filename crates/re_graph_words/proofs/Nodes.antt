@@ -1,6 +1,6 @@
 -- The lines of nodes, one behind the other.
 use Rattle.std.proofs.Common.{◌≡◌, ◌≢◌, ◌-◌, ◌*◌, ◌<◌, ◌≤◌, ◌++◌, ◌∙◌, ℕ, zero, suc, List, append_assoc, ap, arith, drop, length, length-drop, refl, sym, take}
-use Rattle.std.proofs.lemmas.List.{append-nil, length-take-le}
+use Rattle.std.proofs.lemmas.List.{length-take-le}
 use Rattle.std.specs.Prelude.{codes}
 use Rattle.re_cert_text.specs.CertificateLines.{image_text}
 use Rattle.re_graph.specs.Solving.{labels_of}
@@ -19,10 +19,6 @@ other-count degree (suc nodes) labels some count =
     let same : suc nodes - 1 ≡ nodes = omega arith in
     length-drop degree labels ∙ (let z : length labels - degree ≡ nodes * degree = omega (arith, count) in z) ∙ ap (λ n. n * degree) (sym same)
 other-count degree zero labels some count = absurd (omega arith)
-
-pub no-nodes : (names : List (List ℕ)) (degree nodes : ℕ) (labels text : List ℕ) → nodes ≡ 0 → text ≡ text ++ node_lines names (labels_of degree nodes labels)
-no-nodes names degree zero labels text e = sym (append-nil text)
-no-nodes names degree (suc nodes) labels text e = absurd (omega arith)
 
 pub one-node : (names : List (List ℕ)) (degree nodes : ℕ) (labels text : List ℕ) → 0 < nodes
     → (text ++ (image_text names (take degree labels) ++ codes "\n")) ++ node_lines names (labels_of degree (nodes - 1) (drop degree labels)) ≡ text ++ node_lines names (labels_of degree nodes labels)

@@ -1,2 +1,5 @@
 pub mod NamedProofs
+pub mod PairingLemmas
+pub mod ProductNames
+pub mod ProductProofs
 mod WordCounts

@@ -1,2 +1,4 @@
 pub mod InputWords
 pub mod NamedInputs
+pub mod NamedProducts
+pub mod Pairings

@@ -87,8 +87,8 @@ fn oriented_constraint(alloc: Global, mixed: bool, degree: u8) -> Result<Constra
     Ok(constraint)
 }
 
-// The problem of these parts.
-fn problem_of(active: Constraint, passive: Constraint, names: Names) -> Problem
+/// The problem of these parts.
+pub(crate) fn problem_of(active: Constraint, passive: Constraint, names: Names) -> Problem
     requires { IsNamedProblem (named names active passive) }
     ensures { result ≡ named names active passive }
 {

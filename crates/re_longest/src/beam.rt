@@ -137,8 +137,8 @@ fn plain_path(
     Ok(path)
 }
 
-// The next number of labels behind this one for which there is a beam.
-fn next_size(labels: u8) -> u8 {
+/// The next number of labels behind this one for which there is a beam.
+pub(crate) fn next_size(labels: u8) -> u8 {
     match labels {
         0..=31 => labels.saturating_add(1),
         32..=47 => 48,

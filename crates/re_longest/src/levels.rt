@@ -9,6 +9,9 @@ use re_step::{Derived, StepFault, step};
 use re_zero::zero_round;
 use std::alloc::Global;
 
+/// How many candidates of a level stay.
+const WIDTH: usize = 30;
+
 /// The beam on a level. Where it has a plain problem, this is the first one: it is reached without merges.
 #[derive(Drop)]
 pub(crate) struct Level {
@@ -43,7 +46,7 @@ impl Building {
         Building {
             alloc,
             most,
-            pool: Pool::new(alloc),
+            pool: Pool::new(alloc, WIDTH),
             plain: None,
             limited: false,
         }
@@ -160,6 +163,7 @@ pub(crate) fn first_level(alloc: Global, problem: &Problem) -> Result<Level, NoM
         parent: 0,
         images: Vec::new(alloc),
         mark: 0,
+        rank: 0,
     })?;
     Ok(Level { kept, plain: true })
 }

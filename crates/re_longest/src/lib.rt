@@ -1,4 +1,6 @@
-//! A beam search for long lower bounds.
+//! Beam searches for long lower bounds and for short upper bounds.
+//!
+//! # Lower bounds
 //!
 //! **Beams.** There is a beam for each number of labels from 2 to 32, and for 48, 64, 96 and 128: a search on its own, over problems of at
 //! most so many labels. Those up to the number that is wanted go one after another, the least first, and the longest path of all is the
@@ -25,12 +27,42 @@
 //!
 //! **Memory.** At most `3 * WIDTH` candidates of one level, `2 * INNER_WIDTH` problems of the inner beam, and `WIDTH + 1` problems of
 //! each level before. It uses no clock and no random numbers.
+//!
+//! # Upper bounds
+//!
+//! **Beams.** For the same numbers of labels, the least first. The answer is the shortest path of all to a problem that is solvable without
+//! communication, the first of several; each beam looks for a shorter one than those before it. So with more labels, or more steps, the
+//! answer is never longer, and never lost.
+//!
+//! **Level.** From each problem in the beam its derived problem, left out where it passes a limit. The first one that is solvable without
+//! communication ends the beam: its labels are left out but those of the first active configuration that shows it, and where these are
+//! more than the beam's number it is left out. Each other one is made thin first: while it has more than three labels for each one of the
+//! beam's number, a quarter of those that are too many, or one more, goes, those of the least chance. From there an inner beam goes on:
+//! each of its problems is followed by those that leave one of its labels out, and with it each label that stands in no active
+//! configuration any more; the four of the greatest chance stay. Each problem on the way with no more labels than the beam's number is a
+//! candidate of the level.
+//!
+//! **Chance.** Let each active node take one of the active configurations at random, and turn it at random: the chance of a problem is that
+//! of a passive node to have one of its configurations around it, and the chance of a label that of a passive node which has this label. A
+//! problem of high chance is near to one that is solvable without communication, whose passive nodes are content where all active nodes
+//! take one configuration. Chances are counted in whole numbers of at most 60 bits.
+//!
+//! **Which stay.** Of the candidates with the three greatest numbers of labels in turn the one with the greatest chance, the next one and
+//! so on, 20 in all. Ties and equal problems are as above.
 #![tactic(auto)]
 
 mod beam;
+mod chance;
 mod finding;
 mod levels;
+mod losses;
 mod merges;
 mod pool;
+mod shortening;
+mod thinning;
+mod upper_beam;
+mod upper_levels;
+mod upper_steps;
 
 pub use finding::{Longest, find_longest};
+pub use shortening::{Shortest, find_shortest};

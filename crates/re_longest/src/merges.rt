@@ -13,11 +13,13 @@ use std::alloc::Global;
 /// How many problems of the inner beam stay after each merge.
 const INNER_WIDTH: usize = 6;
 
-/// A problem of the inner beam: what merges have made of a derived problem, and the number that tells it from others.
+/// A problem of an inner beam: what changes have made of a derived problem, the number that tells it from others, and its rank: those of
+/// the least ranks stay.
 #[derive(Drop)]
 pub(crate) struct State {
     pub(crate) made: Changed,
     pub(crate) mark: u64,
+    pub(crate) rank: u64,
 }
 
 // A merge of two labels of a problem of the inner beam, and how many active configurations it leaves.
@@ -192,17 +194,18 @@ fn changed(alloc: Global, made: &Changed, low: u8, high: u8) -> Result<Option<Ch
     }
 }
 
-/// The inner beam's problem of these changes. None where it is solvable without communication.
+/// The inner beam's problem of these changes, ranked by its active configurations. None where it is solvable without communication.
 pub(crate) fn state_of(made: Changed) -> Option<State> {
     if zero_round(made.problem()).is_some() {
         return None;
     }
     let mark = problem_mark(made.problem());
-    Some(State { made, mark })
+    let rank = made.problem().active().len() as u64;
+    Some(State { made, mark, rank })
 }
 
-// Whether one of the problems has this number.
-fn has_mark(states: &[State], mark: u64) -> bool {
+/// Whether one of the problems has this number.
+pub(crate) fn has_mark(states: &[State], mark: u64) -> bool {
     for state in states {
         if state.mark == mark {
             return true;

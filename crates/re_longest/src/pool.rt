@@ -4,33 +4,33 @@ use re_labels::NoMemory;
 use re_problem::Problem;
 use std::alloc::Global;
 
-/// How many candidates of a level stay.
-pub(crate) const WIDTH: usize = 30;
-
 /// How many numbers of labels count.
 const GROUPS: usize = 3;
 
 /// A problem on a level: the place in the beam before of the problem whose derived problem it was made of, the labels that those of the
-/// derived problem have become, and the number that tells it from others.
+/// derived problem have become, the number that tells it from others, and its rank.
 #[derive(Drop)]
 pub(crate) struct Kept {
     pub(crate) problem: Problem,
     pub(crate) parent: usize,
     pub(crate) images: Vec<Option<u8>>,
     pub(crate) mark: u64,
+    pub(crate) rank: u64,
 }
 
-// The candidates of one number of labels, those with the fewest active configurations first.
+// The candidates of one number of labels, at most so many, those of the least ranks first.
 #[derive(Drop)]
 struct Group {
     labels: usize,
+    width: usize,
     kept: Vec<Kept>,
 }
 
-/// The best candidates of the three greatest numbers of labels, the greatest first.
+/// The best candidates of the three greatest numbers of labels, the greatest first; at most so many stay.
 #[derive(Drop)]
 pub(crate) struct Pool {
     alloc: Global,
+    width: usize,
     groups: Vec<Group>,
 }
 
@@ -43,6 +43,7 @@ pub(crate) fn kept_of(alloc: Global, state: &State, parent: usize) -> Result<Kep
         parent,
         images,
         mark: state.mark,
+        rank: state.rank,
     })
 }
 
@@ -57,13 +58,13 @@ impl Group {
         false
     }
 
-    // Whether a candidate with so many active configurations would stay.
-    fn takes(&self, active: usize) -> bool {
-        if self.kept.len() < WIDTH {
+    // Whether a candidate of this rank would stay.
+    fn takes(&self, rank: u64) -> bool {
+        if self.kept.len() < self.width {
             return true;
         }
         match self.kept.as_slice().last() {
-            Some(last) => active < last.problem.active().len(),
+            Some(last) => rank < last.rank,
             None => true,
         }
     }
@@ -71,17 +72,18 @@ impl Group {
     // One candidate more.
     fn put(&mut self, kept: Kept) -> Result<(), NoMemory> {
         self.kept.push(kept)?;
-        self.kept.sort_by_key(|kept| kept.problem.active().len())?;
-        self.kept.truncate(WIDTH);
+        self.kept.sort_by_key(|kept| kept.rank)?;
+        self.kept.truncate(self.width);
         Ok(())
     }
 }
 
 impl Pool {
-    /// No candidates yet.
-    pub(crate) fn new(alloc: Global) -> Pool {
+    /// No candidates yet, and at most so many that stay.
+    pub(crate) fn new(alloc: Global, width: usize) -> Pool {
         Pool {
             alloc,
+            width,
             groups: Vec::new(alloc),
         }
     }
@@ -100,7 +102,7 @@ impl Pool {
         let labels = problem.names().len();
         for group in self.groups.as_slice() {
             if group.labels == labels {
-                return group.takes(problem.active().len()) && !group.has(state.mark);
+                return group.takes(state.rank) && !group.has(state.mark);
             }
         }
         self.is_open(labels)
@@ -116,6 +118,7 @@ impl Pool {
         }
         let mut group = Group {
             labels,
+            width: self.width,
             kept: Vec::new(self.alloc),
         };
         group.put(kept)?;
@@ -143,10 +146,10 @@ impl Pool {
         for group in self.groups.as_mut_slice() {
             group.kept.reverse();
         }
-        for _turn in 0..WIDTH {
+        for _turn in 0..self.width {
             for group in self.groups.as_mut_slice() {
                 if let Some(kept) = group.kept.pop() {
-                    if Some(kept.mark) != without && beam.len() < WIDTH {
+                    if Some(kept.mark) != without && beam.len() < self.width {
                         beam.push(kept)?;
                     }
                 }

@@ -4,3 +4,4 @@ pub mod Keeping
 pub mod Moving
 pub mod Sums
 pub mod Trying
+pub mod Marking

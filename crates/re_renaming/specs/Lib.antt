@@ -3,3 +3,4 @@ pub mod Renamings
 pub mod Tries
 pub mod Answers
 pub mod Mixing
+pub mod Marks

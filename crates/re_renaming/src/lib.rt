@@ -12,6 +12,18 @@ mod colours;
 mod finding;
 mod marks;
 
+ghost use Rattle.re_renaming.specs.Marks.{ColoursLaw, MovedMarkLaw};
+
 pub use coloured::Coloured;
 pub use finding::{MAX_TRIES, Renaming, renaming_to};
 pub use marks::{config_mark, label_mark, mixed, moved_mark, problem_mark};
+
+/// Problems of which one is the other under other names have colours of one mark. So where the marks are different there is no renaming.
+pub fn colours_law()
+    ensures { ColoursLaw }
+{}
+
+/// The number of a configuration in which one label has become another is that which `moved_mark` gives.
+pub fn moved_mark_law()
+    ensures { MovedMarkLaw }
+{}

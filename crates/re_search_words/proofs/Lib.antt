@@ -1,2 +1,3 @@
 mod Saying
+mod Shortening
 mod WordCounts

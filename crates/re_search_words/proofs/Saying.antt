@@ -6,19 +6,20 @@ use Rattle.re_problem.specs.declared.fault.InputFault.{InputFault}
 use Rattle.re_cert.specs.Bounds.{Bound, last_problem}
 use Rattle.re_cert.specs.declared.certificate.Kind.{Kind}
 use Rattle.re_cert.specs.declared.certificate.Kind.TheVariants.{Fixed, Lower, Upper}
-use Rattle.re_chain_texts.specs.ChainTexts.{chain_fault, text_chain}
+use Rattle.re_chain_texts.specs.ChainTexts.{chain_fault}
 use Rattle.re_chain_texts.proofs.WordsGiven.{certificate_says}
 use Rattle.re_chain_texts.specs.OverChains.{steps_refusal}
 use Rattle.re_check.specs.declared.verdict.Verdict.{Verdict}
 use Rattle.re_frame.proofs.Said.{check_says, fault_says, says_as}
 use Rattle.re_frame.specs.Outcomes.{Outcome}
 use Rattle.re_frame.specs.Runs.{MaySay}
-use Rattle.re_search_words.specs.MayGive.{MayFind, MayFindBehind, MayGive, MayGiveAt, MayGiveRead, MayGiveSound}
+use Rattle.re_search_words.specs.MayGive.{MayFind, MayFindBehind, MayGive, MayGiveAt, MayGiveRead, MayGiveSound, MayShorten, word_chain}
 use Rattle.re_search_words.specs.declared.words.SearchWord.{SearchWord}
-use Rattle.re_search_words.specs.declared.words.SearchWord.TheVariants.{Cycle, Longest}
+use Rattle.re_search_words.specs.declared.words.SearchWord.TheVariants.{Cycle, Longest, Shortest}
 
 find_says : (word : SearchWord) (chain : Bound) (outcome : Outcome) → MayFind word chain outcome → MaySay outcome.status true
 find_says (Longest steps labels) chain outcome may = says_as outcome _ may.1.one (certificate_says may.0 true)
+find_says (Shortest steps labels) chain outcome may = absurd may
 find_says (Cycle steps merges nodes) chain outcome (inl may) = says_as outcome _ may.1.one (certificate_says may.0 true)
 find_says (Cycle steps merges nodes) chain outcome (inr (inl may)) = says_as outcome _ may.2 refl
 find_says (Cycle steps merges nodes) chain outcome (inr (inr may)) = says_as outcome _ may tt
@@ -27,10 +28,21 @@ behind_says : (place : Option ℕ) (word : SearchWord) (chain : Bound) (outcome 
 behind_says (Some place) word chain outcome may = says_as outcome _ may refl
 behind_says None word chain outcome may = find_says word chain outcome may
 
+shorten_says : (place : Option ℕ) (steps labels : ℕ) (chain : Bound) (outcome : Outcome) → MayShorten place steps labels chain outcome → MaySay outcome.status true
+shorten_says (Some place) steps labels chain outcome may = says_as outcome _ may.one (certificate_says chain true)
+shorten_says None steps labels chain outcome (inl may) = says_as outcome _ may.1.one (certificate_says may.0 true)
+shorten_says None steps labels chain outcome (inr may) = says_as outcome _ may.2 refl
+
 at_says : (kind : Kind) (word : SearchWord) (chain : Bound) (outcome : Outcome) → MayGiveAt kind word chain outcome → MaySay outcome.status true
-at_says Lower word chain outcome may = behind_says (zero_place (unnamed (last_problem chain))) word chain outcome may
-at_says Upper word chain outcome may = says_as outcome _ may refl
-at_says Fixed word chain outcome may = behind_says (zero_place (unnamed (last_problem chain))) word chain outcome may
+at_says Upper (Shortest steps labels) chain outcome may = shorten_says (zero_place (unnamed (last_problem chain))) steps labels chain outcome may
+at_says Lower (Shortest steps labels) chain outcome may = says_as outcome _ may refl
+at_says Fixed (Shortest steps labels) chain outcome may = says_as outcome _ may refl
+at_says Lower (Longest steps labels) chain outcome may = behind_says (zero_place (unnamed (last_problem chain))) (Longest steps labels) chain outcome may
+at_says Upper (Longest steps labels) chain outcome may = says_as outcome _ may refl
+at_says Fixed (Longest steps labels) chain outcome may = behind_says (zero_place (unnamed (last_problem chain))) (Longest steps labels) chain outcome may
+at_says Lower (Cycle steps merges nodes) chain outcome may = behind_says (zero_place (unnamed (last_problem chain))) (Cycle steps merges nodes) chain outcome may
+at_says Upper (Cycle steps merges nodes) chain outcome may = says_as outcome _ may refl
+at_says Fixed (Cycle steps merges nodes) chain outcome may = behind_says (zero_place (unnamed (last_problem chain))) (Cycle steps merges nodes) chain outcome may
 
 sound_says : (refusal : Option Verdict) (word : SearchWord) (chain : Bound) (outcome : Outcome) → MayGiveSound refusal word chain outcome → MaySay outcome.status true
 sound_says (Some verdict) word chain outcome may = says_as outcome _ may (check_says verdict)
@@ -42,4 +54,4 @@ read_says None word chain outcome may = sound_says (steps_refusal chain) word ch
 
 pub give_says : (word : SearchWord) (bytes : List ℕ) (outcome : Outcome) → MayGive word bytes outcome → MaySay outcome.status true
 unfolding MayGive
-give_says word bytes outcome may = read_says (chain_fault bytes) word (text_chain bytes) outcome may
+give_says word bytes outcome may = read_says (chain_fault bytes) word (word_chain word bytes) outcome may

@@ -1,6 +1,7 @@
 //! What the words answer.
 ghost use Rattle.re_cert.specs.Bounds.{last_problem};
-ghost use Rattle.re_cert.specs.declared.certificate.Kind.TheVariants.{Fixed};
+ghost use Rattle.re_cert.specs.declared.certificate.Kind.TheVariants.{Fixed, Upper};
+ghost use Rattle.re_chain_texts.specs.ChainTexts.{text_chain};
 ghost use Rattle.re_chain_texts.specs.OverChains.{steps_refusal};
 ghost use Rattle.re_extend.specs.Extensions.{IsSoundChain};
 ghost use Rattle.re_check.specs.Verdicts.{steps_fault};
@@ -9,18 +10,18 @@ ghost use Rattle.re_frame.specs.SearchLines.{not_found_line, solvable_line};
 ghost use Rattle.re_io.specs.declared.read.TheConstants.{MAX_BYTES};
 ghost use Rattle.re_problem.specs.NamedProblems.{unnamed};
 ghost use Rattle.re_problem.specs.Zero.{zero_place};
-ghost use Rattle.re_search_words.specs.MayGive.{MayFindBehind, MayGive, MayGiveAt, MayGiveSound, too_many_line};
+ghost use Rattle.re_search_words.specs.MayGive.{MayFindBehind, MayGive, MayGiveAt, MayGiveSound, MayShorten, too_many_line, upper_chain, word_chain};
 ghost use Rattle.std.specs.Prelude.{◌≡◌, ◌≤◌, IfOk, None, Some, length};
 
 use crate::words::SearchWord;
 use re_cert::{Certificate, Kind};
-use re_chain_texts::{certificate_output, read_chain, steps_refusal};
+use re_chain_texts::{certificate_output, is_certificate_text, read_chain, steps_refusal};
 use re_cycle::{Cycle, find_cycle};
 use re_frame::{
     Answer, Finding, Output, begun, fault_output, push_number, push_words, refused, verdict_output,
 };
 use re_labels::NoMemory;
-use re_longest::{Longest, find_longest};
+use re_longest::{Longest, Shortest, find_longest, find_shortest};
 use re_problem::{Problem, TextFault, print_active};
 use std::alloc::Global;
 
@@ -95,14 +96,69 @@ fn cycle_output(
     }
 }
 
-// What the word gives to a sound chain of kind lower.
-fn lower_output(alloc: Global, word: SearchWord, chain: &Certificate) -> Result<Output, NoMemory>
-    requires { IsSoundChain chain.now }
-    ensures { IfOk result (λ output. MayFindBehind (zero_place (unnamed (last_problem chain.now))) word chain.now (outcome_of output)) }
+// What `shortest` gives to a sound chain of kind upper.
+fn shortest_output(
+    alloc: Global,
+    chain: &Certificate,
+    steps: u8,
+    labels: u8,
+) -> Result<Output, NoMemory>
+    requires upper { chain.now.kind ≡ Upper }
+    requires meets { steps_fault chain.now.first 1 chain.now.steps ≡ None }
+    ensures { IfOk result (λ output. MayShorten (zero_place (unnamed (last_problem chain.now))) steps labels chain.now (outcome_of output)) }
 {
-    match word {
-        SearchWord::Longest(steps, labels) => longest_output(alloc, chain, steps, labels),
-        SearchWord::Cycle(steps, merges, nodes) => cycle_output(alloc, chain, steps, merges, nodes),
+    match find_shortest(alloc, chain, steps, labels)? {
+        Shortest::Found(certificate) => certificate_output(alloc, &certificate),
+        Shortest::NotFound { nodes, cut } => not_found(alloc, nodes, cut),
+    }
+}
+
+// What `longest` gives to a chain each step of which meets its clauses.
+fn longest_at(alloc: Global, chain: &Certificate, steps: u8, labels: u8) -> Result<Output, NoMemory>
+    requires meets { steps_fault chain.now.first 1 chain.now.steps ≡ None }
+    requires open { chain.now.kind ≡ Fixed → ⊥ }
+    ensures { IfOk result (λ output. MayGiveAt chain.now.kind (SearchWord.Longest steps labels) chain.now (outcome_of output)) }
+{
+    match chain.kind() {
+        Kind::Lower => longest_output(alloc, chain, steps, labels),
+        Kind::Upper => Ok(refused(begun(alloc, "no: not a lower chain\n")?)),
+        Kind::Fixed => unreachable!(),
+    }
+}
+
+// What `cycle` gives to a chain.
+fn cycle_at(
+    alloc: Global,
+    chain: &Certificate,
+    steps: u8,
+    merges: u8,
+    nodes: u32,
+) -> Result<Output, NoMemory>
+    requires { chain.now.kind ≡ Fixed → ⊥ }
+    ensures { IfOk result (λ output. MayGiveAt chain.now.kind (SearchWord.Cycle steps merges nodes) chain.now (outcome_of output)) }
+{
+    match chain.kind() {
+        Kind::Lower => cycle_output(alloc, chain, steps, merges, nodes),
+        Kind::Upper => Ok(refused(begun(alloc, "no: not a lower chain\n")?)),
+        Kind::Fixed => unreachable!(),
+    }
+}
+
+// What `shortest` gives to a chain each step of which meets its clauses.
+fn shortest_at(
+    alloc: Global,
+    chain: &Certificate,
+    steps: u8,
+    labels: u8,
+) -> Result<Output, NoMemory>
+    requires meets { steps_fault chain.now.first 1 chain.now.steps ≡ None }
+    requires open { chain.now.kind ≡ Fixed → ⊥ }
+    ensures { IfOk result (λ output. MayGiveAt chain.now.kind (SearchWord.Shortest steps labels) chain.now (outcome_of output)) }
+{
+    match chain.kind() {
+        Kind::Upper => shortest_output(alloc, chain, steps, labels),
+        Kind::Lower => Ok(refused(begun(alloc, "no: not an upper chain\n")?)),
+        Kind::Fixed => unreachable!(),
     }
 }
 
@@ -112,10 +168,10 @@ fn chain_output(alloc: Global, word: SearchWord, chain: &Certificate) -> Result<
     requires open { chain.now.kind ≡ Fixed → ⊥ }
     ensures { IfOk result (λ output. MayGiveAt chain.now.kind word chain.now (outcome_of output)) }
 {
-    match chain.kind() {
-        Kind::Lower => lower_output(alloc, word, chain),
-        Kind::Upper => Ok(refused(begun(alloc, "no: not a lower chain\n")?)),
-        Kind::Fixed => unreachable!(),
+    match word {
+        SearchWord::Longest(steps, labels) => longest_at(alloc, chain, steps, labels),
+        SearchWord::Shortest(steps, labels) => shortest_at(alloc, chain, steps, labels),
+        SearchWord::Cycle(steps, merges, nodes) => cycle_at(alloc, chain, steps, merges, nodes),
     }
 }
 
@@ -130,6 +186,51 @@ fn sound_output(alloc: Global, word: SearchWord, chain: &Certificate) -> Result<
     }
 }
 
+// The chain that the text stands for where an upper bound is searched for, of the one that it writes.
+fn upper_chain(alloc: Global, text: &[u8], chain: Certificate) -> Result<Certificate, NoMemory>
+    requires { chain ≡ text_chain text.now }
+    ensures { IfOk result (λ upper. upper ≡ upper_chain text.now) }
+{
+    if is_certificate_text(text) {
+        return Ok(chain);
+    }
+    let first = chain.first().copy()?;
+    match Certificate::build(Kind::Upper, 0, first, Vec::new(alloc), Vec::new(alloc)) {
+        Some(upper) => Ok(upper),
+        None => unreachable!(),
+    }
+}
+
+// The chain that the text stands for to the word, of the one that it writes.
+fn word_chain(
+    alloc: Global,
+    word: SearchWord,
+    text: &[u8],
+    chain: Certificate,
+) -> Result<Certificate, NoMemory>
+    requires { chain ≡ text_chain text.now }
+    ensures { IfOk result (λ meant. meant ≡ word_chain word text.now) }
+{
+    match word {
+        SearchWord::Shortest(..) => upper_chain(alloc, text, chain),
+        SearchWord::Longest(..) | SearchWord::Cycle(..) => Ok(chain),
+    }
+}
+
+// What the word gives to a text without a fault, which writes the chain.
+fn read_output(
+    alloc: Global,
+    word: SearchWord,
+    text: &[u8],
+    chain: Certificate,
+) -> Result<Output, NoMemory>
+    requires { chain ≡ text_chain text.now }
+    ensures { IfOk result (λ output. MayGiveSound (steps_refusal (word_chain word text.now)) word (word_chain word text.now) (outcome_of output)) }
+{
+    let chain = word_chain(alloc, word, text, chain)?;
+    sound_output(alloc, word, &chain)
+}
+
 // What the word gives to a text.
 #[tactic(auto, unfolding(crate::specs::MayGive::MayGive))]
 fn text_output(alloc: Global, word: SearchWord, text: &[u8]) -> Result<Output, NoMemory>
@@ -137,7 +238,7 @@ fn text_output(alloc: Global, word: SearchWord, text: &[u8]) -> Result<Output, N
     ensures { IfOk result (λ output. MayGive word text.now (outcome_of output)) }
 {
     match read_chain(alloc, text) {
-        Ok(chain) => sound_output(alloc, word, &chain),
+        Ok(chain) => read_output(alloc, word, text, chain),
         Err(TextFault::Bad(fault)) => Ok(fault_output(alloc, fault)?),
         Err(TextFault::NoMemory) => Err(NoMemory),
     }

@@ -1,4 +1,4 @@
-//! The words `longest` and `cycle`: searches for a lower bound or a fixed point that goes on from a chain.
+//! The words `longest`, `shortest` and `cycle`: searches for a lower bound, an upper bound or a fixed point that goes on from a chain.
 #![tactic(auto)]
 
 mod answering;

@@ -1,5 +1,5 @@
 //! The words, and what they say.
-ghost use Rattle.re_search_words.specs.Words.{IsSearchWord, cycle_with, longest_with, search_help, search_word_of};
+ghost use Rattle.re_search_words.specs.Words.{IsSearchWord, bound_word, cycle_with, longest_with, search_help, search_word_of, shortest_with};
 ghost use Rattle.std.specs.Prelude.{◌≡◌, IfSome, map, string_bytes};
 
 use re_cert::MAX_STEPS;
@@ -17,6 +17,8 @@ pub(crate) const MAX_NODES: u32 = 1_000_000;
 pub enum SearchWord {
     /// `longest K L`: a long lower bound with at most K more steps, each to a problem of at most L labels.
     Longest(u8, u8),
+    /// `shortest K L`: an upper bound with at most K more steps, each to a problem of at most L labels.
+    Shortest(u8, u8),
     /// `cycle K M N`: a fixed point with at most K more steps, each with at most M merges, of at most N problems that are looked at.
     Cycle(u8, u8, u32),
 }
@@ -29,6 +31,35 @@ fn longest_with(steps: Option<u32>, labels: Option<u32>) -> Option<SearchWord>
     let labels = labels?;
     if steps as usize <= MAX_STEPS && 2 <= labels && labels <= MAX_LABELS as u32 {
         Some(SearchWord::Longest(steps as u8, labels as u8))
+    } else {
+        None
+    }
+}
+
+fn shortest_with(steps: Option<u32>, labels: Option<u32>) -> Option<SearchWord>
+    ensures word { result ≡ shortest_with steps labels }
+    ensures fits { IfSome result IsSearchWord }
+{
+    let steps = steps?;
+    let labels = labels?;
+    if steps as usize <= MAX_STEPS && 2 <= labels && labels <= MAX_LABELS as u32 {
+        Some(SearchWord::Shortest(steps as u8, labels as u8))
+    } else {
+        None
+    }
+}
+
+// The search for a bound that the word names.
+fn bound_word(word: &str, steps: &str, labels: &str) -> Option<SearchWord>
+    ensures word { result ≡ bound_word word.now steps.now labels.now }
+    ensures fits { IfSome result IsSearchWord }
+{
+    let steps = read_number(steps.as_bytes());
+    let labels = read_number(labels.as_bytes());
+    if "longest" == word {
+        longest_with(steps, labels)
+    } else if "shortest" == word {
+        shortest_with(steps, labels)
     } else {
         None
     }
@@ -57,16 +88,7 @@ pub fn search_word(words: &[String]) -> Option<SearchWord>
     ensures fits { IfSome result IsSearchWord }
 {
     match words {
-        [word, steps, labels] => {
-            if "longest" == word.as_str() {
-                longest_with(
-                    read_number(steps.as_bytes()),
-                    read_number(labels.as_bytes()),
-                )
-            } else {
-                None
-            }
-        }
+        [word, steps, labels] => bound_word(word.as_str(), steps.as_str(), labels.as_str()),
         [word, steps, merges, nodes] => {
             if "cycle" == word.as_str() {
                 cycle_with(
@@ -87,5 +109,5 @@ pub fn search_word(words: &[String]) -> Option<SearchWord>
 pub fn search_help() -> &'static str
     ensures { result.now ≡ search_help }
 {
-    "longest K L: reads a chain, gives the longest lower bound that is found with at most K more steps, each to at most L labels\ncycle K M N: reads a chain, gives a fixed point with at most K more steps and at most M merges in each, of at most N problems looked at\n"
+    "longest K L: reads a chain, gives the longest lower bound that is found with at most K more steps, each to at most L labels\nshortest K L: reads a chain of kind upper or a problem, gives the shortest upper bound that is found with at most K more steps, each to at most L labels\ncycle K M N: reads a chain, gives a fixed point with at most K more steps and at most M merges in each, of at most N problems looked at\n"
 }

@@ -1,11 +1,8 @@
 -- Two hops are one round of the graph.
-use Rattle.std.proofs.Common.{ℕ, ◌*◌, ◌/◌, ◌+◌, ◌<◌, arith}
+use Rattle.std.proofs.Common.{ℕ, ◌*◌, ◌<◌, arith}
 use Rattle.re_describe.proofs.GraphRounds.{solvable_above, twice_below}
 use Rattle.re_describe.specs.GraphRounds.{rounds_above}
-use Rattle.re_problem.specs.Problems.{Problem}
-use Rattle.re_settle.specs.Claims.{Holds}
-use Rattle.re_settle.specs.GraphRounds.{GraphRoundsLaw, HoldsByGraph}
-use Rattle.re_settle.specs.declared.types.Claim.{Claim}
+use Rattle.re_settle.specs.GraphRounds.{GraphRoundsLaw}
 use Rattle.re_settle.specs.declared.types.Claim.TheVariants.{AtMost, Between, Exactly, MoreThan, Never}
 
 twice_under : (k r : ℕ) → r < rounds_above k → 2 * r < k

@@ -1,20 +1,26 @@
 -- What each of the words shows where it finds something.
-use Rattle.std.proofs.Common.{◌≡◌, ℕ, ◌≤◌, length, refl, subst, sym, Result, Ok, None, Some}
-use Rattle.re_cert.specs.Bounds.{Bound}
+use Rattle.std.proofs.Common.{◌≡◌, ℕ, ◌+◌, ◌≤◌, List, [], ◌∷◌, length, length-append, refl, subst, sym, ap, ◌∙◌, arith, Ok, None}
+use Rattle.std.specs.List.{AllByRecursion}
+use Rattle.re_cert.specs.Bounds.{Bound, BoundStep, next_problems}
+use Rattle.re_cert.specs.declared.certificate.Kind.{Kind}
 use Rattle.re_cert.specs.declared.certificate.Kind.TheVariants as kind
+use Rattle.re_chain.specs.Merging.{merge_limit, merge_refusal, merged}
 use Rattle.re_chain_texts.specs.ChainTexts.{problem_chain}
+use Rattle.re_chain_parts.specs.Chains.{IsSound as IsSteps}
+use Rattle.re_check.specs.Verdicts.{Means}
+use Rattle.re_check.specs.declared.verdict.Verdict.TheVariants.{Accepted}
 use Rattle.re_cover.specs.Graphs.{PortGraph}
-use Rattle.re_extend.specs.Extensions.{GoesOn, IsSoundChain}
+use Rattle.re_extend.specs.Extensions.{AreSmall, GoesOn, IsSoundChain}
 use Rattle.re_graph.specs.Solving.{IsCover}
 use Rattle.re_labels.specs.declared.TheConstants.{MAX_LABELS}
 use Rattle.re_laws.specs.Algorithms.{Solvable}
-use Rattle.re_problem.specs.NamedProblems.{NamedProblem, unnamed}
+use Rattle.re_problem.specs.NamedProblems.{IsNamedProblem, NamedProblem, unnamed}
 use Rattle.re_search.specs.Searches.{Answers, FindsTrue}
 use Rattle.re_search.specs.declared.types.Search.{Search}
 use Rattle.re_search.specs.declared.types.Search.TheVariants.{Found}
 use Rattle.re_settle.specs.Ways.{IsKnown}
 use Rattle.re_settle.specs.declared.types.Claim.TheVariants.{AtMost, MoreThan, Never}
-use Rattle.re_settle.specs.declared.types.Way.TheVariants.{Closure, Cover, Cycle, Fixed, Longest, Lower, Upper}
+use Rattle.re_settle.specs.declared.types.Way.TheVariants.{Closure, Cover, Cycle, Fixed, Longest, Lower, Merge, Upper}
 
 -- ---- searches of `re`
 pub fixed_known : (problem : NamedProblem) (steps merges : ℕ) (search : Search) (bound : Bound) → search ≡ Found bound → Answers kind.Fixed steps merges problem (Ok search) → FindsTrue kind.Fixed problem (Ok search)
@@ -43,10 +49,44 @@ upper_known problem steps drops rounds search bound is answers true count = subs
 pub start_sound : (problem : NamedProblem) (chain : Bound) → chain ≡ problem_chain problem → IsSoundChain chain
 start_sound problem chain start = subst IsSoundChain (sym start) (record { lower = refl; meets = refl })
 
-pub closure_known : (problem : NamedProblem) (chain bound : Bound) → chain ≡ problem_chain problem → GoesOn kind.Fixed 3 MAX_LABELS chain bound → IsKnown problem Never (Closure 0)
-closure_known problem chain bound start goes =
-    let on : GoesOn kind.Fixed 3 MAX_LABELS (problem_chain problem) bound = subst (λ c. GoesOn kind.Fixed 3 MAX_LABELS c bound) start goes in
+-- each step of a bound over problems leads to one of few labels
+all-small : (steps : List BoundStep) → AllByRecursion IsNamedProblem (next_problems steps) → AreSmall MAX_LABELS steps
+all-small [] over = tt
+all-small (s ∷ steps) over = (over.0.names.few, all-small steps over.1)
+
+-- what goes on from a chain goes on from its first problem, by the chain's steps too
+from-first : (kind : Kind) (problem : NamedProblem) (chain bound : Bound) (most : ℕ) → chain.first ≡ problem → GoesOn kind most MAX_LABELS chain bound
+    → GoesOn kind (length chain.steps + most) MAX_LABELS (problem_chain problem) bound
+from-first kind problem chain bound most first goes = record {
+  fits = goes.fits;
+  problems = goes.problems;
+  of_kind = goes.of_kind;
+  first = goes.first ∙ first;
+  more = bound.steps;
+  steps = refl;
+  few = (let count = ap length goes.steps ∙ length-append chain.steps goes.more in let few = goes.few in omega arith);
+  small = all-small bound.steps goes.problems.next;
+  valid = goes.valid;
+  means = subst (λ (p : NamedProblem). Means (Accepted kind (length bound.steps)) (unnamed p)) first goes.means;
+}
+
+pub closure_known : (problem : NamedProblem) (chain bound : Bound) (steps : ℕ) → chain.first ≡ problem → steps ≡ length chain.steps → GoesOn kind.Fixed 3 MAX_LABELS chain bound → IsKnown problem Never (Closure steps)
+closure_known problem chain bound steps first count goes =
+    let on : GoesOn kind.Fixed (steps + 3) MAX_LABELS (problem_chain problem) bound =
+    subst (λ k. GoesOn kind.Fixed (k + 3) MAX_LABELS (problem_chain problem) bound) (sym count) (from-first kind.Fixed problem chain bound 3 first goes) in
     record { shows = (refl, (length bound.steps, (bound, on, refl))); holds = on.means }
+
+-- what a merge in the problem gives is sound
+pub merged_sound : (problem : NamedProblem) (chain made : Bound) (from to : ℕ) → chain ≡ problem_chain problem → made ≡ merged from to chain → IsSteps (merged from to chain) → IsSoundChain made
+merged_sound problem chain made from to start is sound =
+    subst IsSoundChain (sym (is ∙ ap (merged from to) start)) (record { lower = refl; meets = subst (λ (c : Bound). IsSteps (merged from to c)) start sound })
+
+-- the fixed point of the closure behind a merge
+pub merge_known : (problem : NamedProblem) (chain bound : Bound) (from to : ℕ) → chain ≡ merged from to (problem_chain problem) → merge_refusal from to (problem_chain problem) ≡ None
+    → merge_limit from to (problem_chain problem) ≡ None → GoesOn kind.Fixed 3 MAX_LABELS chain bound → IsKnown problem Never (Merge from to)
+merge_known problem chain bound from to is may within goes =
+    let on : GoesOn kind.Fixed 3 MAX_LABELS (merged from to (problem_chain problem)) bound = subst (λ c. GoesOn kind.Fixed 3 MAX_LABELS c bound) is goes in
+    record { shows = (refl, record { may = may; within = within; bound = bound; goes_on = on }); holds = on.means }
 
 pub cycle_known : (problem : NamedProblem) (chain bound : Bound) (steps merges nodes : ℕ) → chain ≡ problem_chain problem → GoesOn kind.Fixed steps MAX_LABELS chain bound → IsKnown problem Never (Cycle steps merges nodes)
 cycle_known problem chain bound steps merges nodes start goes =

@@ -18,7 +18,7 @@ either_says false text = refl
 read_says : (fault : Option InputFault) (problem : NamedProblem) (outcome : Outcome) → MayGiveRead fault problem outcome → MaySay outcome.status true
 read_says (Some fault) problem outcome may = says_as outcome _ may (fault_says fault true)
 read_says None problem outcome may =
-    says_as outcome _ may.lines (either_says (is_final (claim_of may.settled)) (settled_text problem.passive.degree may.settled))
+    says_as outcome _ may.lines (either_says (is_final (claim_of may.settled)) (settled_text problem.names problem.passive.degree may.settled))
 
 pub give_says : (bytes : List ℕ) (outcome : Outcome) → MayGive bytes outcome → MaySay outcome.status true
 unfolding MayGive

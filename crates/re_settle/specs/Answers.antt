@@ -10,14 +10,14 @@ use Rattle.re_settle.specs.Lines.{settled_text}
 use Rattle.re_settle.specs.Ways.{IsSettled}
 use Rattle.re_settle.specs.declared.types.Settled.{Settled}
 
--- the lines of what is known of a problem whose passive nodes have this degree: Done where the claim leaves no question, and else No
-abbrev pub settled_outcome : ℕ → Settled → Outcome
-settled_outcome passive settled = if is_final (claim_of settled) then done (settled_text passive settled) else refused (settled_text passive settled)
+-- the lines of what is known of a problem with these names, whose passive nodes have this degree: Done where the claim leaves no question, and else No
+abbrev pub settled_outcome : List (List ℕ) → ℕ → Settled → Outcome
+settled_outcome names passive settled = if is_final (claim_of settled) then done (settled_text names passive settled) else refused (settled_text names passive settled)
 
 -- the lines of something that is known of the problem, shown by the words that they name, and true
 pub record IsAnswer (problem : NamedProblem) (outcome : Outcome) : Type 0 where
   pub settled : Settled
-  pub lines : outcome ≡ settled_outcome problem.passive.degree settled
+  pub lines : outcome ≡ settled_outcome problem.names problem.passive.degree settled
   pub known : IsSettled problem settled
 
 -- the line of the first fault of the text, and else such an answer on its problem

@@ -1,6 +1,7 @@
 -- The lines of an answer.
-use Rattle.std.specs.Prelude.{ℕ, ◌==◌, List, [], ◌∷◌, ◌++◌, codes, flat_map, if◌then◌else◌, None, Some}
+use Rattle.std.specs.Prelude.{ℕ, ◌==◌, List, [], ◌∷◌, ◌++◌, codes, if◌then◌else◌, None, Some}
 use Rattle.std.specs.Fmt.{decimal}
+use Rattle.re_printing.specs.SetTexts.{named_text}
 use Rattle.re_settle.specs.Claims.{claim_of}
 use Rattle.re_describe.specs.GraphRounds.{rounds_above, rounds_below}
 use Rattle.re_settle.specs.declared.types.Claim.{Claim}
@@ -8,7 +9,7 @@ use Rattle.re_settle.specs.declared.types.Claim.TheVariants.{AtMost, Between, Ex
 use Rattle.re_settle.specs.declared.types.Settled.{Settled}
 use Rattle.re_settle.specs.declared.types.Settled.TheVariants as settled
 use Rattle.re_settle.specs.declared.types.Way.{Way}
-use Rattle.re_settle.specs.declared.types.Way.TheVariants.{Closure, Cover, Cycle, Fixed, Longest, Lower, Upper, Zero}
+use Rattle.re_settle.specs.declared.types.Way.TheVariants.{Closure, Cover, Cycle, Fixed, Longest, Lower, Merge, Upper, Zero}
 
 -- ---- the first line
 -- the rounds of the graph, where the passive nodes have two neighbours
@@ -32,6 +33,7 @@ way_words (Lower steps merges) = codes "re lower"
 way_words (Upper steps drops) = codes "re upper"
 way_words (Fixed steps merges) = codes "re fixed"
 way_words (Closure steps) = codes "explore closure"
+way_words (Merge from to) = codes "explore merge"
 way_words (Cover nodes) = codes "explore cover"
 way_words (Cycle steps merges nodes) = codes "explore cycle"
 way_words (Longest steps labels) = codes "explore longest"
@@ -43,6 +45,7 @@ way_numbers (Lower steps merges) = steps ∷ merges ∷ []
 way_numbers (Upper steps drops) = steps ∷ drops ∷ []
 way_numbers (Fixed steps merges) = steps ∷ merges ∷ []
 way_numbers (Closure steps) = if steps == 0 then [] else steps ∷ []
+way_numbers (Merge from to) = []
 way_numbers (Cover nodes) = nodes ∷ []
 way_numbers (Cycle steps merges nodes) = steps ∷ merges ∷ nodes ∷ []
 way_numbers (Longest steps labels) = steps ∷ labels ∷ []
@@ -51,16 +54,28 @@ abbrev pub number_texts : List ℕ → List ℕ
 number_texts [] = []
 number_texts (number ∷ numbers) = (codes " " ++ decimal number) ++ number_texts numbers
 
-abbrev pub way_line : Way → List ℕ
-way_line way = codes "by: " ++ (way_words way ++ (number_texts (way_numbers way) ++ codes "\n"))
+-- the labels of a merge, by the names of the problem, and the words that read what it gives; nothing behind other words
+abbrev pub way_rest : List (List ℕ) → Way → List ℕ
+way_rest names (Merge from to) = codes " " ++ (named_text names from ++ (codes " " ++ (named_text names to ++ codes " | explore closure")))
+way_rest names Zero = codes ""
+way_rest names (Lower steps merges) = codes ""
+way_rest names (Upper steps drops) = codes ""
+way_rest names (Fixed steps merges) = codes ""
+way_rest names (Closure steps) = codes ""
+way_rest names (Cover nodes) = codes ""
+way_rest names (Cycle steps merges nodes) = codes ""
+way_rest names (Longest steps labels) = codes ""
+
+abbrev pub way_line : List (List ℕ) → Way → List ℕ
+way_line names way = codes "by: " ++ (way_words way ++ (number_texts (way_numbers way) ++ (way_rest names way ++ codes "\n")))
 
 -- a line for each of the words that show what is known
-abbrev pub way_lines : Settled → List ℕ
-way_lines settled.AtOnce = way_line Zero
-way_lines (settled.Never way) = way_line way
-way_lines (settled.Within more None) = way_line more.way
-way_lines (settled.Within more (Some most)) = way_line more.way ++ way_line most.way
+abbrev pub way_lines : List (List ℕ) → Settled → List ℕ
+way_lines names settled.AtOnce = way_line names Zero
+way_lines names (settled.Never way) = way_line names way
+way_lines names (settled.Within more None) = way_line names more.way
+way_lines names (settled.Within more (Some most)) = way_line names more.way ++ way_line names most.way
 
--- the whole answer on a problem whose passive nodes have this degree
-abbrev pub settled_text : ℕ → Settled → List ℕ
-settled_text passive settled = claim_text passive (claim_of settled) ++ (codes "\n" ++ way_lines settled)
+-- the whole answer on a problem with these names, whose passive nodes have this degree
+abbrev pub settled_text : List (List ℕ) → ℕ → Settled → List ℕ
+settled_text names passive settled = claim_text passive (claim_of settled) ++ (codes "\n" ++ way_lines names settled)

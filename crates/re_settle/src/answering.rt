@@ -17,7 +17,7 @@ fn problem_output(alloc: Global, problem: &Problem) -> Result<Output, NoMemory>
     ensures { IfOk result (λ output. IsAnswer problem.now (outcome_of output)) }
 {
     let settled = settle(alloc, problem)?;
-    settled_output(alloc, problem.passive().degree(), settled)
+    settled_output(alloc, problem.names(), problem.passive().degree(), settled)
 }
 
 // What the word gives to a text.

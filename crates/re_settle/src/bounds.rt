@@ -14,8 +14,8 @@ use re_problem::Problem;
 use re_search::{FindFault, Search, find_lower, find_upper};
 use std::alloc::Global;
 
-// How many steps a certificate has.
-fn count_of(certificate: &Certificate) -> u8
+/// How many steps a certificate has.
+pub(crate) fn count_of(certificate: &Certificate) -> u8
     ensures { result ≡ length certificate.now.steps }
 {
     certificate.steps().len() as u8

@@ -1,15 +1,17 @@
 //! The lines of an answer.
 ghost use Rattle.re_frame.specs.Outcomes.{outcome_of};
+ghost use Rattle.re_printing.specs.SetTexts.{named_text};
 ghost use Rattle.re_settle.specs.Answers.{settled_outcome};
 ghost use Rattle.re_settle.specs.Claims.{claim_of, is_final, within};
-ghost use Rattle.re_settle.specs.Lines.{claim_text, graph_part, number_texts, settled_text, way_line, way_lines, way_numbers, way_words};
+ghost use Rattle.re_settle.specs.Lines.{claim_text, graph_part, number_texts, settled_text, way_line, way_lines, way_numbers, way_rest, way_words};
 ghost use Rattle.std.specs.Fmt.{decimal};
 ghost use Rattle.std.specs.Prelude.{◌≡◌, ◌++◌, ◌∷◌, [], IfOk, OnOk};
 
 use crate::types::{Claim, Settled, Way};
 use arrayvec::ArrayVec;
 use re_frame::{Output, done, push_number, push_words, refused};
-use re_labels::NoMemory;
+use re_labels::{Names, NoMemory};
+use re_problem::push_label;
 use std::alloc::Global;
 
 // The claim of more than the first number of rounds and at most the second.
@@ -97,6 +99,7 @@ fn way_words(way: Way) -> &'static str
         Way::Upper(..) => "re upper",
         Way::Fixed(..) => "re fixed",
         Way::Closure(_) => "explore closure",
+        Way::Merge(..) => "explore merge",
         Way::Cover(_) => "explore cover",
         Way::Cycle(..) => "explore cycle",
         Way::Longest(..) => "explore longest",
@@ -127,7 +130,7 @@ fn way_numbers(way: Way) -> ArrayVec<u32, 3>
     ensures { result.items ≡ way_numbers way }
 {
     match way {
-        Way::Zero | Way::Closure(0) => ArrayVec::new(),
+        Way::Zero | Way::Closure(0) | Way::Merge(..) => ArrayVec::new(),
         Way::Closure(steps) => one(steps),
         Way::Cover(nodes) => one(nodes),
         Way::Lower(steps, changes) | Way::Upper(steps, changes) | Way::Fixed(steps, changes) => {
@@ -155,52 +158,86 @@ fn push_numbers(text: &mut Vec<u8>, numbers: &[u32]) -> Result<(), NoMemory>
     push_numbers(text, others)
 }
 
+// Appends the name of a label, or empty parentheses where there is none.
+fn push_name(text: &mut Vec<u8>, names: &Names, label: u8) -> Result<(), NoMemory>
+    ensures { OnOk result (text.new.items ≡ text.old.items ++ named_text names.now label) }
+{
+    if (label as usize) < names.len() {
+        push_label(text, names.name(label))
+    } else {
+        push_words(text, "()")
+    }
+}
+
+// Appends the labels of a merge and the words that read what it gives.
+fn push_rest(text: &mut Vec<u8>, names: &Names, way: Way) -> Result<(), NoMemory>
+    ensures { OnOk result (text.new.items ≡ text.old.items ++ way_rest names.now way) }
+{
+    match way {
+        Way::Merge(from, to) => {
+            push_words(text, " ")?;
+            push_name(text, names, from)?;
+            push_words(text, " ")?;
+            push_name(text, names, to)?;
+            push_words(text, " | explore closure")
+        }
+        _ => push_words(text, ""),
+    }
+}
+
 // Appends the line of these words.
-fn push_way(text: &mut Vec<u8>, way: Way) -> Result<(), NoMemory>
-    ensures { OnOk result (text.new.items ≡ text.old.items ++ way_line way) }
+fn push_way(text: &mut Vec<u8>, names: &Names, way: Way) -> Result<(), NoMemory>
+    ensures { OnOk result (text.new.items ≡ text.old.items ++ way_line names.now way) }
 {
     let numbers = way_numbers(way);
     push_words(text, "by: ")?;
     push_words(text, way_words(way))?;
     push_numbers(text, numbers.as_slice())?;
+    push_rest(text, names, way)?;
     push_words(text, "\n")
 }
 
 // Appends the lines of the words that show what is known.
-fn push_ways(text: &mut Vec<u8>, settled: Settled) -> Result<(), NoMemory>
-    ensures { OnOk result (text.new.items ≡ text.old.items ++ way_lines settled) }
+fn push_ways(text: &mut Vec<u8>, names: &Names, settled: Settled) -> Result<(), NoMemory>
+    ensures { OnOk result (text.new.items ≡ text.old.items ++ way_lines names.now settled) }
 {
     match settled {
-        Settled::AtOnce => push_way(text, Way::Zero),
-        Settled::Never(way) => push_way(text, way),
-        Settled::Within(more, None) => push_way(text, more.way),
+        Settled::AtOnce => push_way(text, names, Way::Zero),
+        Settled::Never(way) => push_way(text, names, way),
+        Settled::Within(more, None) => push_way(text, names, more.way),
         Settled::Within(more, Some(most)) => {
-            push_way(text, more.way)?;
-            push_way(text, most.way)
+            push_way(text, names, more.way)?;
+            push_way(text, names, most.way)
         }
     }
 }
 
-// The text of what is known of a problem whose passive nodes have this degree.
-fn settled_text(alloc: Global, passive: u8, settled: Settled) -> Result<Vec<u8>, NoMemory>
-    ensures { IfOk result (λ text. text.items ≡ settled_text passive settled) }
+// The text of what is known of a problem with these names, whose passive nodes have this degree.
+fn settled_text(
+    alloc: Global,
+    names: &Names,
+    passive: u8,
+    settled: Settled,
+) -> Result<Vec<u8>, NoMemory>
+    ensures { IfOk result (λ text. text.items ≡ settled_text names.now passive settled) }
 {
     let mut text = Vec::new(alloc);
     push_claim(&mut text, passive, claim_of(settled))?;
     push_words(&mut text, "\n")?;
-    push_ways(&mut text, settled)?;
+    push_ways(&mut text, names, settled)?;
     Ok(text)
 }
 
-/// The output for what is known of a problem whose passive nodes have this degree.
+/// The output for what is known of a problem with these names, whose passive nodes have this degree.
 pub(crate) fn settled_output(
     alloc: Global,
+    names: &Names,
     passive: u8,
     settled: Settled,
 ) -> Result<Output, NoMemory>
-    ensures { IfOk result (λ output. outcome_of output ≡ settled_outcome passive settled) }
+    ensures { IfOk result (λ output. outcome_of output ≡ settled_outcome names.now passive settled) }
 {
-    let text = settled_text(alloc, passive, settled)?;
+    let text = settled_text(alloc, names, passive, settled)?;
     if is_final(claim_of(settled)) {
         Ok(done(text))
     } else {

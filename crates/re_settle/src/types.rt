@@ -13,6 +13,9 @@ pub enum Way {
     Fixed(u8, u8),
     /// `explore closure`: the fixed point of its closure; or behind 1 step, or as many as are named.
     Closure(u8),
+    /// `explore merge X Y`, and on what it gives `explore closure`, X and Y being the names of the labels of these numbers: the fixed point of
+    /// the closure behind the step to the derived problem of the problem in which X has become Y.
+    Merge(u8, u8),
     /// `explore cover M`: a graph of at most M active nodes without a solution.
     Cover(u8),
     /// `explore cycle K M N`: a fixed point of at most K steps with at most M merges in each, of at most N problems that are looked at.

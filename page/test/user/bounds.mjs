@@ -1,5 +1,6 @@
 // Bounds made with clicks: chains, fixed points, upper bounds and refusals, each with its line.
-import {answer, example, namesIn, whyOf} from '../place.mjs';
+import {isGraphText} from '../../src/graphs.js';
+import {answer, example, namesIn, natively, whyOf} from '../place.mjs';
 import {cardsAre, drawn, MIS} from '../user.mjs';
 
 const quoted = value => JSON.stringify(value);
@@ -140,12 +141,22 @@ export const boundsSessions = {
         await picture('algorithm', 'dialog');
     },
 
-    async 'all certificates of the gallery'(user, page, checks) {
+    async 'all certificates and graphs of the gallery'(user, page, checks) {
         for (const file of namesIn('gallery')) {
             const name = file.replace('.txt', '').replaceAll('-', ' '), text = example(`gallery/${file}`),
                   line = answer(['check'], text).trim();
             await page.choose('#gallery', name);
             await page.until(`bench.cards.path()[0]?.title === ${quoted(name)}`);
+            if (isGraphText(text)) {
+                checks.equal(name,
+                    await page.until(`document.querySelector('dialog svg.graph') && document.querySelector('dialog .line').textContent`),
+                    natively('explore', ['solve'], text).text.split('\n', 1)[0]);
+                checks.equal(`${name}: its problem`, await user.problem(), answer(['read'], text.split('== graph')[0]));
+                checks.equal(`${name}: its lines`, await page.value(`document.querySelector('dialog textarea').value`),
+                    text.split('== graph\n')[1].trim());
+                await page.click('dialog button.close');
+                continue;
+            }
             await user.says(line);
             checks.equal(`${name}: the same text comes back`, await user.certificate(), text);
         }

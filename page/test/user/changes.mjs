@@ -1,9 +1,9 @@
 // Changes of a problem: merges, arrows, names, relaxations and restrictions.
-import {wordsIn} from '../../src/words.js';
 import {answer, example, natively, whyOf} from '../place.mjs';
+import {explored, teachMissing} from '../teaching.mjs';
 import {cardsAre, drawn, MIS} from '../user.mjs';
 
-const hasBridge = wordsIn(natively('explore', ['help']).text).has('bridge');
+const hasBridge = explored.has('bridge');
 
 export const changesSessions = {
     async 'an arrow, a merge, names by sets'(user, page, checks) {
@@ -113,6 +113,20 @@ export const changesSessions = {
         await user.actOnSelected('Leave out');
         await page.until(
             `document.querySelector('#verdict').textContent.includes('re relax: yes: problem 0 is a relaxation of problem 0′.')`);
+    },
+
+    async 'reduced by a map into itself'(user, page, checks) {
+        // A path of four labels folds onto its first edge, and no label covers another one.
+        const problem = answer(['read'], 'A^3\nB^3\nC^3\nD^3\n\nA B\nB C\nC D\n');
+        await teachMissing(page, {reduce: [0, answer(['read'], 'A^3\nB^3\n\nA B\n')]});
+        await user.openProblem(...problem.trim().split('\n\n'));
+        await user.act('Reduce');
+        await page.until(cardsAre(2));
+        if (explored.has('reduce')) checks.equal('by the program', await user.problem(), natively('explore', ['reduce'], problem).text);
+        checks.equal('the map', await page.value(`Object.keys(bench.cards.path()[1].relax).length`), 4);
+        await user.says('accepted: not solvable in 0 or fewer rounds');
+        await user.step(3);
+        await user.says('accepted: not solvable in 1 or fewer rounds');
     },
 
     async 'merge equal, trim, rounds'(user, page, checks) {

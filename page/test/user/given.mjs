@@ -1,10 +1,10 @@
 // What the nodes are given: a field of the chain, judged by `explore given`, and on the cards by `explore fit`.
-import {wordsIn} from '../../src/words.js';
 import {answer, example, natively} from '../place.mjs';
+import {explored, teachMissing} from '../teaching.mjs';
 import {cardsAre, drawn, MIS} from '../user.mjs';
 import {wait} from '../browser.mjs';
 
-const explored = wordsIn(natively('explore', ['help']).text), hasInput = explored.has('input');
+const hasInput = explored.has('input');
 const line = `document.querySelector('#given-line .line')?.textContent`;
 const given = (text, input) => natively('explore', ['given'], `${text}== given\n${input}`).text.split('\n', 1)[0];
 const choose = (page, says) => page.choose('#given-kind', says);
@@ -21,6 +21,9 @@ const sessions = {
         await user.says('accepted: not solvable in 2 or fewer rounds');
         checks.check('on the card',
             (await page.until(`document.querySelector('.card.last .badges').textContent.includes('0 rounds given: no') && 'no'`)) === 'no');
+        await page.click('#close-all');
+        await page.click('.card.last .toggle');
+        await page.value('scrollTo(0, 0)');
         await picture('given');
         // Another number of colours.
         await page.fill('#given input', '2');
@@ -100,6 +103,23 @@ const sessions = {
         checks.equal('one that is no input', await page.until(`${line}?.startsWith('no') && ${line}`), 'no: not an input: B');
     },
 
+    async 'the product with what is given'(user, page, checks) {
+        const product = answer(['read'], '[(I1)(O1)]^2 (O1)\n[(I2)(O2)]^2 (O2)\n\n(I1) (O2)\n(I2) (O1)\n');
+        await teachMissing(page, {product: [0, product]});
+        await user.openProblem('O [IO]^2', 'I O');
+        checks.check(
+            'not where nothing is given', await page.value(`[...document.querySelectorAll('#given button')].every(node => node.hidden)`));
+        const first = await user.problem();
+        await choose(page, 'a colouring');
+        await page.until(`bench.cards.path()[0].given`);
+        const input = await page.value('bench.cards.path()[0].given.problem');
+        await page.click('#given button', 'Product');
+        await page.until(`document.title.startsWith('O [IO]^2, and a colouring')`);
+        const wanted = explored.has('product') ? natively('explore', ['product'], `${first}== given\n${input}`).text : product;
+        checks.equal('a chain of its own', await user.problem(), wanted);
+        checks.equal('the first one stays', await page.value('bench.cards.roots().length'), 2);
+    },
+
     async 'inputs that explore names'(user, page, checks) {
         await user.openText(example('gallery/sinkless-orientation-3.txt'));
         await user.says('accepted: not solvable in any number of rounds');
@@ -110,7 +130,9 @@ const sessions = {
             await page.value(`(() => { const list = document.querySelector('#given-kind'); list.value = '${
                 kind}'; list.dispatchEvent(new Event('change')); })()`);
             await page.until(`bench.cards.path()[0].given?.kind === '${kind}'`);
-            const input = await page.value('bench.cards.path()[0].given.problem'), wanted = given(await user.certificate(), input);
+            const input = await page.value('bench.cards.path()[0].given.problem'), numbers = kind === 'colouring' ? ['4'] : [];
+            if (hasInput) checks.equal(`${kind}, by explore input`, input, natively('explore', ['input', kind, '3', '2', ...numbers]).text);
+            const wanted = given(await user.certificate(), input);
             checks.equal(kind, await page.until(`${line} === ${JSON.stringify(wanted)} && ${line}`), wanted);
         }
         await page.until(drawn);

@@ -1,5 +1,6 @@
 // Where things stand on the page: nothing covers a result, and what is used often has its room.
 import {answer} from '../place.mjs';
+import {teachMissing} from '../teaching.mjs';
 import {cardsAre, drawn, MIS} from '../user.mjs';
 import {wait} from '../browser.mjs';
 
@@ -25,6 +26,7 @@ export const placesSessions = {
     },
 
     async 'two lines of buttons, and room for the cards'(user, page, checks) {
+        await teachMissing(page, {'shortest 8 10': [1, 'not found'], reduce: [0, '']});
         await user.openProblem(...MIS);
         for (const n of [2, 3, 4]) await user.step(n);
         for (const [width, height] of [[1280, 800], [1366, 768]]) {

@@ -1,10 +1,9 @@
 // Searches: in the background, stopped, asked again with more, and what they say meanwhile.
-import {wordsIn} from '../../src/words.js';
-import {wait} from '../browser.mjs';
+import {PATIENCE, wait} from '../browser.mjs';
 import {answer, natively} from '../place.mjs';
+import {explored, teachMissing} from '../teaching.mjs';
 import {cardsAre, MIS} from '../user.mjs';
 
-const explored = wordsIn(natively('explore', ['help']).text);
 const state = `document.querySelector('#jobs .hint')?.textContent`;
 
 export const searchingSessions = {
@@ -74,6 +73,27 @@ export const searchingSessions = {
         checks.equal('by the program', answer(['check'], await user.certificate()).trim(), found);
     },
 
+    async 'a short upper bound, on chains of kind upper'(user, page, checks) {
+        const problem = answer(['read'], 'M O\nP^2\n\nM [OP]\nO^2\n'), found = answer(['upper', '3', '0'], problem);
+        await teachMissing(page, {'shortest 1 2': [1, 'not found\n'], 'shortest 2 4': [1, 'not found\n'], 'shortest 4 8': [0, found]});
+        await user.openProblem('M O\nP^2', 'M [OP]\nO^2');
+        await user.searchOn('shortest', 1, 2);
+        const line = await page.until(
+            `bench.cards.path().length > 1 && bench.claim.verdict?.kind === 'upper' && bench.claim.verdict.accepted && bench.claim.verdict.line`);
+        await user.says(line);
+        checks.check(`by the program: ${line}`, /^accepted: solvable in \d+ rounds$/.test(line));
+        const words = `[...document.querySelectorAll('.card.last .ask')].map(ask => ask.dataset.search)`;
+        checks.check(
+            'not longest behind it', !(await page.value(words)).includes('longest') && (await page.value(words)).includes('shortest'));
+        // Behind a merge the chain is of kind lower.
+        await user.openExample('no sinks no sources');
+        await user.select('I', 'O');
+        await user.actOnSelected('Merge into I');
+        await page.until(`${cardsAre(2)} && document.querySelector('.card.last .ask')`);
+        checks.check(
+            'not behind a merge', !(await page.value(words)).includes('shortest') && (await page.value(words)).includes('longest'));
+    },
+
     async 'cycle, with more until one is found'(user, page, checks) {
         await user.openExample('no sinks no sources');
         await user.searchOn('cycle', 1, 0);
@@ -86,13 +106,14 @@ export const searchingSessions = {
         await user.openProblem('1^3\n2^3\n3^3', '1 2\n1 3\n2 3');
         await user.search('closure');
         await user.says('accepted: not solvable in any number of rounds');
-        await user.openProblem(...MIS);
-        await user.search('closure');
-        await page.until(
-            `document.querySelector('.card.last .written table')?.textContent.includes('closure after 3 steps') && document.querySelector('#jobs').hidden`);
-        checks.check('each is told',
-            (await page.value(`document.querySelector('.card.last .remarks').textContent`)).includes('closure after 1 step'));
-        await page.until(cardsAre(1));
+        // Edges in four colours, in degree 3: a closure after two steps, and none before.
+        await user.openProblem('A B [CD]\n[AB] C D', 'A^2\nB^2\nC^2\nD^2');
+        await user.search('closure', 0);
+        const line = natively('explore', ['closure'], await user.problem()).text.trim();
+        checks.check(line, line.startsWith('not found: ') && (await user.note()).startsWith(`closure ${line}`));
+        await user.search('closure', 2);
+        await user.says('accepted: not solvable in any number of rounds', 4 * PATIENCE);
+        checks.check('behind two steps', (await user.certificate()).startsWith('== certificate 1 fixed 3\n'));
     },
 
     async 'longest does what a heuristic did'(user, page, checks) {

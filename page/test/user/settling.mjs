@@ -1,25 +1,13 @@
 // What is known of a problem: `settle` and the commands that show it, graphs without a solution, the catalogue, merges in a first
 // problem. Words that the program doesn't have yet are answered here in its place, so that the page is tested before it has them.
-import {wordsIn} from '../../src/words.js';
-import {answer, natively} from '../place.mjs';
+import {catalogueLine} from '../../src/catalogue.js';
+import {answer, catalogueTables, linesOfTable, natively} from '../place.mjs';
+import {explored, teach, teachMissing} from '../teaching.mjs';
 import {cardsAre, MIS} from '../user.mjs';
 
-const explored = wordsIn(natively('explore', ['help']).text), quoted = value => JSON.stringify(value);
+const quoted = value => JSON.stringify(value);
 const MIS_GRAPH = '1.1 1.2\n2.1 2.2\n1.3 2.3', NO = 'no: no solution on this graph, so not solvable in any number of rounds';
 
-// Gives the page words, with their answers {'settle': [status, text]} whatever is read, until the page is opened anew.
-async function teach(page, answers) {
-    await page.value(`(() => {
-        const taught = ${quoted(answers)}, start = engine.start.bind(engine);
-        for (const words of Object.keys(taught)) bench.words.add(words.split(' ')[0]);
-        engine.start = (program, words, input, options) => {
-            const given = program === 'explore' && taught[words.join(' ')];
-            return given ? {title: words.join(' '), started: 0, isOver: true, stop() {}, answer: Promise.resolve({status: given[0], text: given[1]})} : start(program, words, input, options);
-        };
-    })()`);
-}
-const teachMissing = (page, answers) =>
-    teach(page, Object.fromEntries(Object.entries(answers).filter(([words]) => !explored.has(words.split(' ')[0]))));
 const note = `document.querySelector('.card.last .note')?.textContent`;
 
 export const settlingSessions = {
@@ -34,9 +22,9 @@ export const settlingSessions = {
             checks.check('its first line', said.includes(natively('explore', ['settle'], await user.problem()).text.split('\n', 1)[0]));
         checks.check(
             'it is listed', (await page.value(`document.querySelector('.card.last .written table').textContent`)).startsWith('settle'));
+        await picture('settle', '.card.last');
         await page.click('.card.last .note button', 're upper');
         await user.says('accepted: solvable in 1 rounds');
-        await picture('settle');
     },
 
     async 'never, by a fixed point'(user, page, checks) {
@@ -48,7 +36,7 @@ export const settlingSessions = {
         await user.says('accepted: not solvable in any number of rounds');
     },
 
-    async 'never, by a graph'(user, page, checks, picture) {
+    async 'never, by a graph'(user, page, checks) {
         const problem = answer(['read'], MIS.join('\n\n'));
         await teachMissing(page, {
             settle: [0, 'not solvable in any number of rounds\nby: explore cover 3\n'],
@@ -74,7 +62,6 @@ export const settlingSessions = {
             await page.value(
                 `(() => { const boxes = [...document.querySelectorAll('dialog svg.graph rect, dialog svg.graph circle')].map(node => node.getBoundingClientRect());
             return boxes.every((a, i) => boxes.every((b, k) => k <= i || a.right < b.left || b.right < a.left || a.bottom < b.top || b.bottom < a.top)); })()`));
-        await picture('graph', 'dialog');
         await user.watchCopies();
         await page.click('dialog button', 'Copy problem and graph');
         checks.equal('what solve reads', await user.copied(), `${problem}== graph\n${lines.join('\n')}\n`);
@@ -107,20 +94,57 @@ export const settlingSessions = {
     },
 
     async 'the line of the catalogue'(user, page, checks) {
-        const table =
-            '1\tAAA / AA\texactly 0\tre upper 0 0\n2\tAAA AAB ABB / AB\tnot solvable in any number of rounds\tre fixed 3 0; explore closure\n';
-        await page.value(
-            `(() => { bench.catalogue.packed['2-3-2'] = ''; bench.catalogue.tables['2-3-2'] = Promise.resolve(${quoted(table)}); })()`);
+        const shown = `document.querySelector('.card.last .catalogue')?.textContent`;
+        // Problems of two and of three labels, under other names: the line is that of the table.
+        for (const [name, problem, text] of [['2-3-2', ['O [IO]^2', 'I O'], 'AAA AAB ABB / AB'], ['3-3-2', MIS, 'AAA BBC / AB AC BB']]) {
+            const table = linesOfTable(catalogueTables()[name]), [number, , claim, by] = table.find(line => line[1] === text);
+            await user.openProblem(...problem);
+            checks.equal(`its line in ${name}`, await page.until(shown),
+                `The catalogue's line, number ${number}:${claim}shown by${by.split('; ').join('')}`);
+            const title = await page.value(`document.querySelector('.card.last .catalogue .hint').title`);
+            checks.check(
+                title, title.endsWith(`under these names: ${text}`) && title.includes(` ${table.length.toLocaleString('en')} problems `));
+        }
+        // What shows it opens the chain, or the graph.
+        await page.click('.card.last .catalogue button', 'cover');
+        await page.until(`document.querySelector('dialog svg.graph')`);
+        await page.click('dialog button.close');
         await user.openProblem('O [IO]^2', 'I O');
-        const shown = await page.until(
-            `[...document.querySelectorAll('.card.last .body > div')].map(node => node.textContent).find(text => text.includes('catalogue'))`);
-        checks.equal(
-            'its line', shown, 'Number 2 of the catalogue 2-3-2:not solvable in any number of roundsshown byre fixed 3 0explore closure');
-        await page.click('.card.last .by button', 'fixed');
+        await page.until(shown);
+        await page.click('.card.last .catalogue .by button');
         await user.says('accepted: not solvable in any number of rounds');
-        await user.openProblem(...MIS);
-        checks.check('none where there is no table',
-            !(await page.value(`document.querySelector('.card.last').textContent`)).includes('of the catalogue 2-'));
+        // A search hangs on the order of the labels: where it is another one, the problem takes the catalogue's names first.
+        const table = catalogueTables()['3-3-2'], named = line => line.replace(/[ABC]/g, label => ({A: 'Z', B: 'Y', C: 'X'})[label]);
+        const sidesOf = line => line.split(' / ').map(side => side.split(' ').map(config => [...config].join(' ')).join('\n'));
+        const [number, line, , by] = linesOfTable(table).find(([, line, , by]) => /^explore longest|^re lower [5-9]/.test(by) &&
+                catalogueLine(table, answer(['read'], `${sidesOf(named(line)).join('\n\n')}\n`)).isInOrder === false);
+        const [program, ...words] = by.split('; ')[0].split(' ');
+        await user.openProblem(...sidesOf(named(line)));
+        await page.until(`${shown}?.includes('number ${number}:')`);
+        await page.click('.card.last .catalogue .by button');
+        await user.says(answer(['check'], natively(program, words, `${sidesOf(line).join('\n\n')}\n`).text).trim());
+        checks.check('the card of its names', (await page.value('bench.cards.path()[1].title')).startsWith('renamed '));
+        await user.openProblem('1^3\n2^3\n3^3\n4^3', '1 [234]\n2 [34]\n3 4');
+        checks.check('none of four labels', await page.value(`document.querySelector('.card.last .catalogue') === null`));
+    },
+
+    async 'a command of the catalogue that names labels'(user, page, checks) {
+        // The labels have the same order there, and other names.
+        const named = 'AAA AAB ABB / AB', text = answer(['read'], 'A [AB]^2\n\nA B\n');
+        await page.value(`(() => { bench.catalogue.packed['2-3-2'] = ''; bench.catalogue.tables['2-3-2'] = Promise.resolve(${
+            quoted(`1\t${named}\tmore than 1\texplore merge B A | explore step; explore longest 2 8\n`)}); })()`);
+        await teach(page, {'merge B A': [0, natively('explore', ['step'], text).text]});
+        await user.openProblem('I [IO]^2', 'I O');
+        await page.click('.card.last .catalogue button', 'merge');
+        await page.until(cardsAre(4));
+        checks.equal('the names first', await page.value('bench.cards.path()[1].title'), 'renamed I→A O→B');
+        await user.says('accepted: not solvable in 2 or fewer rounds');
+        await page.click('#undo');
+        await page.until(cardsAre(1));
+        await page.click('.card.last .catalogue button', 'longest');
+        await page.until(cardsAre(3));
+        checks.check('no names where there is the same order', !(await page.value('bench.cards.path()[1].title')).startsWith('renamed'));
+        await user.says('accepted: not solvable in 2 or fewer rounds');
     },
 
     async 'a merge in the first problem, and a step'(user, page, checks) {

@@ -1,5 +1,10 @@
+use Rattle.std.proofs.Common.{◌*◌, ◌≤◌, length}
+use Rattle.re_config.specs.Orders.{factorial}
 use Rattle.re_closure_lines.proofs.Combinations.{AreAllPlaces}
 use Rattle.re_closure_lines.proofs.combining.combinations.Given as goal
 
 abbrev pub invariant-loop-place : goal.invariant-loop-place
-invariant-loop-place l = AreAllPlaces l.sets l.others l.place l.found.items
+invariant-loop-place l = record {
+  all : AreAllPlaces l.sets l.others l.place l.found.items;
+  few : length l.found.items ≤ l.place * factorial (length l.sets);
+}

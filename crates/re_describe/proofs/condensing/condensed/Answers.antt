@@ -1,5 +1,5 @@
 use Rattle.std.proofs.Common.{sym, subst, arith}
-use Rattle.re_describe.specs.Spelling.{AreApart, AreSources, AreTaken, Spells}
+use Rattle.re_describe.specs.Spelling.{AreApart, AreTaken, Spells}
 use Rattle.re_describe.proofs.Grouping.{groups_told, sources_moved}
 use Rattle.re_describe.proofs.condensing.condensed.Goals as goal
 

@@ -1,4 +1,4 @@
-use Rattle.std.proofs.Common.{◌<◌, Err, length, rules, sym, subst}
+use Rattle.std.proofs.Common.{◌<◌, length, rules, sym, subst}
 use Rattle.std.proofs.lemmas.Result.{IfOk-weaker}
 use Rattle.re_config.specs.declared.TheConstants.{MAX_ROWS}
 use Rattle.re_table.specs.GoodRows.{max_rows}

@@ -1,5 +1,5 @@
 use Rattle.std.proofs.Common.{◌++◌, ap, ◌∙◌}
-use Rattle.re_bridge_words.specs.BridgeWords.{bridge_help}
+use Rattle.re_bridge_words.specs.Answers.{bridge_help}
 use Rattle.re_chain_words.specs.ChainWords.{chain_help}
 use Rattle.re_closure.specs.ClosureWords.{closure_help}
 use Rattle.re_describe.specs.DescribeWords.{describe_help}

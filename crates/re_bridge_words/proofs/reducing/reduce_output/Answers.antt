@@ -1,0 +1,13 @@
+use Rattle.std.proofs.Common.{◌≡◌, subst}
+use Rattle.std.proofs.lemmas.Result.{IfOk-weaker}
+use Rattle.re_bridge_words.specs.ReduceWords.{IsReducedText, ReduceWorth}
+use Rattle.re_frame.specs.Outcomes.{outcome_of}
+use Rattle.re_frame.specs.declared.status.Status.TheVariants.{Done}
+use Rattle.re_bridge_words.proofs.reducing.reduce_output.Goals as goal
+
+pub returns-in-Ok-clause-text : goal.returns-in-Ok-clause-text
+unfolding ReduceWorth
+returns-in-Ok-clause-text c =
+    IfOk-weaker c.problem_output.result _ _
+    (λ output gives. subst (λ problem. (outcome_of output).status ≡ Done → IsReducedText problem output.text.items) c.in-Ok.ensures.1 gives)
+    c.problem_output.ensures.text

@@ -1,0 +1,40 @@
+-- The words `bridge` and `reduce`, and what they may answer.
+use Rattle.std.specs.Prelude.{◌≡◌, ℕ, Bool, true, false, List, [], ◌∷◌, ◌++◌, codes, if◌then◌else◌, Option, None, Some}
+use Rattle.std.specs.Str.{bytes_eq}
+use Rattle.re_frame.specs.Outcomes.{Outcome}
+use Rattle.re_frame.specs.declared.status.Status.TheVariants.{Done}
+use Rattle.re_bridge_words.specs.BridgeWords.{BridgeWorth, text_outcome}
+use Rattle.re_bridge_words.specs.ReduceWords.{ReduceWorth, reduce_outcome}
+use Rattle.re_bridge_words.specs.declared.words.BridgeWord.{BridgeWord}
+use Rattle.re_bridge_words.specs.declared.words.BridgeWord.TheVariants.{Bridge, Reduce}
+
+-- the word that these words are
+unfoldable pub bridge_word_of : List (List ℕ) → Option BridgeWord
+bridge_word_of (word ∷ []) = if bytes_eq (codes "bridge") word then Some Bridge else if bytes_eq (codes "reduce") word then Some Reduce else None
+bridge_word_of words = None
+
+-- the lines of help
+unfoldable pub bridge_help : List ℕ
+bridge_help =
+    codes "bridge: reads a chain of kind lower, a line == to and a problem, gives the chain with one more step, to this problem\n"
+    ++ codes "reduce: reads a problem, gives one with as few labels as a map of it into itself leaves, which takes as many rounds\n"
+
+-- what a word gives to a text
+abbrev pub word_outcome : BridgeWord → List ℕ → Outcome
+word_outcome Bridge bytes = text_outcome bytes
+word_outcome Reduce bytes = reduce_outcome bytes
+
+-- whether its answer can be No
+abbrev pub is_judging : BridgeWord → Bool
+is_judging Bridge = true
+is_judging Reduce = false
+
+-- what is known of the text of an answer Done
+abbrev pub WordWorth : BridgeWord → List ℕ → List ℕ → Type 0
+WordWorth Bridge bytes text = BridgeWorth bytes text
+WordWorth Reduce bytes text = ReduceWorth bytes text
+
+-- what a word may answer to a text: one outcome alone, and this is known of its text
+pub record MayGive (word : BridgeWord) (bytes : List ℕ) (outcome : Outcome) : Type 0 where
+  pub one : outcome ≡ word_outcome word bytes
+  pub worth : outcome.status ≡ Done → WordWorth word bytes outcome.text

@@ -1,0 +1,15 @@
+-- What the search for a short upper bound answers.
+use Rattle.std.specs.Prelude.{◌≡◌, ℕ, Option, Some, None}
+use Rattle.re_cert.specs.Bounds.{Bound}
+use Rattle.re_cert.specs.declared.certificate.Kind.TheVariants.{Upper}
+use Rattle.re_extend.specs.Extensions.{GoesOn}
+use Rattle.re_longest.specs.declared.shortening.Shortest.{Shortest}
+use Rattle.re_longest.specs.declared.shortening.Shortest.TheVariants.{Found, NotFound}
+
+-- the chain itself, which is an upper bound, where a configuration of its last problem shows that this is solvable without communication; else an upper
+-- bound that goes on from the chain, or none
+abbrev pub AnswersAt : Option ℕ → ℕ → ℕ → Bound → Shortest → Type 0
+AnswersAt (Some place) most labels chain (Found bound) = (bound ≡ chain) × GoesOn Upper most labels chain bound
+AnswersAt (Some place) most labels chain (NotFound nodes cut) = ⊥
+AnswersAt None most labels chain (Found bound) = GoesOn Upper most labels chain bound
+AnswersAt None most labels chain (NotFound nodes cut) = Unit {0}

@@ -1,0 +1,110 @@
+//! The search for an upper bound from level to level.
+use crate::beam::next_size;
+use crate::levels::first_level;
+use crate::pool::Kept;
+use crate::upper_levels::{Count, End, Reached, Rung, level_behind};
+use crate::upper_steps::upper_step;
+use re_cert::Step;
+use re_labels::{LabelSet, NoMemory};
+use re_problem::Problem;
+use std::alloc::Global;
+
+/// What the search comes to: the shortest path to a problem that is solvable without communication, if one is found, and the count of
+/// what was looked at.
+#[derive(Drop)]
+pub(crate) struct Climb {
+    pub(crate) path: Option<Vec<Step>>,
+    pub(crate) count: Count,
+}
+
+// The step to the problem of this level.
+fn step_of(alloc: Global, kept: &Kept, sets: &[Vec<LabelSet>]) -> Result<Step, NoMemory> {
+    let next = kept.problem.copy()?;
+    let images = kept.images.as_slice();
+    match sets.get(kept.parent) {
+        Some(sets) => upper_step(alloc, next, sets.as_slice(), images),
+        None => upper_step(alloc, next, &[], images),
+    }
+}
+
+// The path to the end behind the last level.
+fn path_to(alloc: Global, levels: &[Rung], end: End) -> Result<Vec<Step>, NoMemory> {
+    let End { step, parent } = end;
+    let mut path = Vec::new(alloc);
+    path.push(step)?;
+    let mut place = parent;
+    for level in levels.iter().rev() {
+        if let Some(kept) = level.kept.as_slice().get(place) {
+            path.push(step_of(alloc, kept, level.sets.as_slice())?)?;
+            place = kept.parent;
+        }
+    }
+    path.reverse();
+    Ok(path)
+}
+
+// What is reached behind the last of the levels, or behind the first problem.
+fn reached_behind(
+    alloc: Global,
+    first: &[Kept],
+    levels: &[Rung],
+    labels: u8,
+    count: &mut Count,
+) -> Result<Reached, NoMemory> {
+    match levels.last() {
+        Some(level) => level_behind(alloc, level.kept.as_slice(), labels, count),
+        None => level_behind(alloc, first, labels, count),
+    }
+}
+
+// The path that one beam finds from the problem, if any: at most so many levels, of problems of at most so many labels.
+fn beam_path(
+    alloc: Global,
+    first: &[Kept],
+    most: usize,
+    labels: u8,
+    count: &mut Count,
+) -> Result<Option<Vec<Step>>, NoMemory> {
+    let mut levels: Vec<Rung> = Vec::new(alloc);
+    for _level in 0..most {
+        match reached_behind(alloc, first, levels.as_slice(), labels, count)? {
+            Reached::End(end) => return Ok(Some(path_to(alloc, levels.as_slice(), end)?)),
+            Reached::Level(level) => {
+                if level.kept.is_empty() {
+                    break;
+                }
+                levels.push(level)?;
+            }
+        }
+    }
+    Ok(None)
+}
+
+/// The shortest path that is found from the problem to one that is solvable without communication: at most so many levels, of problems
+/// of at most so many labels.
+pub(crate) fn shortest_path(
+    alloc: Global,
+    problem: &Problem,
+    levels: usize,
+    labels: u8,
+) -> Result<Climb, NoMemory> {
+    let first = first_level(alloc, problem)?;
+    let mut climb = Climb {
+        path: None,
+        count: Count { nodes: 0, cut: 0 },
+    };
+    let mut most = levels;
+    let mut size = 2;
+    for _size in 0..labels {
+        if size > labels || most == 0 {
+            break;
+        }
+        let kept = first.kept.as_slice();
+        if let Some(path) = beam_path(alloc, kept, most, size, &mut climb.count)? {
+            most = path.len().saturating_sub(1);
+            climb.path = Some(path);
+        }
+        size = next_size(size);
+    }
+    Ok(climb)
+}

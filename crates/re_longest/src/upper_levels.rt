@@ -1,0 +1,210 @@
+//! The levels of the search for an upper bound.
+use crate::losses::{after_loss, state_of};
+use crate::merges::State;
+use crate::pool::{Kept, Pool};
+use crate::thinning::{Thin, thin_to, thinned};
+use crate::upper_steps::upper_step;
+use re_cert::Step;
+use re_changes::Changed;
+use re_labels::{LabelSet, MAX_LABELS, NoMemory};
+use re_problem::Problem;
+use re_step::{Derived, StepFault, step};
+use re_zero::zero_round;
+use std::alloc::Global;
+
+/// How many candidates of a level stay.
+const WIDTH: usize = 20;
+
+/// How many problems were derived, and of how many the derived problem passed a limit.
+#[derive(Clone, Copy)]
+pub(crate) struct Count {
+    pub(crate) nodes: u32,
+    pub(crate) cut: u32,
+}
+
+/// The step to a problem that is solvable without communication, from the problem at this place of the level before.
+#[derive(Drop)]
+pub(crate) struct End {
+    pub(crate) step: Step,
+    pub(crate) parent: usize,
+}
+
+/// The problems that stay on a level, and for each problem of the level before the sets of the labels of its derived problem.
+#[derive(Drop)]
+pub(crate) struct Rung {
+    pub(crate) kept: Vec<Kept>,
+    pub(crate) sets: Vec<Vec<LabelSet>>,
+}
+
+/// What is reached behind a level: the next one, or a problem that is solvable without communication.
+#[derive(Drop)]
+pub(crate) enum Reached {
+    Level(Rung),
+    End(End),
+}
+
+// What is behind a problem: the sets of the labels of its derived problem, or the step to a problem that is solvable without
+// communication.
+#[derive(Drop)]
+enum Behind {
+    Sets(Vec<LabelSet>),
+    End(Step),
+}
+
+// A level that is being built: problems of at most so many labels.
+#[derive(Drop)]
+struct Building {
+    alloc: Global,
+    most: u8,
+    pool: Pool,
+    count: Count,
+}
+
+// The labels of the active configuration at this place.
+fn labels_at(problem: &Problem, place: usize) -> LabelSet {
+    match problem.active().get(place) {
+        Some(config) => config.support(),
+        None => LabelSet::empty(),
+    }
+}
+
+// The step to the derived problem with the labels of the active configuration at this place alone, where these are at most so many.
+fn end_at(
+    alloc: Global,
+    before: &Problem,
+    derived: &Derived,
+    place: usize,
+    most: u8,
+) -> Result<Option<Step>, NoMemory> {
+    let stay = labels_at(&derived.problem, place);
+    let Some(Thin { problem, sets }) = thin_to(alloc, before, derived, stay)? else {
+        return Ok(None);
+    };
+    let made = Changed::unchanged(problem);
+    if made.problem().names().len() > most as usize {
+        return Ok(None);
+    }
+    let next = made.problem().copy()?;
+    Ok(Some(upper_step(alloc, next, sets.as_slice(), made.images())?))
+}
+
+// How many labels it has.
+fn labels_of(state: &State) -> usize {
+    state.made.problem().names().len()
+}
+
+impl Building {
+    // Offers each problem of the inner beam that has few enough labels.
+    fn offer_all(&mut self, states: &[State], parent: usize) -> Result<(), NoMemory> {
+        for state in states {
+            if labels_of(state) <= self.most as usize {
+                self.pool.offer(state, parent)?;
+            }
+        }
+        Ok(())
+    }
+
+    // Whether no label that is left out of the problems of the inner beam counts any more.
+    fn is_done(&self, states: &[State]) -> bool {
+        match states.first() {
+            None => true,
+            Some(state) => {
+                let left = labels_of(state).saturating_sub(1);
+                left < self.most as usize && !self.pool.is_open(left)
+            }
+        }
+    }
+
+    // Offers the derived problem and what is left of it without some labels.
+    fn spread(&mut self, made: Changed, parent: usize) -> Result<(), NoMemory> {
+        let mut states = Vec::new(self.alloc);
+        if let Some(state) = state_of(self.alloc, made)? {
+            states.push(state)?;
+        }
+        for _loss in 0..MAX_LABELS {
+            self.offer_all(states.as_slice(), parent)?;
+            if self.is_done(states.as_slice()) {
+                break;
+            }
+            states = after_loss(self.alloc, states.as_slice())?;
+        }
+        Ok(())
+    }
+
+    // Takes the derived problem in, which isn't solvable without communication.
+    fn take(
+        &mut self,
+        before: &Problem,
+        derived: Derived,
+        parent: usize,
+    ) -> Result<Behind, NoMemory> {
+        match thinned(self.alloc, before, derived, self.most)? {
+            Some(Thin { problem, sets }) => {
+                self.spread(Changed::unchanged(problem), parent)?;
+                Ok(Behind::Sets(sets))
+            }
+            None => Ok(Behind::Sets(Vec::new(self.alloc))),
+        }
+    }
+
+    // The step to the derived problem, where the configuration at this place shows that it is solvable without communication.
+    fn finish(
+        &mut self,
+        before: &Problem,
+        derived: &Derived,
+        place: usize,
+    ) -> Result<Behind, NoMemory> {
+        match end_at(self.alloc, before, derived, place, self.most)? {
+            Some(step) => Ok(Behind::End(step)),
+            None => Ok(Behind::Sets(Vec::new(self.alloc))),
+        }
+    }
+
+    // Takes the derived problem of a problem of the level before in.
+    fn derive(&mut self, before: &Problem, parent: usize) -> Result<Behind, NoMemory> {
+        self.count.nodes = self.count.nodes.wrapping_add(1);
+        match step(self.alloc, before) {
+            Ok(derived) => match zero_round(&derived.problem) {
+                Some(place) => self.finish(before, &derived, place),
+                None => self.take(before, derived, parent),
+            },
+            Err(StepFault::Limit(_)) => {
+                self.count.cut = self.count.cut.wrapping_add(1);
+                Ok(Behind::Sets(Vec::new(self.alloc)))
+            }
+            Err(StepFault::NoMemory) => Err(NoMemory),
+        }
+    }
+
+    // What is reached behind this level.
+    fn fill(&mut self, level: &[Kept]) -> Result<Reached, NoMemory> {
+        let mut all = Vec::new(self.alloc);
+        for (parent, kept) in level.iter().enumerate() {
+            match self.derive(&kept.problem, parent)? {
+                Behind::End(step) => return Ok(Reached::End(End { step, parent })),
+                Behind::Sets(sets) => all.push(sets)?,
+            }
+        }
+        let mut kept = Vec::new(self.alloc);
+        self.pool.choose(&mut kept, None)?;
+        Ok(Reached::Level(Rung { kept, sets: all }))
+    }
+}
+
+/// What is reached behind this level, with problems of at most so many labels, and the count of all problems that were derived.
+pub(crate) fn level_behind(
+    alloc: Global,
+    level: &[Kept],
+    most: u8,
+    count: &mut Count,
+) -> Result<Reached, NoMemory> {
+    let mut building = Building {
+        alloc,
+        most,
+        pool: Pool::new(alloc, WIDTH),
+        count: *count,
+    };
+    let reached = building.fill(level)?;
+    *count = building.count;
+    Ok(reached)
+}

@@ -43,6 +43,9 @@ END
 printf '== from\n[IO]^3\n\nI O\n== to\nA B\n\n[AB]^3\n== map\nA [I]\nB [O]\n' > "$folder/restricted.txt"
 cat problems/maximal-matching-4.txt family/first.txt > "$folder/bridge.txt"
 printf 'A B\nC D\n\nA B\nC D\n' > "$folder/twice.txt"
+for name in sinkless.txt gallery/sinkless-orientation-3.txt; do
+    { cat "$name"; printf '== given\n1^3\n2^3\n\n1 2\n'; } > "$folder/given-$(basename "$name")"
+done
 "${CC:-cc}" -O2 -shared -fPIC -o "$folder/refuse.so" "$folder/refuse.c"
 
 # Runs the words on the input with request number $1 refused; the text goes to the file `found`, the status to `status`.
@@ -135,6 +138,16 @@ gallery/two-colouring-3.txt closure
 bridge.txt bridge
 family/itself.txt bridge
 twice.txt reduce
+sinkless.txt settle
+problems/orientation.txt shortest 2 4
+sinkless.txt merge I O
+sinkless.txt cover 2
+gallery/three-colouring-2-graph.txt solve
+given-sinkless.txt fit
+given-sinkless.txt rounds 2
+given-sinkless.txt product
+given-sinkless-orientation-3.txt given
+/dev/null input edges 3 2
 sinkless.txt describe
 gallery/maximal-matching-4-lower.txt describe
 colouring-refused.txt describe

@@ -26,7 +26,7 @@ done | awk -F '\t' '{ printf "%d\t%s\n", ($1 * 7919 + 31 * NR) % 10007, $0 }' | 
 wanted() {
     case $2 in
     're zero') echo yes;;
-    're upper '*) echo "accepted: solvable in $(echo "$1" | sed 's/^exactly //; s/.*at most //; s/ .*//') rounds";;
+    're upper '* | 'explore shortest '*) echo "accepted: solvable in $(echo "$1" | sed 's/^exactly //; s/.*at most //; s/ .*//') rounds";;
     're lower '* | 'explore longest '*)
         case $1 in
         exactly*) echo "accepted: not solvable in $(($(echo "$1" | sed 's/^exactly //; s/ .*//') - 1)) or fewer rounds";;

@@ -14,7 +14,8 @@ import sys
 
 HERE = pathlib.Path(__file__).parent
 NEVER = "not solvable in any number of rounds"
-TRIED = "`rounds 8`, `fixed 4 0`, `closure 2`, `cover 4`, `merge X Y | explore closure`, `cycle 3 1 100`, `longest 8 12`, `upper 2 1`"
+BETWEEN = "solvable, between two bounds"
+TRIED = "`rounds 8`, `fixed 4 0`, `closure 2`, `cover 4`, `merge X Y | explore closure`, `cycle 3 1 100`, `longest 8 12`, `shortest 12 8`"
 INPUTS = ("`both`", "`sides`", "`edges`", "`colouring`, 4")
 HEAD = """# All small problems, up to the names of their labels
 
@@ -50,10 +51,17 @@ def title_of(path):
     return int(labels), int(active), int(passive)
 
 
+def known_alone(claim):
+    """The answer without rounds of the graph."""
+    return re.sub(r" \([^)]*\)", "", claim)
+
+
 def kind_of(claim):
-    """The answer without rounds of the graph, and without the number of what is open."""
-    claim = claim.split(" (")[0]
-    return claim if claim == NEVER or claim.startswith("exactly") else "open"
+    """The answer, without the numbers of what is open: solvable in some number of rounds, or not even that is known."""
+    claim = known_alone(claim)
+    if claim == NEVER or claim.startswith("exactly"):
+        return claim
+    return BETWEEN if "at most" in claim else "open"
 
 
 def words_of(by):
@@ -67,7 +75,7 @@ def by_kind(lines):
     for _, _, claim, by in lines:
         kind = kind_of(claim)
         counts[(kind, f"`{words_of(by)}`" if kind == NEVER else "")] += 1
-    order = {"open": 2, NEVER: 1}
+    order = {"open": 3, BETWEEN: 2, NEVER: 1}
     return sorted(counts.items(), key=lambda it: (order.get(it[0][0], 0), it[0][0] if it[0][0] != NEVER else "", -it[1]))
 
 
@@ -141,12 +149,13 @@ def binary_part(tables):
 
 
 def open_part(tables):
-    parts = [(path, [line for line in lines if kind_of(line[2]) == "open"]) for path, lines in tables]
+    parts = [(path, [line for line in lines if kind_of(line[2]) in ("open", BETWEEN)]) for path, lines in tables]
     if not any(rest for _, rest in parts):
         return
     yield "## Open problems"
     yield ""
-    yield f"With the best bounds that were found, in hops. On each of them was tried: {TRIED}."
+    yield "With the best bounds that were found, in hops: of those with two, the exact number is open, and of the others whether any number of rounds"
+    yield f"solves them. On each of them was tried: {TRIED}."
     yield ""
     for path, rest in parts:
         if rest:
@@ -156,7 +165,7 @@ def open_part(tables):
             yield "| Number | Problem | Known | By |"
             yield "|---|---|---|---|"
             for number, problem, claim, by in rest:
-                yield f"| {number} | {problem} | {claim.split(' (')[0]} | `{by}` |"
+                yield f"| {number} | {problem} | {known_alone(claim)} | `{by}` |"
             yield ""
 
 

@@ -2,3 +2,4 @@ mod NoBridge
 mod Outcomes
 pub mod Fitting
 pub mod MoreSteps
+pub mod UpperSteps

@@ -16,12 +16,13 @@ use Rattle.re_frame.specs.Outcomes.{Outcome, limit}
 use Rattle.re_frame.specs.Runs.{MaySay}
 use Rattle.re_frame.specs.StepLimits.{limit_line}
 use Rattle.re_step.specs.declared.derivation.StepLimit.TheVariants.{Rows}
+use Rattle.re_walks.specs.Walking.{Walk, cut, found, nowhere}
 use Rattle.re_bridge.specs.Bridges.{Bridge, bridge_of, cut_off, has_many_rows, missing, over}
 use Rattle.re_bridge.specs.Reductions.{reduced_of}
 use Rattle.re_chain_parts.specs.Chains.{chain_of}
 use Rattle.re_two_texts.specs.TwoTexts.{back_problem, front_bound, two_fault}
-use Rattle.re_bridge_words.specs.Bridged.{bridged}
-use Rattle.re_bridge_words.specs.BridgeWords.{bridge_outcome, kind_outcome, over_bridge, sound_outcome, text_outcome}
+use Rattle.re_bridge_words.specs.Bridged.{bridged, sets_by, upper_bridged, upper_walk}
+use Rattle.re_bridge_words.specs.BridgeWords.{bridge_outcome, kind_outcome, over_bridge, over_walk, sound_outcome, text_outcome, upper_outcome}
 use Rattle.re_bridge_words.specs.Answers.{is_judging, word_outcome}
 use Rattle.re_bridge_words.specs.ReduceWords.{reduce_outcome, reduced_outcome}
 use Rattle.re_bridge_words.specs.declared.answering.TheConstants.{MAX_TRIES}
@@ -33,11 +34,11 @@ use Rattle.re_bridge_words.specs.declared.words.BridgeWord.TheVariants.{Bridge a
 module _ (next : NamedProblem) (chain : Bound) where
   roomy : length chain.steps < MAX_STEPS → (many : Bool) → has_many_rows (last_problem chain) next ≡ many → (bridge : Bridge) → bridge_of (last_problem chain) next MAX_TRIES ≡ bridge
       → bridge_outcome next chain ≡ (if many then limit (limit_line (suc (length chain.steps)) Rows) else over_bridge bridge next chain)
-  roomy room many is bridge found =
+  roomy room many is bridge told =
       ap (λ b. if b then if has_many_rows (last_problem chain) next then limit (limit_line (suc (length chain.steps)) Rows) else over_bridge (bridge_of (last_problem chain) next MAX_TRIES) next chain
       else limit (codes "limit: more than 64 steps\n")) (true-below (length chain.steps) MAX_STEPS room)
       ∙ ap (λ b. if b then limit (limit_line (suc (length chain.steps)) Rows) else over_bridge (bridge_of (last_problem chain) next MAX_TRIES) next chain) is
-      ∙ ap (λ b. if many then limit (limit_line (suc (length chain.steps)) Rows) else over_bridge b next chain) found
+      ∙ ap (λ b. if many then limit (limit_line (suc (length chain.steps)) Rows) else over_bridge b next chain) told
 
   -- there are too many rows
   pub many_rows : length chain.steps < MAX_STEPS → has_many_rows (last_problem chain) next ≡ true → bridge_outcome next chain ≡ limit (limit_line (suc (length chain.steps)) Rows)
@@ -46,9 +47,24 @@ module _ (next : NamedProblem) (chain : Bound) where
   -- the bridge tells
   pub by_bridge : length chain.steps < MAX_STEPS → has_many_rows (last_problem chain) next ≡ false → (bridge : Bridge) → bridge_of (last_problem chain) next MAX_TRIES ≡ bridge
       → bridge_outcome next chain ≡ over_bridge bridge next chain
-  by_bridge room few bridge found = roomy room false few bridge found
+  by_bridge room few bridge told = roomy room false few bridge told
+
+  -- the walk for upper steps tells
+  pub by_walk : length chain.steps < MAX_STEPS → (w : Walk) → upper_walk (last_problem chain) next MAX_TRIES ≡ w → upper_outcome next chain ≡ over_walk w next chain
+  by_walk room w is =
+      ap (λ b. if b then over_walk (upper_walk (last_problem chain) next MAX_TRIES) next chain else limit (codes "limit: more than 64 steps\n")) (true-below (length chain.steps) MAX_STEPS room)
+      ∙ ap (λ w. over_walk w next chain) is
 
 -- ---- what may be said
+walk_says : (w : Walk) (next : NamedProblem) (chain : Bound) → MaySay (over_walk w next chain).status true
+walk_says (found labels) next chain = certificate_says (upper_bridged chain next (sets_by next labels)) true
+walk_says nowhere next chain = refl
+walk_says cut next chain = tt
+
+upper_says : (room : Bool) (w : Walk) (next : NamedProblem) (chain : Bound) → MaySay (if room then over_walk w next chain else limit (codes "limit: more than 64 steps\n")).status true
+upper_says true w next chain = walk_says w next chain
+upper_says false w next chain = tt
+
 over_says : (bridge : Bridge) (next : NamedProblem) (chain : Bound) → MaySay (over_bridge bridge next chain).status true
 over_says (over map) next chain = certificate_says (bridged chain next map) true
 over_says missing next chain = refl
@@ -66,7 +82,7 @@ room_says false many bridge next chain = tt
 
 kind_says : (kind : Kind) (next : NamedProblem) (chain : Bound) → MaySay (kind_outcome kind next chain).status true
 kind_says Lower next chain = room_says (nat_lt (length chain.steps) MAX_STEPS) (has_many_rows (last_problem chain) next) (bridge_of (last_problem chain) next MAX_TRIES) next chain
-kind_says Upper next chain = refl
+kind_says Upper next chain = upper_says (nat_lt (length chain.steps) MAX_STEPS) (upper_walk (last_problem chain) next MAX_TRIES) next chain
 kind_says Fixed next chain = room_says (nat_lt (length chain.steps) MAX_STEPS) (has_many_rows (last_problem chain) next) (bridge_of (last_problem chain) next MAX_TRIES) next chain
 
 refusal_says : (refusal : Option Verdict) (outcome : Outcome) → MaySay outcome.status true → MaySay (or_refusal refusal outcome).status true

@@ -16,7 +16,7 @@ bridge_word_of words = None
 -- the lines of help
 unfoldable pub bridge_help : List ℕ
 bridge_help =
-    codes "bridge: reads a chain of kind lower, a line == to and a problem, gives the chain with one more step, to this problem\n"
+    codes "bridge: reads a chain, a line == to and a problem, gives the chain with one more step, to this problem\n"
     ++ codes "reduce: reads a problem, gives one with as few labels as a map of it into itself leaves, which takes as many rounds\n"
 
 -- what a word gives to a text

@@ -3,15 +3,16 @@ use Rattle.std.specs.Prelude.{ℕ, suc, nat_lt, List, codes, length, if◌then�
 use Rattle.re_problem.specs.NamedProblems.{NamedProblem}
 use Rattle.re_cert.specs.Bounds.{Bound, last_problem}
 use Rattle.re_cert.specs.declared.certificate.Kind.{Kind}
-use Rattle.re_cert.specs.declared.certificate.Kind.TheVariants.{Upper}
+use Rattle.re_cert.specs.declared.certificate.Kind.TheVariants.{Fixed, Lower, Upper}
 use Rattle.re_cert.specs.declared.certificate.TheConstants.{MAX_STEPS}
 use Rattle.re_chain_parts.specs.Chains.{chain_of}
 use Rattle.re_chain_texts.specs.OverChains.{IsTextOf, certificate_outcome, or_fault, or_refusal, steps_refusal}
 use Rattle.re_frame.specs.Outcomes.{Outcome, limit, refused}
 use Rattle.re_frame.specs.StepLimits.{limit_line}
 use Rattle.re_step.specs.declared.derivation.StepLimit.TheVariants.{Rows}
+use Rattle.re_walks.specs.Walking.{Walk, cut, found, nowhere}
 use Rattle.re_bridge.specs.Bridges.{Bridge, bridge_of, cut_off, has_many_rows, missing, over}
-use Rattle.re_bridge_words.specs.Bridged.{IsBridged, bridged}
+use Rattle.re_bridge_words.specs.Bridged.{IsBridged, IsUpperBridged, bridged, sets_by, upper_bridged, upper_walk}
 use Rattle.re_two_texts.specs.TwoTexts.{back_problem, front_bound, two_fault}
 use Rattle.re_bridge_words.specs.declared.answering.TheConstants.{MAX_TRIES}
 
@@ -28,10 +29,22 @@ bridge_outcome next chain =
     then if has_many_rows (last_problem chain) next then limit (limit_line (suc (length chain.steps)) Rows) else over_bridge (bridge_of (last_problem chain) next MAX_TRIES) next chain
     else limit (codes "limit: more than 64 steps\n")
 
--- a chain of kind upper is refused
+-- ---- of kind upper
+-- the chain with the step by the sets that the walk finds, or that there are none, or that the tries don't suffice
+abbrev pub over_walk : Walk → NamedProblem → Bound → Outcome
+over_walk (found labels) next chain = certificate_outcome (upper_bridged chain next (sets_by next labels))
+over_walk nowhere next chain = refused (codes "no\n")
+over_walk cut next chain = limit (codes "limit: more than 1000000 tries\n")
+
+abbrev pub upper_outcome : NamedProblem → Bound → Outcome
+upper_outcome next chain =
+    if nat_lt (length chain.steps) MAX_STEPS then over_walk (upper_walk (last_problem chain) next MAX_TRIES) next chain else limit (codes "limit: more than 64 steps\n")
+
+-- ---- of either kind
 abbrev pub kind_outcome : Kind → NamedProblem → Bound → Outcome
-kind_outcome Upper next chain = refused (codes "no: not a lower chain\n")
-kind_outcome kind next chain = bridge_outcome next chain
+kind_outcome Upper next chain = upper_outcome next chain
+kind_outcome Lower next chain = bridge_outcome next chain
+kind_outcome Fixed next chain = bridge_outcome next chain
 
 -- the line of `check` for the first step that fails, and else what is given to the chain
 abbrev pub sound_outcome : NamedProblem → Bound → Outcome
@@ -42,9 +55,15 @@ unfoldable pub text_outcome : List ℕ → Outcome
 text_outcome bytes = or_fault (two_fault (codes "to") bytes) (sound_outcome (back_problem (codes "to") bytes) (chain_of (front_bound (codes "to") bytes)))
 
 -- ---- what is known of the text of an answer Done
--- it is read as a chain, and that is the given one with the step to the next problem by the map of the bridge, and sound
+-- it is read as a chain, and that is the given one with the step to the next problem by the map of the bridge, or in a chain of kind
+-- upper by the sets of the walk, and sound
+abbrev pub IsLongerText : Kind → NamedProblem → Bound → List ℕ → Type 0
+IsLongerText Upper next chain text = (longer : Bound) × IsTextOf longer text × IsUpperBridged chain next MAX_TRIES (Some longer)
+IsLongerText Lower next chain text = (longer : Bound) × IsTextOf longer text × IsBridged chain next MAX_TRIES (Some longer)
+IsLongerText Fixed next chain text = (longer : Bound) × IsTextOf longer text × IsBridged chain next MAX_TRIES (Some longer)
+
 abbrev pub IsBridgedText : NamedProblem → Bound → List ℕ → Type 0
-IsBridgedText next chain text = (longer : Bound) × IsTextOf longer text × IsBridged chain next MAX_TRIES (Some longer)
+IsBridgedText next chain text = IsLongerText chain.kind next chain text
 
 unfoldable pub BridgeWorth : List ℕ → List ℕ → Type 0
 BridgeWorth bytes text = IsBridgedText (back_problem (codes "to") bytes) (chain_of (front_bound (codes "to") bytes)) text

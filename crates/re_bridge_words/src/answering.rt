@@ -1,6 +1,6 @@
 //! What the word `bridge` answers.
 ghost use Rattle.re_bridge.specs.Bridges.{has_many_rows};
-ghost use Rattle.re_bridge_words.specs.BridgeWords.{BridgeWorth, IsBridgedText, bridge_outcome, kind_outcome, sound_outcome, text_outcome};
+ghost use Rattle.re_bridge_words.specs.BridgeWords.{BridgeWorth, IsBridgedText, IsLongerText, bridge_outcome, kind_outcome, sound_outcome, text_outcome, upper_outcome};
 ghost use Rattle.re_cert.specs.Bounds.{last_problem};
 ghost use Rattle.re_cert.specs.declared.certificate.Kind.TheVariants.{Fixed, Lower};
 ghost use Rattle.re_cert.specs.declared.certificate.TheConstants.{MAX_STEPS};
@@ -10,11 +10,12 @@ ghost use Rattle.re_frame.specs.declared.status.Status.TheVariants.{Done};
 ghost use Rattle.re_io.specs.declared.read.TheConstants.{MAX_BYTES};
 ghost use Rattle.std.specs.Prelude.{◌≡◌, ◌<◌, ◌≤◌, IfOk, length, suc};
 
-use crate::bridge;
+use crate::{bridge, bridge_upper};
 use re_bridge::BridgeFault;
 use re_cert::{Certificate, Kind, MAX_STEPS};
 use re_chain_parts::chain;
 use re_chain_texts::{certificate_output, steps_refusal};
+use re_fit::FitFault;
 use re_frame::{Answer, Output, begun, fault_output, limit_output, refused, verdict_output};
 use re_labels::NoMemory;
 use re_problem::{Problem, TextFault};
@@ -25,7 +26,7 @@ use std::alloc::Global;
 // The name of the line between the chain and the problem.
 const TO: &[u8] = b"to";
 
-/// The most tries of each walk: of `bridge` over maps by sets, and over maps by rows, and of `reduce` over the maps to so many labels.
+/// The most tries of each walk: of `bridge` over maps by sets, over maps by rows, and over the sets of an upper step, and of `reduce` over the maps to so many labels.
 pub const MAX_TRIES: u32 = 1_000_000;
 
 /// The output of a line that tells of a limit.
@@ -52,7 +53,7 @@ fn found_output(alloc: Global, chain: &Certificate, to: &Problem) -> Result<Outp
     requires sound { IsSound chain.now }
     requires room { length chain.now.steps < MAX_STEPS }
     ensures output { IfOk result (λ output. outcome_of output ≡ bridge_outcome to.now chain.now) }
-    ensures text { IfOk result (λ output. (outcome_of output).status ≡ Done → IsBridgedText to.now chain.now output.text.items) }
+    ensures text { IfOk result (λ output. (outcome_of output).status ≡ Done → IsLongerText Kind.Lower to.now chain.now output.text.items) }
 {
     match bridge(alloc, chain, to, MAX_TRIES) {
         Ok(Some(longer)) => certificate_output(alloc, &longer),
@@ -68,10 +69,40 @@ fn lower_output(alloc: Global, chain: &Certificate, to: &Problem) -> Result<Outp
     requires kind { chain.now.kind ≡ Lower }
     requires sound { IsSound chain.now }
     ensures output { IfOk result (λ output. outcome_of output ≡ bridge_outcome to.now chain.now) }
-    ensures text { IfOk result (λ output. (outcome_of output).status ≡ Done → IsBridgedText to.now chain.now output.text.items) }
+    ensures text { IfOk result (λ output. (outcome_of output).status ≡ Done → IsLongerText Kind.Lower to.now chain.now output.text.items) }
 {
     if chain.steps().len() < MAX_STEPS {
         found_output(alloc, chain, to)
+    } else {
+        limited(alloc, "limit: more than 64 steps\n")
+    }
+}
+
+// What the word gives to a sound chain of kind upper that has room for a step.
+fn found_upper_output(alloc: Global, chain: &Certificate, to: &Problem) -> Result<Output, NoMemory>
+    requires kind { chain.now.kind ≡ Kind.Upper }
+    requires sound { IsSound chain.now }
+    requires room { length chain.now.steps < MAX_STEPS }
+    ensures output { IfOk result (λ output. outcome_of output ≡ upper_outcome to.now chain.now) }
+    ensures text { IfOk result (λ output. (outcome_of output).status ≡ Done → IsLongerText Kind.Upper to.now chain.now output.text.items) }
+{
+    match bridge_upper(alloc, chain, to, MAX_TRIES) {
+        Ok(Some(longer)) => certificate_output(alloc, &longer),
+        Ok(None) => Ok(refused(begun(alloc, "no\n")?)),
+        Err(FitFault::TooManyTries) => limited(alloc, "limit: more than 1000000 tries\n"),
+        Err(FitFault::NoMemory) => Err(NoMemory),
+    }
+}
+
+// What the word gives to a sound chain of kind upper.
+fn upper_output(alloc: Global, chain: &Certificate, to: &Problem) -> Result<Output, NoMemory>
+    requires kind { chain.now.kind ≡ Kind.Upper }
+    requires sound { IsSound chain.now }
+    ensures output { IfOk result (λ output. outcome_of output ≡ upper_outcome to.now chain.now) }
+    ensures text { IfOk result (λ output. (outcome_of output).status ≡ Done → IsLongerText Kind.Upper to.now chain.now output.text.items) }
+{
+    if chain.steps().len() < MAX_STEPS {
+        found_upper_output(alloc, chain, to)
     } else {
         limited(alloc, "limit: more than 64 steps\n")
     }
@@ -86,7 +117,7 @@ fn kind_output(alloc: Global, chain: &Certificate, to: &Problem) -> Result<Outpu
 {
     match chain.kind() {
         Kind::Lower => lower_output(alloc, chain, to),
-        Kind::Upper => Ok(refused(begun(alloc, "no: not a lower chain\n")?)),
+        Kind::Upper => upper_output(alloc, chain, to),
         Kind::Fixed => unreachable!(),
     }
 }

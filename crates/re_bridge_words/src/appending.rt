@@ -1,7 +1,7 @@
 //! A step behind the steps of a chain, with the maps of all in one form.
 ghost use Rattle.re_bridge_words.specs.Bridged.{in_one_form};
 ghost use Rattle.re_cert.specs.Bounds.{has_row_maps as have_row_maps, is_by_row as is_map_by_row, last_problem, one_form, step_fits};
-ghost use Rattle.re_chain_parts.specs.Chains.{IsSound, IsSoundChain, chain_with};
+ghost use Rattle.re_chain_parts.specs.Chains.{IsSound, IsSoundChain, chain_kind, chain_with};
 ghost use Rattle.re_chain_steps.specs.RowForms.{step_by_rows as rows_of_step};
 ghost use Rattle.re_clauses.specs.Clauses.{step_fault};
 ghost use Rattle.std.specs.Prelude.{◌≡◌, ◌<◌, ◌||◌, ◌++◌, ◌∷◌, [], IfOk, None, length, true};
@@ -65,22 +65,29 @@ fn in_rows(alloc: Global, before: &Problem, step: Step) -> Result<Step, NoMemory
     }
 }
 
-// The chain with this step more, whose map has the form of the others.
-fn appended(alloc: Global, chain: &Certificate, step: Step) -> Result<Certificate, NoMemory>
-    requires kind { chain.now.kind ≡ Kind.Lower }
+/// The chain of this kind with this step more, which fits its last problem and meets its clauses, and whose map has the form of the
+/// others. It copies the steps.
+pub(crate) fn appended(
+    alloc: Global,
+    kind: Kind,
+    chain: &Certificate,
+    step: Step,
+) -> Result<Certificate, NoMemory>
+    requires kind { chain.now.kind ≡ kind }
+    requires open { chain_kind kind ≡ kind }
     requires sound { IsSound chain.now }
     requires room { length chain.now.steps < MAX_STEPS }
-    requires fits { step_fits Kind.Lower (last_problem chain.now) step ≡ true }
+    requires fits { step_fits kind (last_problem chain.now) step ≡ true }
     requires meets { step_fault (last_problem chain.now) step ≡ None }
     requires form { one_form (chain.now.steps ++ step ∷ []) ≡ true }
-    ensures chain { IfOk result (λ longer. longer ≡ chain_with Kind.Lower chain.now.first (chain.now.steps ++ step ∷ [])) }
+    ensures chain { IfOk result (λ longer. longer ≡ chain_with kind chain.now.first (chain.now.steps ++ step ∷ [])) }
     ensures sound { IfOk result (λ longer. IsSound longer) }
 {
     let _kind = chain.kind();
     let first = chain.first().copy()?;
     let mut steps = copied_steps(alloc, chain.steps())?;
     steps.push(step)?;
-    match Certificate::build(Kind::Lower, 0, first, steps, Vec::new(alloc)) {
+    match Certificate::build(kind, 0, first, steps, Vec::new(alloc)) {
         Some(longer) => Ok(longer),
         None => unreachable!(),
     }
@@ -105,7 +112,7 @@ pub(crate) fn with_step(
     if has_row_maps(chain, &step) {
         let rows = by_rows(alloc, chain)?;
         let step = in_rows(alloc, chain.last(), step)?;
-        return appended(alloc, &rows, step);
+        return appended(alloc, Kind::Lower, &rows, step);
     }
-    appended(alloc, chain, step)
+    appended(alloc, Kind::Lower, chain, step)
 }

@@ -1,23 +1,33 @@
-//! The words `bridge` and `reduce`: a chain of lower steps led on to a given problem by one step more, and a problem with fewer labels.
+//! The words `bridge` and `reduce`: a chain led on to a given problem by one step more, and a problem with fewer labels.
 #![tactic(auto)]
 
 mod answering;
 mod appending;
 mod bridging;
 mod reducing;
+mod upper;
 mod words;
 
-ghost use Rattle.re_bridge_words.specs.Laws.{NoLaw};
+ghost use Rattle.re_bridge_words.specs.Laws.{NoLaw, NoUpperLaw};
 
 pub use answering::MAX_TRIES;
 pub use bridging::bridge;
 use re_bridge::bridge_law;
+use re_fit::upper_walk_law;
+pub use upper::bridge_upper;
 pub use words::{BridgeWord, bridge_help, bridge_word};
 
-/// Where `bridge` answers `no` to a chain and a problem, no lower step leads from the last problem of the chain to this one: with no map
+/// Where `bridge` answers `no` to a chain of kind lower and a problem, no lower step leads from the last problem of the chain to this one: with no map
 /// does it meet its clauses.
 pub fn no_law()
     ensures { NoLaw }
 {
     bridge_law();
+}
+
+/// Where `bridge` answers `no` to a chain of kind upper and a problem, no upper step leads from the last problem of the chain to this one.
+pub fn no_upper_law()
+    ensures { NoUpperLaw }
+{
+    upper_walk_law();
 }

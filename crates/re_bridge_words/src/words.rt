@@ -46,7 +46,7 @@ pub fn bridge_word(words: &[String]) -> Option<BridgeWord>
 pub fn bridge_help() -> &'static str
     ensures { result.now ≡ bridge_help }
 {
-    "bridge: reads a chain of kind lower, a line == to and a problem, gives the chain with one more step, to this problem\nreduce: reads a problem, gives one with as few labels as a map of it into itself leaves, which takes as many rounds\n"
+    "bridge: reads a chain, a line == to and a problem, gives the chain with one more step, to this problem\nreduce: reads a problem, gives one with as few labels as a map of it into itself leaves, which takes as many rounds\n"
 }
 
 // What the word gives to a text.

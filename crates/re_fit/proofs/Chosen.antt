@@ -1,5 +1,5 @@
 -- Labels for the places that pass, from sets by which an upper step leads to the exchanged input problem.
-use Rattle.std.proofs.Common.{◌≡◌, ℕ, ◌<◌, ◌+◌, true, List, [], ◌∷◌, ◌++◌, length, map, take, drop, append-nil, inl, inr, refl, sym, ap, ◌∙◌, subst, arith, length-append}
+use Rattle.std.proofs.Common.{◌≡◌, ℕ, ◌<◌, ◌+◌, true, List, [], ◌∷◌, ◌++◌, length, map, take, drop, append-nil, append_assoc, inl, inr, refl, sym, ap, ◌∙◌, subst, arith, length-append}
 use Rattle.std.specs.Prelude.{Contains, ◌⊎◌}
 use Rattle.std.specs.List.{AllByRecursion}
 use Rattle.std.proofs.lemmas.List.{length-map}
@@ -21,13 +21,13 @@ use Rattle.re_entry_clauses.specs.RowEntries.{row_entries}
 use Rattle.re_clauses.specs.Clauses.{keep_allowed}
 use Rattle.re_given.proofs.AllInputViews.{Has-below}
 use Rattle.re_laws.proofs.Mapping.{count_of}
-use Rattle.re_given.specs.Inputs.{IsInput, exchanged}
+use Rattle.re_given.specs.Inputs.{exchanged}
 use Rattle.re_bridge.proofs.Meeting.{kept-allowed}
 use Rattle.re_walks.specs.Walking.{IsAssignment}
 use Rattle.re_fit.proofs.Images.{are_images-split}
 use Rattle.re_fit.proofs.InOrder.{in_order}
 use Rattle.re_fit.proofs.LastLabels.{by_last-from}
-use Rattle.re_fit.specs.Fits.{are_images, is_image, is_in_order, joined, ordered, passes, places}
+use Rattle.re_fit.specs.Fits.{are_images, is_image, is_in_order, joined, loose, ordered, passes, places}
 
 -- a choice of each of two rows
 choice-append : (sets : ℕ → List ℕ) (config others labels more : List ℕ) → IsChoice labels (map sets config) → IsChoice more (map sets others) → IsChoice (labels ++ more) (map sets (config ++ others))
@@ -62,16 +62,29 @@ choices-over sets config labels [] (y ∷ ys) chosen h = absurd h
 choices-over sets config labels (x ∷ xs) [] chosen h = absurd h
 choices-over sets config labels (x ∷ xs) (y ∷ ys) chosen h = (over-chosen sets config labels x y chosen h.0, choices-over sets config labels xs ys chosen h.1)
 
+-- a problem of these degrees
+pub record IsLike (problem input : Problem) : Type 0 where
+  pub is_problem : IsProblem input
+  pub active_degree : input.active.degree ≡ problem.active.degree
+  pub passive_degree : input.passive.degree ≡ problem.passive.degree
+
+-- a label of the problem in the set of each input label that stands in no active configuration
+abbrev pub HaveLabels : Problem → Problem → (ℕ → List ℕ) → Type 0
+HaveLabels problem input sets = (x : ℕ) → Contains (loose input.active input.labels) x → (l : ℕ) × IsIn l (sets x) × (l < problem.labels)
+
 low-append : (n : ℕ) (labels more : List ℕ) → AllByRecursion (λ label. label < n) labels → AllByRecursion (λ label. label < n) more → AllByRecursion (λ label. label < n) (labels ++ more)
 low-append n [] more low rest = rest
 low-append n (l ∷ labels) more low rest = (low.0, low-append n labels more low.1 rest)
 
-module _ (problem input : Problem) (is : IsProblem problem) (is_input : IsInput problem input) (sets : ℕ → List ℕ) (upper : IsUpper problem (exchanged input) sets) where
-  -- labels for the places of these configurations
+module _ (problem input : Problem) (is : IsProblem problem) (is_input : IsLike problem input) (sets : ℕ → List ℕ) (upper : IsUpper problem (exchanged input) sets) (have : HaveLabels problem input sets) where
+  abbrev behind : List ℕ
+  behind = loose input.active input.labels
+
+  -- labels for the places of these configurations and of the labels that stand in none
   record Labels (configs : List (List ℕ)) : Type 0 where
     labels : List ℕ
-    chosen : IsChoice labels (map sets (joined configs))
-    count : length labels ≡ length (joined configs)
+    chosen : IsChoice labels (map sets (joined configs ++ behind))
+    count : length labels ≡ length (joined configs) + length behind
     low : AllByRecursion (λ label. label < problem.labels) labels
     images : are_images problem.active problem.labels configs labels ≡ true
 
@@ -86,7 +99,7 @@ module _ (problem input : Problem) (is : IsProblem problem) (is_input : IsInput 
       let back : drop problem.active.degree (moved ++ rest.labels) ≡ rest.labels = drop-front problem.active.degree moved rest.labels size in
       record {
         labels = moved ++ rest.labels;
-        chosen = choice-append sets config (joined configs) moved rest.labels again rest.chosen;
+        chosen = subst (λ xs. IsChoice (moved ++ rest.labels) (map sets xs)) (sym (append_assoc config (joined configs) behind)) (choice-append sets config (joined configs ++ behind) moved rest.labels again rest.chosen);
         count = omega (arith, length-append moved rest.labels, length-append config (joined configs), same, rest.count);
         low = low-append problem.labels moved rest.labels (AllByRecursion-from_contains (λ label. label < problem.labels) moved (Has-below problem.labels problem.active moved is.active is_there)) rest.low;
         images = are_images-split problem.active problem.labels config configs (moved ++ rest.labels) (omega (arith, length-append moved rest.labels, size))
@@ -101,8 +114,23 @@ module _ (problem input : Problem) (is : IsProblem problem) (is_input : IsInput 
       drop-front : (d : ℕ) (xs ys : List ℕ) → length xs ≡ d → drop d (xs ++ ys) ≡ ys
       drop-front d xs ys e = ap (λ m. drop m (xs ++ ys)) (let z : d ≡ length xs + 0 = omega (arith, e) in z) ∙ drop-append-add xs ys 0
 
+  record Loose (xs : List ℕ) : Type 0 where
+    labels : List ℕ
+    chosen : IsChoice labels (map sets xs)
+    count : length labels ≡ length xs
+    low : AllByRecursion (λ label. label < problem.labels) labels
+
+  loose_labels : (xs : List ℕ) → ((x : ℕ) → Contains xs x → Contains behind x) → Loose xs
+  loose_labels [] there = record { labels = []; chosen = tt; count = refl; low = tt }
+  loose_labels (x ∷ xs) there =
+      let (l, at, below) = have x (there x (Contains-here x xs)) in
+      let rest = loose_labels xs (λ y held. there y (Contains-later y x xs held)) in
+      record { labels = l ∷ rest.labels; chosen = (at, rest.chosen); count = omega (arith, rest.count); low = (below, rest.low) }
+
   all_labels : (configs : List (List ℕ)) → ((config : List ℕ) → Contains configs config → Contains input.active.configs config) → Labels configs
-  all_labels [] there = record { labels = []; chosen = tt; count = refl; low = tt; images = refl }
+  all_labels [] there =
+      let last = loose_labels behind (λ x held. held) in
+      record { labels = last.labels; chosen = last.chosen; count = omega (arith, last.count); low = last.low; images = refl }
   all_labels (config ∷ configs) there =
       more_labels config configs (there config (Contains-here config configs)) (all_labels configs (λ other held. there other (Contains-later other config configs held)))
 
@@ -114,8 +142,8 @@ module _ (problem input : Problem) (is : IsProblem problem) (is_input : IsInput 
   passing_labels =
       let entries : List SetEntry = row_entries (places input) found_labels.labels in (
         found_labels.labels,
-        (found_labels.count ∙ sym (length-map (joined (ordered input)) (λ x. x ∷ [])), found_labels.low),
+        (omega (arith, found_labels.count, length-append (joined (ordered input)) behind, length-map (joined (ordered input) ++ behind) (λ x. x ∷ [])), found_labels.low),
         true-and (are_images problem.active problem.labels (ordered input) found_labels.labels) (keep_allowed input.passive problem.passive entries) found_labels.images
             (kept-allowed input.passive problem.passive entries ((keeps_allowed_law input.labels input.passive problem.passive entries is_input.is_problem.passive).1 (λ config ys held h.
-            (upper.good config held).choice ys (choices-over sets (joined (ordered input)) found_labels.labels config ys found_labels.chosen h)))),
+            (upper.good config held).choice ys (choices-over sets (joined (ordered input) ++ behind) found_labels.labels config ys found_labels.chosen h)))),
       )

@@ -21,13 +21,13 @@ are_images-split active n config configs labels long =
     ap (λ b. cond b (begins_image active n config labels) (is_image active config (take active.degree labels) && are_images active n configs (drop active.degree labels))) (not_less (length labels) active.degree long)
 
 -- what begins images does
-pub images-take : (active : Constraint) (n : ℕ) (configs : List (List ℕ)) (labels : List ℕ) → length labels ≡ length configs * active.degree → AllByRecursion (λ label. label < n) labels
+pub images-take : (active : Constraint) (n : ℕ) (configs : List (List ℕ)) (labels : List ℕ) → length configs * active.degree ≤ length labels → AllByRecursion (λ label. label < n) labels
     → are_images active n configs labels ≡ true → (k : ℕ) → are_images active n configs (take k labels) ≡ true
 images-take active n [] labels count low test k = refl
 images-take active n (config ∷ configs) labels count low test k =
-    let whole : length labels ≡ active.degree + length configs * active.degree = omega (arith, count) in
+    let whole : active.degree + length configs * active.degree ≤ length labels = omega (arith, count) in
     let long : active.degree ≤ length labels = omega (arith, whole) in
-    let rest : length (drop active.degree labels) ≡ length configs * active.degree = length-drop active.degree labels ∙ (let z : length labels - active.degree ≡ length configs * active.degree = omega (arith, whole) in z) in
+    let rest : length configs * active.degree ≤ length (drop active.degree labels) = omega (arith, whole, length-drop active.degree labels) in
     let both = and-true (is_image active config (take active.degree labels)) (are_images active n configs (drop active.degree labels)) (sym (are_images-split active n config configs labels long) ∙ test) in
     go long both.0 both.1 (ltb (length (take k labels)) active.degree) refl (images-take active n configs (drop active.degree labels) rest (low-drop n active.degree labels low) both.1 (k - active.degree))
   where

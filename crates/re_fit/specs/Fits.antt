@@ -1,10 +1,12 @@
 -- Sets of labels for the labels of an input problem, found by a walk: each active configuration of the input problem becomes one of the
--- problem, and an input label gets the labels that it becomes.
-use Rattle.std.specs.Prelude.{◌≡◌, ℕ, ◌==◌, ◌-◌, nat_lt, Bool, true, not, ◌&&◌, List, [], ◌∷◌, length, map, filter, flat_map, take, drop, if◌then◌else◌, slice_index_or, Option, None, Some}
+-- problem, and an input label gets the labels that it becomes; one that stands in no active configuration becomes any label.
+use Rattle.std.specs.Prelude.{◌≡◌, ℕ, ◌==◌, ◌-◌, nat_lt, Bool, true, not, ◌&&◌, List, [], ◌∷◌, ◌++◌, length, map, filter, flat_map, take, drop, if◌then◌else◌, slice_index_or, Option, None, Some}
 use Rattle.re_labels.specs.Lists.{count_from}
-use Rattle.re_config.specs.Rows.{singles}
+use Rattle.re_config.specs.Rows.{set_at, singles}
 use Rattle.re_table.specs.Constraints.{Constraint, has_config}
+use Rattle.re_problem.specs.NamedProblems.{occurs}
 use Rattle.re_problem.specs.Problems.{Problem}
+use Rattle.re_problem.specs.Steps.{SetEntry}
 use Rattle.re_entry_clauses.specs.LabelsOver.{labels_over}
 use Rattle.re_entry_clauses.specs.RowEntries.{row_entries}
 use Rattle.re_clauses.specs.Clauses.{keep_allowed}
@@ -28,9 +30,14 @@ ordered input = by_last input.active input.labels
 abbrev pub joined : List (List ℕ) → List ℕ
 joined configs = flat_map (λ config. config) configs
 
--- the places: those of the labels of these configurations, each with the set of its input label
+-- the input labels that stand in no active configuration
+abbrev pub loose : Constraint → ℕ → List ℕ
+loose active n = filter (λ label. not (occurs active label)) (count_from 0 n)
+
+-- the places: those of the labels of these configurations, each with the set of its input label, and behind them one for each input label
+-- that stands in none
 abbrev pub places : Problem → List (List ℕ)
-places input = singles (joined (ordered input))
+places input = singles (joined (ordered input) ++ loose input.active input.labels)
 
 -- ---- labels for the first places
 -- whether labels at places with the same input label ascend
@@ -73,6 +80,10 @@ problem_with labels active passive = record { labels = labels; active = active; 
 -- for each input label the labels that it becomes
 abbrev pub sets_for : Problem → List ℕ → List (List ℕ)
 sets_for input labels = map (labels_over (row_entries (places input) labels)) (count_from 0 input.labels)
+
+-- as the entries of an upper step: each set with its label
+abbrev pub entries_of : List (List ℕ) → List SetEntry
+entries_of sets = map (λ label. record { set = set_at sets label; label = label }) (count_from 0 (length sets))
 
 -- the walk over the labels of the places
 abbrev pub fit_walk : Problem → Problem → ℕ → Walk

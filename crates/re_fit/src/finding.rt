@@ -1,8 +1,8 @@
-//! The sets of the labels of an input problem.
+//! The sets of the labels of an input problem, and of any problem to which an upper step leads.
 ghost use Rattle.re_entry_clauses.specs.LabelsOver.{labels_over};
 ghost use Rattle.re_entry_clauses.specs.RowEntries.{row_entries};
 ghost use Rattle.re_fit.specs.Fits.{IsFound, fit_walk, passes_with, problem_with};
-ghost use Rattle.re_fit.specs.Laws.{IsAnswer};
+ghost use Rattle.re_fit.specs.Laws.{IsAnswer, IsLeading};
 ghost use Rattle.re_given.specs.Inputs.{IsInput, exchanged, exchanged_by};
 ghost use Rattle.re_labels.specs.Lists.{count_from};
 ghost use Rattle.re_problem.specs.NamedProblems.{unnamed};
@@ -108,7 +108,7 @@ fn fit_between(
     ensures tries { result ≡ Err FitFault.TooManyTries → fit_walk (unnamed problem.now) (problem_with count active.now passive.now) tries ≡ cut }
 {
     let configs = by_last(alloc, active, count)?;
-    let places = places_of(alloc, configs.as_slice())?;
+    let places = places_of(alloc, configs.as_slice(), active, count)?;
     let labels = first_labels(
         alloc,
         problem,
@@ -155,6 +155,29 @@ pub fn find_fit(
     )
 }
 
+/// A set of labels of the problem for each label of the next problem, by which an upper step leads there, whatever labels stand on which
+/// side. None exactly where no upper step does. The degrees of the next problem are those of the problem, exchanged.
+///
+/// The walk is that of `find_fit`, over the passive configurations of the next problem, and behind their labels over its labels that
+/// stand in none of them: such a label stands for one label of the problem, the first one that passes. `TooManyTries` comes exactly where the
+/// walk needs more than `tries`.
+pub fn find_upper(
+    alloc: Global,
+    problem: &Problem,
+    next: &Problem,
+    tries: u32,
+) -> Result<Option<Vec<LabelSet>>, FitFault>
+    requires active { next.now.active.degree ≡ problem.now.passive.degree }
+    requires passive { next.now.passive.degree ≡ problem.now.active.degree }
+    ensures found { IfOk result (λ sets. IsFound (unnamed problem.now) (exchanged (unnamed next.now)) tries (option_map (λ sets. sets.items) sets)) }
+    ensures leading { IfOk result (λ sets. IsLeading (unnamed problem.now) (unnamed next.now) (option_map (λ sets. sets.items) sets)) }
+    ensures tries { result ≡ Err FitFault.TooManyTries → fit_walk (unnamed problem.now) (exchanged (unnamed next.now)) tries ≡ cut }
+{
+    let _problem = problem.names();
+    let count = next.names().len() as u8;
+    fit_between(alloc, problem, count, next.passive(), next.active(), tries)
+}
+
 // The same of the input problem with its sides exchanged.
 fn find_fit_exchanged(
     alloc: Global,
@@ -168,15 +191,7 @@ fn find_fit_exchanged(
     ensures tries { result ≡ Err FitFault.TooManyTries → fit_walk (unnamed problem.now) (exchanged (unnamed input.now)) tries ≡ cut }
 {
     let _problem = problem.names();
-    let count = input.names().len() as u8;
-    fit_between(
-        alloc,
-        problem,
-        count,
-        input.passive(),
-        input.active(),
-        tries,
-    )
+    find_upper(alloc, problem, input, tries)
 }
 
 /// The same of the input problem with its sides exchanged as often as there are steps.

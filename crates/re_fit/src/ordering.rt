@@ -1,11 +1,12 @@
-//! The active configurations of an input problem in the order of their last labels, and the places of their labels.
+//! The active configurations of an input problem in the order of their last labels, and the places of their labels and of those that stand
+//! in none.
 ghost use Rattle.re_config.specs.Rows.{singles};
-ghost use Rattle.re_fit.specs.Fits.{by_last, ends_in, joined};
+ghost use Rattle.re_fit.specs.Fits.{by_last, ends_in, joined, loose};
 ghost use Rattle.re_labels.specs.declared.TheConstants.{MAX_LABELS};
 ghost use Rattle.std.specs.Prelude.{◌≡◌, ◌++◌, ◌≤◌, IfOk, filter};
 
 use re_config::Config;
-use re_labels::{LabelSet, NoMemory};
+use re_labels::{LabelSet, MAX_LABELS, NoMemory};
 use re_table::Constraint;
 use std::alloc::Global;
 
@@ -66,13 +67,39 @@ fn push_labels(places: &mut Vec<LabelSet>, config: &Config) -> Result<(), NoMemo
     Ok(())
 }
 
-/// The places of the configurations' labels, each with the set of its label.
-pub(crate) fn places_of(alloc: Global, configs: &[Config]) -> Result<Vec<LabelSet>, NoMemory>
-    ensures { IfOk result (λ places. places.items ≡ singles (joined configs.now)) }
+// Puts the labels below the number that stand in no configuration behind the others, each as a set of its own.
+fn push_loose(
+    places: &mut Vec<LabelSet>,
+    constraint: &Constraint,
+    labels: u8,
+) -> Result<(), NoMemory>
+    requires { labels ≤ MAX_LABELS }
+    ensures { IfOk result (λ _. places.new.items ≡ places.old.items ++ singles (loose constraint.now labels)) }
+{
+    let held = constraint.labels();
+    for label in 0..labels {
+        if !held.has(label) {
+            places.push(LabelSet::single(label))?;
+        }
+    }
+    Ok(())
+}
+
+/// The places of the configurations' labels, each with the set of its label, and behind them one for each label below the number that
+/// stands in no configuration of the constraint.
+pub(crate) fn places_of(
+    alloc: Global,
+    configs: &[Config],
+    constraint: &Constraint,
+    labels: u8,
+) -> Result<Vec<LabelSet>, NoMemory>
+    requires { labels ≤ MAX_LABELS }
+    ensures { IfOk result (λ places. places.items ≡ singles (joined configs.now ++ loose constraint.now labels)) }
 {
     let mut places = Vec::new(alloc);
     for config in configs {
         push_labels(&mut places, config)?;
     }
+    push_loose(&mut places, constraint, labels)?;
     Ok(places)
 }

@@ -1,16 +1,16 @@
 -- What the walks come to, and the outcomes.
-use Rattle.std.proofs.Common.{◌≡◌, ℕ, zero, suc, ◌<◌, ◌≤◌, Bool, true, false, List, length, refl, sym, ap, ◌∙◌, subst, arith, Option, None, Some}
+use Rattle.std.proofs.Common.{◌≡◌, ℕ, zero, suc, ◌<◌, false, List, length, refl, sym, ap, ◌∙◌, subst, Option, None, Some}
 use Rattle.std.specs.List.{AllByRecursion}
 use Rattle.std.specs.Prelude.{◌++◌, option_map}
 use Rattle.re_cert.specs.Bounds.{Bound, problem_at}
 use Rattle.re_fit.specs.Fits.{IsFound, fit_walk, sets_for}
 use Rattle.re_fit.specs.Laws.{IsAnswer}
-use Rattle.re_frame.specs.Outcomes.{Outcome, done, refused}
+use Rattle.re_frame.specs.Outcomes.{done, refused}
 use Rattle.re_given.specs.Inputs.{exchanged_by}
 use Rattle.re_problem.specs.NamedProblems.{NamedProblem, unnamed}
 use Rattle.re_problem.specs.Problems.{Problem}
-use Rattle.re_walks.specs.Walking.{Walk, cut, found, nowhere}
-use Rattle.re_given_words.specs.Verdicts.{accepted, end_line, fit_with, fixed_at, fixed_with, is_cut, is_nowhere, kept_line, kept_steps, lower_with, upper_with}
+use Rattle.re_walks.specs.Walking.{nowhere}
+use Rattle.re_given_words.specs.Verdicts.{end_line, fit_with, fixed_at, fixed_with, is_cut, is_nowhere, kept_line, kept_steps, lower_with}
 use Rattle.re_given_words.specs.Walks.{AreFirst, fit_text, input_at, walk_at}
 use Rattle.re_given_words.specs.declared.fitting.TheConstants.{MAX_TRIES}
 

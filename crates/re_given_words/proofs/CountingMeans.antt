@@ -1,5 +1,5 @@
 -- What is counted, and what it means for algorithms.
-use Rattle.std.proofs.Common.{◌≡◌, ℕ, zero, suc, ◌+◌, ◌<◌, ◌≤◌, Bool, true, false, is_some, List, ◌⊎◌, inl, inr, refl, sym, ap, ◌∙◌, subst, arith, Option, None, Some}
+use Rattle.std.proofs.Common.{◌≡◌, ℕ, zero, suc, ◌+◌, ◌<◌, List, ◌⊎◌, inl, inr, sym, ap, ◌∙◌, subst, arith, Option, None, Some}
 use Rattle.std.specs.Prelude.{option_map}
 use Rattle.re_fit.proofs.Told.{fit_walk_law}
 use Rattle.re_fit.specs.Laws.{TellsGiven}
@@ -20,7 +20,7 @@ use Rattle.re_walks.specs.Walking.{found, nowhere}
 use Rattle.re_given_words.specs.Counting.{AllFew, CountMeans, IsBeside, IsCounted, Solves, Tells, walk_after}
 use Rattle.re_given_words.specs.declared.counting.Counted.{Counted}
 use Rattle.re_given_words.specs.declared.counting.Counted.TheVariants.{Exactly, MoreThan, Passed, Tried}
-use Rattle.re_given_words.specs.declared.counting.Told.TheVariants.{Enough, Few, Untold}
+use Rattle.re_given_words.specs.declared.counting.Told.TheVariants.{Enough, Few}
 use Rattle.re_given_words.specs.declared.fitting.TheConstants.{MAX_TRIES}
 
 -- ---- the problems on the way

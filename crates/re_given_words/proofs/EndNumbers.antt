@@ -1,5 +1,5 @@
 -- The problems at which END is judged, and the steps that are kept.
-use Rattle.std.proofs.Common.{◌≡◌, ℕ, zero, suc, ◌-◌, ◌<◌, ◌≤◌, Bool, true, false, List, refl, sym, ap, ◌∙◌, subst, arith, Option, None, Some}
+use Rattle.std.proofs.Common.{◌≡◌, ℕ, zero, suc, ◌-◌, ◌<◌, ◌≤◌, Bool, true, false, refl, sym, ap, ◌∙◌, arith, None, Some}
 use Rattle.std.proofs.lemmas.Bool.{false≢true}
 use Rattle.std.proofs.lemmas.Bool.Decides.{nat_tests}
 use Rattle.std.specs.Prelude.{◌&&◌, if◌then◌else◌, nat_lt}
@@ -69,26 +69,3 @@ end-high input bound (suc number) = go (end-high input bound number) (is_cut (wa
     go : end_number input bound number ≤ number → (b : Bool) → (if b then end_number input bound number else suc number) ≤ suc number
     go before true = omega (arith, before)
     go before false = omega arith
-
--- where the walk comes to an end it is this one
-pub end-here : (input : NamedProblem) (bound : Bound) (number : ℕ) → is_cut (walk_at input bound number) ≡ false → end_number input bound number ≡ number
-end-here input bound zero e = refl
-end-here input bound (suc number) e = ap (λ b. if b && nat_lt bound.back (suc number) then end_number input bound number else suc number) e
-
--- and where it is that to which the bound goes back
-pub end-last : (input : NamedProblem) (bound : Bound) (number : ℕ) → number ≤ bound.back → end_number input bound number ≡ number
-end-last input bound zero l = refl
-end-last input bound (suc number) l = go (is_cut (walk_at input bound (suc number))) (nat_lt bound.back (suc number)) refl
-  where
-    go : (a b : Bool) → nat_lt bound.back (suc number) ≡ b → (if a && b then end_number input bound number else suc number) ≡ suc number
-    go a true e = let below : bound.back < suc number = grind (arith, nat_tests) in absurd (omega (arith, below, l))
-    go true false e = refl
-    go false false e = refl
-
--- else it is one before
-pub end-on : (input : NamedProblem) (bound : Bound) (number before : ℕ) → number ≡ suc before → is_cut (walk_at input bound number) ≡ true → bound.back < number → end_number input bound number ≡ end_number input bound before
-end-on input bound number before e is_cut_there below =
-    let test : nat_lt bound.back (suc before) ≡ true = grind (arith, nat_tests) in
-    ap (end_number input bound) e
-    ∙ ap (λ b. if b && nat_lt bound.back (suc before) then end_number input bound before else suc before) (ap (λ n. is_cut (walk_at input bound n)) (sym e) ∙ is_cut_there)
-    ∙ ap (λ b. if b then end_number input bound before else suc before) test

@@ -1,12 +1,12 @@
 -- The fault of a text of a problem and an input problem that is cut.
 use Rattle.std.proofs.Common.{◌≡◌, ℕ, ◌+◌, List, length, sym, ap, ◌∙◌, Option, Some, None, Ok}
 use Rattle.std.specs.Prelude.{codes, if◌then◌else◌}
-use Rattle.re_problem.specs.ProblemTexts.{bytes_of, lines_of, or_else, problem_of}
+use Rattle.re_problem.specs.ProblemTexts.{lines_of, or_else, problem_of}
 use Rattle.re_problem.specs.declared.fault.InputFault.{InputFault}
 use Rattle.re_problem.specs.declared.fault.InputFault.TheVariants.{EarlyEnd}
 use Rattle.re_problem.specs.declared.fault.TextFault.{TextFault}
 use Rattle.re_problem.specs.declared.fault.TextFault.TheVariants.{Bad, NoMemory}
-use Rattle.re_two_texts.specs.TwoTexts.{IsCut, ProblemRefuses, front_text, has_line, lines_behind, lines_to, problem_fault, problem_lines}
+use Rattle.re_two_texts.specs.TwoTexts.{IsCut, ProblemRefuses, front_text, lines_behind, lines_to, problem_fault, problem_lines}
 use Rattle.re_two_texts.specs.declared.cutting.Cut.{Cut}
 use Rattle.re_given_words.specs.GivenTexts.{GivenGives, GivenRefuses, given_fault, input_text_fault}
 use Rattle.re_given_words.specs.declared.texts.GivenTexts.{GivenTexts}

@@ -1,12 +1,11 @@
 -- What the answers of `fit` and `given` mean for algorithms.
-use Rattle.std.proofs.Common.{◌≡◌, ℕ, zero, ◌≤◌, Bool, true, false, List, length, refl, sym, ap, ◌∙◌, subst, arith, codes, Option, None, Some}
-use Rattle.std.proofs.lemmas.Bool.{false≢true}
+use Rattle.std.proofs.Common.{◌≡◌, ℕ, ◌≤◌, Bool, true, false, List, length, refl, sym, ap, ◌∙◌, subst, arith, codes, Option, None, Some}
 use Rattle.std.specs.Prelude.{◌++◌, if◌then◌else◌, option_map, slice_index_or}
 use Rattle.std.specs.Fmt.{decimal}
 use Rattle.re_problem.specs.NamedProblems.{IsNamedProblem, NamedProblem, unnamed}
 use Rattle.re_problem.specs.declared.fault.InputFault.{InputFault as Fault}
 use Rattle.re_problem.specs.declared.fault.InputFault.TheVariants as text_fault
-use Rattle.re_cert.specs.Bounds.{Bound, is_fixed, is_lower, last_problem, problem_at}
+use Rattle.re_cert.specs.Bounds.{Bound, is_lower, last_problem, problem_at}
 use Rattle.re_cert.specs.declared.certificate.Kind.{Kind}
 use Rattle.re_cert.specs.declared.certificate.Kind.TheVariants.{Fixed, Lower, Upper}
 use Rattle.re_chain_texts.proofs.WordsGiven.{fault_not_done, none_fails}
@@ -15,10 +14,8 @@ use Rattle.re_check.specs.Verdicts.{meets_back, steps_fault}
 use Rattle.re_check.specs.declared.verdict.ClauseFault.{ClauseFault}
 use Rattle.re_check.specs.declared.verdict.Verdict.{Verdict}
 use Rattle.re_check.specs.declared.verdict.Verdict.TheVariants.{Accepted, Refused}
-use Rattle.re_clauses.specs.declared.clause.Clause.{Clause}
 use Rattle.re_fit.proofs.Judged.{judged-none}
 use Rattle.re_fit.proofs.Told.{fit_walk_law}
-use Rattle.re_fit.specs.Fits.{fit_walk}
 use Rattle.re_fit.specs.InputProblems.{input_fault}
 use Rattle.re_fit.specs.Laws.{TellsGiven}
 use Rattle.re_fit.specs.declared.inputs.InputFault.{InputFault}
@@ -39,7 +36,7 @@ use Rattle.re_given_words.proofs.EndNumbers.{end-high, end-low, kept}
 use Rattle.re_given_words.proofs.Held.{back_before, fixed_holds, input_there, lower_holds, named_at, upper_holds}
 use Rattle.re_given_words.specs.InputFaults.{fault_line, or_input_fault}
 use Rattle.re_given_words.specs.Meanings.{AnswerLaw, AnswerMeans, FitMeans, IsJudged, VerdictMeans}
-use Rattle.re_given_words.specs.Verdicts.{bound_outcome, end_number, end_outcome, fit_with, fixed_at, fixed_with, given_outcome, kept_steps, lower_with, or_back, sound_outcome, upper_with}
+use Rattle.re_given_words.specs.Verdicts.{bound_outcome, end_number, end_outcome, fit_with, fixed_with, given_outcome, kept_steps, lower_with, or_back, sound_outcome, upper_with}
 use Rattle.re_given_words.specs.Walks.{input_at, walk_at}
 use Rattle.re_given_words.specs.declared.words.BoundWord.{BoundWord}
 use Rattle.re_given_words.specs.declared.words.BoundWord.TheVariants.{Fit, Given}

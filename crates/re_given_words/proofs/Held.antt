@@ -1,8 +1,7 @@
 -- What bounds hold where the walk at one of their problems comes to an end.
-use Rattle.std.proofs.Common.{◌≡◌, ℕ, zero, suc, ◌+◌, ◌-◌, ◌<◌, ◌≤◌, Bool, true, false, not, eqb, List, ◌∷◌, length, map, refl, sym, ap, ◌∙◌, subst, arith, Option, None, Some}
-use Rattle.std.proofs.lemmas.Bool.{false≢true}
+use Rattle.std.proofs.Common.{◌≡◌, ℕ, ◌+◌, ◌-◌, ◌<◌, ◌≤◌, Bool, true, false, not, eqb, ◌∷◌, length, map, refl, sym, ap, ◌∙◌, subst, arith, Option, None, Some}
 use Rattle.std.proofs.lemmas.Bool.Decides.{nat_tests}
-use Rattle.std.specs.List.{AllByRecursion, list_all}
+use Rattle.std.specs.List.{list_all}
 use Rattle.std.specs.Prelude.{◌&&◌, if◌then◌else◌, is_none, is_some, nat_le, nat_lt}
 use Rattle.re_labels.proofs.Tests.{and-true}
 use Rattle.re_config.specs.Configs.{image_at}
@@ -25,16 +24,14 @@ use Rattle.re_clauses.specs.declared.clause.Clause.TheVariants.{Back as Back', E
 use Rattle.re_given.proofs.AvoidedInputs.{loop_given}
 use Rattle.re_given.proofs.ChainGiven.{IsInput-lower, IsInput-upper_chain, exchanged_by-add, lower_bound_given, upper_bound_given}
 use Rattle.re_given.proofs.Ungiven.{SolvableGiven-ungiven}
-use Rattle.re_given.proofs.MappingGiven.{IsInput-same}
-use Rattle.re_given.specs.Given.{SolvableGiven, ZeroGiven}
+use Rattle.re_given.specs.Given.{ZeroGiven}
 use Rattle.re_given.specs.Inputs.{IsInput, exchanged_by}
 use Rattle.re_given_bounds.proofs.BoundChains.{behind-last, lower_between, lower_to, upper_to}
 use Rattle.re_given_bounds.specs.GivenBounds.{IsOver, MeansGiven}
-use Rattle.re_laws.proofs.ChainRounds.{IsProblem-lower}
 use Rattle.re_laws.proofs.Relaxing.{Solvable-relaxed}
 use Rattle.re_laws.proofs.ZeroRounds.{Solvable-zero}
 use Rattle.re_laws.specs.Algorithms.{Solvable}
-use Rattle.re_laws.specs.Chains.{IsLowerChain, IsUpperChain}
+use Rattle.re_laws.specs.Chains.{IsLowerChain}
 use Rattle.re_given_words.specs.Walks.{input_at}
 
 -- ---- the parts of a bound

@@ -1,5 +1,5 @@
 -- What the words may answer.
-use Rattle.std.proofs.Common.{◌≡◌, ℕ, zero, suc, Bool, true, false, List, length, codes, Option, Some, None, refl}
+use Rattle.std.proofs.Common.{ℕ, Bool, true, false, List, length, codes, Option, Some, None, refl}
 use Rattle.re_problem.specs.NamedProblems.{NamedProblem}
 use Rattle.re_problem.specs.declared.fault.InputFault.{InputFault as Fault}
 use Rattle.re_cert.specs.Bounds.{Bound}
@@ -20,7 +20,7 @@ use Rattle.re_inputs.specs.declared.products.ProductFault.TheVariants.{Nameless,
 use Rattle.re_two_texts.specs.TwoTexts.{back_problem, front_bound, two_fault}
 use Rattle.re_walks.specs.Walking.{Walk, cut, found, nowhere}
 use Rattle.re_given_words.specs.Answers.{MayGive}
-use Rattle.re_given_words.specs.Counting.{IsCountedLine, counted_outcome}
+use Rattle.re_given_words.specs.Counting.{counted_outcome}
 use Rattle.re_given_words.specs.GivenTexts.{given_fault, given_input, given_problem}
 use Rattle.re_given_words.specs.InputFaults.{or_input_fault}
 use Rattle.re_given_words.specs.ProductTexts.{made_or_refused, product_answer, product_outcome, product_refusal}

@@ -1,9 +1,9 @@
 -- The configurations of pairs that are listed are those of the product.
-use Rattle.std.proofs.Common.{◌≡◌, ℕ, zero, suc, ◌+◌, ◌*◌, ◌/◌, ◌%◌, ◌≤◌, ◌<◌, List, [], ◌∷◌, ◌++◌, length, map, get_or, refl, sym, ap, ◌∙◌, subst, inl, inr, arith, append_assoc}
+use Rattle.std.proofs.Common.{◌≡◌, ℕ, suc, ◌+◌, ◌*◌, ◌/◌, ◌≤◌, ◌<◌, List, [], ◌∷◌, ◌++◌, length, map, refl, sym, ap, ◌∙◌, subst, inl, arith, append_assoc}
 use Rattle.std.specs.Prelude.{Contains}
 use Rattle.std.specs.List.{AllByRecursion, flat_map}
 use Rattle.std.proofs.Math.Nat.{div-mul-le_self, mul_comm}
-use Rattle.std.proofs.lemmas.List.{append-nil, get_or_default, length-map}
+use Rattle.std.proofs.lemmas.List.{append-nil, get_or_default}
 use Rattle.std.proofs.lemmas.List.Concat.{flat_map-append}
 use Rattle.std.proofs.lemmas.List.Elements.{same_from_all_zip}
 use Rattle.std.proofs.lemmas.Nat.{div-add-mod', div-mul-add, le-div, mod-mul-add, mul-add-lt}
@@ -19,7 +19,7 @@ use Rattle.re_given.proofs.Pairs.{from_parts, parts}
 use Rattle.re_given.specs.Products.{are_pairs, firsts, pairs_of, seconds}
 use Rattle.re_labels.proofs.Before.{IsBefore-trans}
 use Rattle.re_labels.proofs.ListSets.{In-list_set, list_set-In, list_set-longer, list_set_append, one_set, rising-list_set}
-use Rattle.re_labels.proofs.Membership.{AllByRecursion-contains, AllByRecursion-from_In, AllByRecursion-weaker, Contains-In, Contains-filter_cases, In, In-Contains, In-append_right, In-flat_map, In-flat_map_from, In-map, In-map_from, count_from_range, length-count_from, length-map'}
+use Rattle.re_labels.proofs.Membership.{AllByRecursion-contains, AllByRecursion-from_In, AllByRecursion-weaker, Contains-In, Contains-filter_cases, In, In-Contains, In-append_right, In-flat_map, In-flat_map_from, In-map, In-map_from, count_from_range, length-count_from}
 use Rattle.re_labels.proofs.Rising.{rising-filter, rising-map}
 use Rattle.re_labels.specs.ListSets.{list_set}
 use Rattle.re_labels.specs.Lists.{IsBefore, IsRising, count_from}
@@ -75,9 +75,6 @@ pub order-below : (n : ℕ) (order : List ℕ) → In order (placements n) → A
 order-below n order i =
     AllByRecursion-Rearranged (λ place. place < n) (Rearranged-order n order i)
     (AllByRecursion-from_In (λ place. place < n) (count_from 0 n) (λ place j. omega (arith, (count_from_range 0 n place (In-Contains place (count_from 0 n) j)).1)))
-
-pub length-order : (n : ℕ) (order : List ℕ) → In order (placements n) → length order ≡ n
-length-order n order i = sym (length-Rearranged (Rearranged-order n order i)) ∙ length-count_from 0 n
 
 pub in_some_order : (ys : List ℕ) (order : List ℕ) → In order (placements (length ys)) → Rearranged ys (map (image_at ys) order)
 in_some_order ys order i =

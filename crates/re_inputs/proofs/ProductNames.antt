@@ -1,22 +1,22 @@
 -- The names of pairs: which of them are names of their own, and the labels that they give.
-use Rattle.std.proofs.Common.{◌≡◌, ℕ, zero, suc, ◌+◌, ◌*◌, ◌/◌, ◌%◌, ◌≤◌, ◌<◌, Bool, true, false, not, ◌||◌, ◌↔◌, List, [], ◌∷◌, ◌++◌, length, map, get_or, refl, sym, ap, ◌∙◌, subst, inl, inr, arith, Some, None, Option, cond}
+use Rattle.std.proofs.Common.{◌≡◌, ℕ, zero, suc, ◌+◌, ◌*◌, ◌/◌, ◌%◌, ◌≤◌, ◌<◌, Bool, true, false, not, ◌||◌, ◌↔◌, List, [], ◌∷◌, ◌++◌, length, map, refl, sym, ap, ◌∙◌, subst, inl, inr, arith, Some, None, cond}
 use Rattle.std.specs.Prelude.{Contains, IsTrue}
 use Rattle.std.specs.List.{AllByRecursion, list_any}
 use Rattle.std.proofs.Math.Nat.{div-lt_iff_lt-mul, mod-lt, mul-zero}
 use Rattle.std.proofs.lemmas.Bool.{false≢true}
 use Rattle.std.proofs.lemmas.List.{map-append}
 use Rattle.re_labels.proofs.Before.{same_list-refl, same_list-same}
-use Rattle.re_labels.proofs.ListSets.{In-list_set, list_set-In, list_set_push, rising-list_set}
+use Rattle.re_labels.proofs.ListSets.{In-list_set, list_set-In}
 use Rattle.re_labels.proofs.Membership.{AllByRecursion-from_In, Contains-In, In, In-Contains, In-map, In-map_from, any-In, any-In_from, count_from-last, count_from_range, Contains-count_from, length-count_from, length-map'}
 use Rattle.re_labels.proofs.Places.{place_of-below}
 use Rattle.re_labels.proofs.Tests.{below-cases}
 use Rattle.re_labels.specs.ListSets.{list_set}
 use Rattle.re_labels.specs.Lists.{count_from, place_of, same_list}
-use Rattle.re_labels.specs.Names.{IsNames, is_name, name_of}
+use Rattle.re_labels.specs.Names.{is_name, name_of}
 use Rattle.re_labels.specs.declared.TheConstants.{MAX_LABELS}
 use Rattle.re_problem.proofs.ListSizes.{length-list_set}
 use Rattle.re_problem.specs.NamedProblems.{NamedProblem}
-use Rattle.re_inputs.specs.NamedProducts.{is_long, is_nameless, is_taken, nameless, pair_count, pair_name, pair_names, product_labels, product_names}
+use Rattle.re_inputs.specs.NamedProducts.{is_nameless, is_taken, pair_count, pair_name, pair_names, product_labels, product_names}
 
 -- ---- the parts of a pair
 pub parts_there : (n m pair : ℕ) → pair < n * m → 0 < m

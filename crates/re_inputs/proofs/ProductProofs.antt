@@ -1,13 +1,13 @@
 -- The product with names is the product under other labels, and a problem.
-use Rattle.std.proofs.Common.{◌≡◌, ℕ, zero, suc, ◌+◌, ◌*◌, ◌/◌, ◌%◌, ◌≤◌, ◌<◌, Bool, true, false, not, ◌||◌, List, [], ◌∷◌, ◌++◌, length, map, get_or, refl, sym, ap, ◌∙◌, subst, inl, inr, ◌⊎◌, arith, Some, None, Option, cond, ltb}
+use Rattle.std.proofs.Common.{◌≡◌, ℕ, zero, suc, ◌/◌, ◌%◌, ◌≤◌, ◌<◌, Bool, true, false, not, ◌||◌, List, [], ◌∷◌, length, map, get_or, refl, sym, ap, ◌∙◌, subst, inl, inr, ◌⊎◌, arith, Some, None, Option, cond, ltb}
 use Rattle.std.specs.Prelude.{Contains, find, unwrap_or, ◌↔◌}
-use Rattle.std.specs.List.{AllByRecursion, list_any}
+use Rattle.std.specs.List.{AllByRecursion}
 use Rattle.std.proofs.lemmas.Bool.{false≢true, le-ltb, ltb-false}
 use Rattle.std.proofs.lemmas.List.{get_or-map, map-id}
 use Rattle.std.proofs.lemmas.List.Elements.{Contains-get_or}
 use Rattle.std.proofs.lemmas.Nat.{div-add-mod'}
-use Rattle.re_config.proofs.Rearranging.{Contains-Rearranged, Rearranged-refl, Rearranged-sym, length-Rearranged}
-use Rattle.re_config.proofs.Sorting.{AllByRecursion-Rearranged, Rearranged-sorted, sorted-Rearranged}
+use Rattle.re_config.proofs.Rearranging.{Contains-Rearranged, Rearranged-refl, length-Rearranged}
+use Rattle.re_config.proofs.Sorting.{AllByRecursion-Rearranged, Rearranged-sorted}
 use Rattle.re_config.specs.Configs.{IsConfig, image_at, image_of, sorted}
 use Rattle.re_config.specs.Rearranging.{Rearranged, chained, kept, swapped}
 use Rattle.re_given.proofs.GivenProducts.{IsInput-product, SolvableGiven-from_product, SolvableGiven-product}
@@ -17,21 +17,19 @@ use Rattle.re_given.specs.Given.{SolvableGiven}
 use Rattle.re_given.specs.Inputs.{IsInput}
 use Rattle.re_given.specs.Products.{firsts, pairs_of, product, seconds}
 use Rattle.re_labels.proofs.Before.{same_list-refl, same_list-same}
-use Rattle.re_labels.proofs.ListSets.{In-list_set, list_set-In, rising-list_set}
+use Rattle.re_labels.proofs.ListSets.{In-list_set, rising-list_set}
 use Rattle.re_labels.proofs.Membership.{AllByRecursion-contains, AllByRecursion-from_In, Contains-In, In, In-Contains, In-map, In-map_from, any-In, Contains-count_from, Contains-map, count_from_range, get_or-count_from, length-count_from, length-map', map-alike}
 use Rattle.re_labels.proofs.Places.{get-place_of, place_of-below}
 use Rattle.re_labels.proofs.Searching.{place_of-at}
-use Rattle.re_labels.proofs.Tests.{or-left, or-right}
-use Rattle.re_labels.specs.ListSets.{list_set}
 use Rattle.re_labels.specs.Lists.{count_from, place_of, same_list}
 use Rattle.re_labels.specs.Names.{IsName, IsNames, is_name}
 use Rattle.re_labels.specs.declared.TheConstants.{MAX_LABELS}
 use Rattle.re_problem.specs.NamedProblems.{IsNamedProblem, NamedProblem, OccursIn, unnamed}
-use Rattle.re_problem.specs.Problems.{IsProblem, Problem}
+use Rattle.re_problem.specs.Problems.{IsProblem}
 use Rattle.re_problem.specs.Steps.{IsRelaxed}
 use Rattle.re_table.proofs.ConstraintImages.{IsConstraint-image, back-held, config-below, image-held, itself-held}
 use Rattle.re_table.proofs.Goodness.{Has-Rearranged}
-use Rattle.re_table.specs.Constraints.{Constraint, Has, IsConstraint, images_of}
+use Rattle.re_table.specs.Constraints.{Constraint, Has, IsConstraint}
 use Rattle.re_inputs.proofs.PairingLemmas.{firsts-beside, seconds-beside}
 use Rattle.re_inputs.proofs.ProductNames.{few_names, first_low, name_there, second_low}
 use Rattle.re_inputs.specs.NamedProducts.{NamedProductLaw, is_full, is_long, is_nameless, is_taken, name_fault, named_product, nameless, pair_count, pair_name, pair_names, product_fault, product_labels, product_names, relabelled, full_fault}

@@ -1,47 +1,32 @@
 -- What each of the words shows where it finds something.
-use Rattle.std.proofs.Common.{◌≡◌, ℕ, ◌+◌, ◌≤◌, List, [], ◌∷◌, length, length-append, refl, subst, sym, ap, ◌∙◌, arith, Ok, None}
+use Rattle.std.proofs.Common.{◌≡◌, ℕ, ◌+◌, List, [], ◌∷◌, ◌++◌, length, length-append, refl, subst, sym, ap, ◌∙◌, arith, Ok, None, Option, Some}
 use Rattle.std.specs.List.{AllByRecursion}
 use Rattle.re_cert.specs.Bounds.{Bound, BoundStep, next_problems}
 use Rattle.re_cert.specs.declared.certificate.Kind.{Kind}
 use Rattle.re_cert.specs.declared.certificate.Kind.TheVariants as kind
 use Rattle.re_chain.specs.Merging.{merge_limit, merge_refusal, merged}
 use Rattle.re_chain_texts.specs.ChainTexts.{problem_chain}
-use Rattle.re_chain_parts.specs.Chains.{IsSound as IsSteps}
+use Rattle.re_chain_parts.specs.Chains.{IsSound as IsSteps, chain_with}
 use Rattle.re_check.specs.Verdicts.{Means}
 use Rattle.re_check.specs.declared.verdict.Verdict.TheVariants.{Accepted}
-use Rattle.re_cover.specs.Graphs.{PortGraph}
 use Rattle.re_extend.specs.Extensions.{AreSmall, GoesOn, IsSoundChain}
-use Rattle.re_graph.specs.Solving.{IsCover}
 use Rattle.re_labels.specs.declared.TheConstants.{MAX_LABELS}
-use Rattle.re_laws.specs.Algorithms.{Solvable}
+use Rattle.re_longest.specs.UpperAnswers.{AnswersAt}
+use Rattle.re_longest.specs.declared.shortening.Shortest.TheVariants as shortest
 use Rattle.re_problem.specs.NamedProblems.{IsNamedProblem, NamedProblem, unnamed}
 use Rattle.re_search.specs.Searches.{Answers, FindsTrue}
 use Rattle.re_search.specs.declared.types.Search.{Search}
 use Rattle.re_search.specs.declared.types.Search.TheVariants.{Found}
 use Rattle.re_settle.specs.Ways.{IsKnown}
 use Rattle.re_settle.specs.declared.types.Claim.TheVariants.{AtMost, MoreThan, Never}
-use Rattle.re_settle.specs.declared.types.Way.TheVariants.{Closure, Cover, Cycle, Fixed, Longest, Lower, Merge, Upper}
+use Rattle.re_settle.specs.declared.types.Way.TheVariants.{Closure, Cycle, Longest, Lower, Merge, Shortest}
 
 -- ---- searches of `re`
-pub fixed_known : (problem : NamedProblem) (steps merges : ℕ) (search : Search) (bound : Bound) → search ≡ Found bound → Answers kind.Fixed steps merges problem (Ok search) → FindsTrue kind.Fixed problem (Ok search)
-    → IsKnown problem Never (Fixed steps merges)
-fixed_known problem steps merges search bound is answers true = record {
-  shows = (refl, (length bound.steps, (bound, subst (λ s. Answers kind.Fixed steps merges problem (Ok s)) is answers, refl)));
-  holds = subst (λ s. FindsTrue kind.Fixed problem (Ok s)) is true;
-}
-
 pub lower_known : (problem : NamedProblem) (steps merges rounds : ℕ) (search : Search) (bound : Bound) → search ≡ Found bound → Answers kind.Lower steps merges problem (Ok search) → FindsTrue kind.Lower problem (Ok search)
     → rounds ≡ length bound.steps → IsKnown problem (MoreThan rounds) (Lower steps merges)
 lower_known problem steps merges rounds search bound is answers true count = subst (λ k. IsKnown problem (MoreThan k) (Lower steps merges)) (sym count) (record {
   shows = (length bound.steps, refl, (bound, subst (λ s. Answers kind.Lower steps merges problem (Ok s)) is answers, refl));
   holds = subst (λ s. FindsTrue kind.Lower problem (Ok s)) is true;
-})
-
-pub upper_known : (problem : NamedProblem) (steps drops rounds : ℕ) (search : Search) (bound : Bound) → search ≡ Found bound → Answers kind.Upper steps drops problem (Ok search) → FindsTrue kind.Upper problem (Ok search)
-    → rounds ≡ length bound.steps → IsKnown problem (AtMost rounds) (Upper steps drops)
-upper_known problem steps drops rounds search bound is answers true count = subst (λ k. IsKnown problem (AtMost k) (Upper steps drops)) (sym count) (record {
-  shows = (length bound.steps, refl, (bound, subst (λ s. Answers kind.Upper steps drops problem (Ok s)) is answers, refl));
-  holds = subst (λ s. FindsTrue kind.Upper problem (Ok s)) is true;
 })
 
 -- ---- bounds that go on from the problem
@@ -99,6 +84,29 @@ longest_known problem chain bound steps labels rounds start goes count =
     let on : GoesOn kind.Lower steps labels (problem_chain problem) bound = subst (λ c. GoesOn kind.Lower steps labels c bound) start goes in
     subst (λ k. IsKnown problem (MoreThan k) (Longest steps labels)) (sym count) (record { shows = (length bound.steps, refl, (bound, on, refl)); holds = on.means })
 
--- ---- graphs
-pub cover_known : (problem : NamedProblem) (graph : PortGraph) (nodes : ℕ) → IsCover (unnamed problem) graph → graph.nodes ≤ nodes → ((T : ℕ) → Solvable (unnamed problem) T → ⊥) → IsKnown problem Never (Cover nodes)
-cover_known problem graph nodes cover few never = record { shows = (refl, (graph, cover, few)); holds = never }
+-- what goes on from a chain without steps goes on from its problem
+from-start : (kind : Kind) (problem : NamedProblem) (chain bound : Bound) (most labels : ℕ) → chain.first ≡ problem → chain.steps ≡ [] → GoesOn kind most labels chain bound → GoesOn kind most labels (problem_chain problem) bound
+from-start kind problem chain bound most labels first none goes = record {
+  fits = goes.fits;
+  problems = goes.problems;
+  of_kind = goes.of_kind;
+  first = goes.first ∙ first;
+  more = goes.more;
+  steps = goes.steps ∙ ap (λ steps. steps ++ goes.more) none;
+  few = goes.few;
+  small = goes.small;
+  valid = goes.valid;
+  means = subst (λ (p : NamedProblem). Means (Accepted kind (length bound.steps)) (unnamed p)) first goes.means;
+}
+
+-- what a search for an upper bound finds goes on from the chain
+pub shortest_on : (place : Option ℕ) (most labels : ℕ) (chain bound : Bound) → AnswersAt place most labels chain (shortest.Found bound) → GoesOn kind.Upper most labels chain bound
+shortest_on (Some place) most labels chain bound answers = answers.1
+shortest_on None most labels chain bound answers = answers
+
+pub shortest_known : (problem : NamedProblem) (chain bound : Bound) (steps labels rounds : ℕ) → chain ≡ chain_with kind.Upper problem [] → GoesOn kind.Upper steps labels chain bound → rounds ≡ length bound.steps
+    → IsKnown problem (AtMost rounds) (Shortest steps labels)
+shortest_known problem chain bound steps labels rounds start goes count =
+    let on : GoesOn kind.Upper steps labels (problem_chain problem) bound =
+    from-start kind.Upper problem chain bound steps labels (ap (λ (c : Bound). c.first) start) (ap (λ (c : Bound). c.steps) start) goes in
+    subst (λ k. IsKnown problem (AtMost k) (Shortest steps labels)) (sym count) (record { shows = (length bound.steps, refl, (bound, on, refl)); holds = on.means })

@@ -10,10 +10,9 @@ use Rattle.re_problem.specs.Problems.{IsProblem, Problem}
 use Rattle.re_problem.specs.Zero.{zero_place}
 use Rattle.re_settle.specs.Claims.{Holds, within}
 use Rattle.re_settle.specs.Ways.{IsKnown, IsSettled}
-use Rattle.re_settle.specs.declared.types.Claim.TheVariants.{AtMost, Between, Exactly, MoreThan, Never}
+use Rattle.re_settle.specs.declared.types.Claim.TheVariants.{AtMost, Between, Exactly, MoreThan}
 use Rattle.re_settle.specs.declared.types.Settled.TheVariants as settled
 use Rattle.re_settle.specs.declared.types.Shown.{Shown}
-use Rattle.re_settle.specs.declared.types.Way.{Way}
 
 -- a problem that is solvable without communication takes no round
 pub at_once_settled : (problem : NamedProblem) (place : ℕ) → IsProblem (unnamed problem) → zero_place (unnamed problem) ≡ Some place → IsSettled problem settled.AtOnce
@@ -21,9 +20,6 @@ at_once_settled problem place is fit = record {
   shown = (refl, (place, fit));
   holds = ((Solvable-zero (unnamed problem) is).1 ((some-place (unnamed problem) (Some place) (sym fit)).0 refl), λ T few solvable. absurd (omega arith));
 }
-
-pub never_settled : (problem : NamedProblem) (way : Way) → IsKnown problem Never way → IsSettled problem (settled.Never way)
-never_settled problem way known = record { shown = known.shows; holds = known.holds }
 
 -- more than the first number and at most the second
 within_holds : (problem : Problem) (more most : ℕ) → ((T : ℕ) → T ≤ more → Solvable problem T → ⊥) → Solvable problem most → Holds (within more most) problem

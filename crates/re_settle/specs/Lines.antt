@@ -9,7 +9,7 @@ use Rattle.re_settle.specs.declared.types.Claim.TheVariants.{AtMost, Between, Ex
 use Rattle.re_settle.specs.declared.types.Settled.{Settled}
 use Rattle.re_settle.specs.declared.types.Settled.TheVariants as settled
 use Rattle.re_settle.specs.declared.types.Way.{Way}
-use Rattle.re_settle.specs.declared.types.Way.TheVariants.{Closure, Cover, Cycle, Fixed, Longest, Lower, Merge, Upper, Zero}
+use Rattle.re_settle.specs.declared.types.Way.TheVariants.{Closure, Cover, Cycle, Fixed, Longest, Lower, Merge, Shortest, Upper, Zero}
 
 -- ---- the first line
 -- the rounds of the graph, where the passive nodes have two neighbours
@@ -37,6 +37,7 @@ way_words (Merge from to) = codes "explore merge"
 way_words (Cover nodes) = codes "explore cover"
 way_words (Cycle steps merges nodes) = codes "explore cycle"
 way_words (Longest steps labels) = codes "explore longest"
+way_words (Shortest steps labels) = codes "explore shortest"
 
 -- the numbers behind them; `closure` without steps has none
 abbrev pub way_numbers : Way → List ℕ
@@ -49,6 +50,7 @@ way_numbers (Merge from to) = []
 way_numbers (Cover nodes) = nodes ∷ []
 way_numbers (Cycle steps merges nodes) = steps ∷ merges ∷ nodes ∷ []
 way_numbers (Longest steps labels) = steps ∷ labels ∷ []
+way_numbers (Shortest steps labels) = steps ∷ labels ∷ []
 
 abbrev pub number_texts : List ℕ → List ℕ
 number_texts [] = []
@@ -65,6 +67,7 @@ way_rest names (Closure steps) = codes ""
 way_rest names (Cover nodes) = codes ""
 way_rest names (Cycle steps merges nodes) = codes ""
 way_rest names (Longest steps labels) = codes ""
+way_rest names (Shortest steps labels) = codes ""
 
 abbrev pub way_line : List (List ℕ) → Way → List ℕ
 way_line names way = codes "by: " ++ (way_words way ++ (number_texts (way_numbers way) ++ (way_rest names way ++ codes "\n")))

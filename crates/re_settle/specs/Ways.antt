@@ -19,7 +19,7 @@ use Rattle.re_settle.specs.declared.types.Claim.TheVariants.{AtMost, MoreThan, N
 use Rattle.re_settle.specs.declared.types.Settled.{Settled}
 use Rattle.re_settle.specs.declared.types.Settled.TheVariants as settled
 use Rattle.re_settle.specs.declared.types.Way.{Way}
-use Rattle.re_settle.specs.declared.types.Way.TheVariants.{Closure, Cover, Cycle, Fixed, Longest, Lower, Merge, Upper, Zero}
+use Rattle.re_settle.specs.declared.types.Way.TheVariants.{Closure, Cover, Cycle, Fixed, Longest, Lower, Merge, Shortest, Upper, Zero}
 
 -- the search for a bound of this kind finds one, of so many steps
 abbrev pub Finds : Kind → ℕ → ℕ → NamedProblem → ℕ → Type 0
@@ -48,6 +48,7 @@ Shows (Merge from to) claim problem = (claim ≡ Never) × HasMergedBound from t
 Shows (Cover nodes) claim problem = (claim ≡ Never) × ((graph : PortGraph) × IsCover (unnamed problem) graph × (graph.nodes ≤ nodes))
 Shows (Cycle steps merges nodes) claim problem = (claim ≡ Never) × ((found : ℕ) × HasBound kind.Fixed steps MAX_LABELS problem found)
 Shows (Longest steps labels) claim problem = (found : ℕ) × (claim ≡ MoreThan found) × HasBound kind.Lower steps labels problem found
+Shows (Shortest steps labels) claim problem = (found : ℕ) × (claim ≡ AtMost found) × HasBound kind.Upper steps labels problem found
 
 -- the words show the claim, and it is true
 pub record IsKnown (problem : NamedProblem) (claim : Claim) (way : Way) : Type 0 where

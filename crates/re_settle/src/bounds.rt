@@ -1,15 +1,17 @@
 //! Lower and upper bounds. Each way that is tried tells the number of rounds that it shows.
+ghost use Rattle.re_cert.specs.declared.certificate.Kind.TheVariants.{Upper};
 ghost use Rattle.re_cert.specs.declared.certificate.TheConstants.{MAX_STEPS};
+ghost use Rattle.re_chain_parts.specs.Chains.{chain_with};
 ghost use Rattle.re_chain_texts.specs.ChainTexts.{problem_chain};
 ghost use Rattle.re_problem.specs.NamedProblems.{unnamed};
 ghost use Rattle.re_problem.specs.Zero.{zero_place};
 ghost use Rattle.re_settle.specs.Ways.{IsKnown};
-ghost use Rattle.std.specs.Prelude.{◌≡◌, ◌≤◌, IfOk, IfSome, None, length};
+ghost use Rattle.std.specs.Prelude.{◌≡◌, ◌≤◌, [], IfOk, IfSome, None, length};
 
 use crate::types::{Claim, Shown, Way};
-use re_cert::Certificate;
+use re_cert::{Certificate, Kind};
 use re_labels::NoMemory;
-use re_longest::{Longest, find_longest};
+use re_longest::{Longest, Shortest, find_longest, find_shortest};
 use re_problem::Problem;
 use re_search::{FindFault, Search, find_lower, find_upper};
 use std::alloc::Global;
@@ -95,5 +97,29 @@ pub(crate) fn long_way(
     match lower_way(alloc, problem, steps)? {
         Some(lower) => Ok(lower),
         None => Ok(longest),
+    }
+}
+
+// The chain of kind upper without steps that a problem stands for.
+fn upper_chain(alloc: Global, problem: Problem) -> Certificate
+    ensures { result ≡ chain_with Upper problem [] }
+{
+    match Certificate::build(Kind::Upper, 0, problem, Vec::new(alloc), Vec::new(alloc)) {
+        Some(chain) => chain,
+        None => unreachable!(),
+    }
+}
+
+/// The shortest upper bound that is found with at most 12 steps, each to at most 8 labels, if any.
+pub(crate) fn short_way(alloc: Global, problem: &Problem) -> Result<Option<Shown>, NoMemory>
+    ensures { IfOk result (λ found. IfSome found (λ shown. IsKnown problem.now (Claim.AtMost shown.rounds) shown.way)) }
+{
+    let chain = upper_chain(alloc, problem.copy()?);
+    match find_shortest(alloc, &chain, 12, 8)? {
+        Shortest::Found(certificate) => Ok(Some(Shown {
+            rounds: count_of(&certificate),
+            way: Way::Shortest(12, 8),
+        })),
+        Shortest::NotFound { .. } => Ok(None),
     }
 }

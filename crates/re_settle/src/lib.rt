@@ -5,8 +5,7 @@
 //! its closure, or behind 1 or 2 steps where the closures before are solvable without communication; a graph of at most 4 active nodes
 //! without a solution; where there are at most 8 labels, the fixed point of the closure behind a merge of two of them in the problem itself;
 //! a fixed point of at most 3 steps with at most 1 merge in each, among the first 100 problems. Else two bounds: the longer one of the steps
-//! without merges that were taken before and of what `longest 8 12` finds; and an upper bound of at most 2 steps, in each of which at most 1
-//! label is left out.
+//! without merges that were taken before and of what `longest 8 12` finds; and what `shortest 12 8` finds.
 //!
 //! What is found is accepted by `check`, or is a graph without a solution. Where nothing is found, nothing is known.
 #![tactic(auto)]

@@ -103,6 +103,7 @@ fn way_words(way: Way) -> &'static str
         Way::Cover(_) => "explore cover",
         Way::Cycle(..) => "explore cycle",
         Way::Longest(..) => "explore longest",
+        Way::Shortest(..) => "explore shortest",
     }
 }
 
@@ -137,6 +138,7 @@ fn way_numbers(way: Way) -> ArrayVec<u32, 3>
             two(steps, changes)
         }
         Way::Longest(steps, labels) => two(steps, labels),
+        Way::Shortest(steps, labels) => two(steps, labels),
         Way::Cycle(steps, merges, nodes) => {
             let mut numbers = two(steps, merges);
             numbers.push(nodes);

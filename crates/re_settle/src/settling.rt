@@ -5,7 +5,7 @@ ghost use Rattle.re_problem.specs.Zero.{zero_place};
 ghost use Rattle.re_settle.specs.Ways.{IsSettled};
 ghost use Rattle.std.specs.Prelude.{◌≡◌, ◌≤◌, IfOk, IfSome, None};
 
-use crate::bounds::{long_way, lower_way, upper_way};
+use crate::bounds::{long_way, lower_way, short_way, upper_way};
 use crate::never::never_way;
 use crate::types::Settled;
 use re_cert::Certificate;
@@ -70,7 +70,7 @@ fn bounded(
     ensures { IfOk result (IsSettled problem.now) }
 {
     let lower = long_way(alloc, problem, chain, steps)?;
-    let upper = upper_way(alloc, problem, 2, 1)?;
+    let upper = short_way(alloc, problem)?;
     Ok(Settled::Within(lower, upper))
 }
 

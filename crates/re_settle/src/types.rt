@@ -22,6 +22,8 @@ pub enum Way {
     Cycle(u8, u8, u32),
     /// `explore longest K L`: a lower bound of at most K steps, each to a problem of at most L labels.
     Longest(u8, u8),
+    /// `explore shortest K L`: an upper bound of at most K steps, each to a problem of at most L labels.
+    Shortest(u8, u8),
 }
 
 /// How many rounds a problem takes.

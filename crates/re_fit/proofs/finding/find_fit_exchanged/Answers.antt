@@ -1,14 +1,9 @@
-use Rattle.std.proofs.Common.{◌≡◌, ◌∙◌, ap, length}
 use Rattle.std.proofs.lemmas.Result.{IfOk-weaker}
 use Rattle.re_given.specs.Inputs.{exchanged}
 use Rattle.re_problem.specs.NamedProblems.{unnamed}
-use Rattle.re_fit.proofs.Answering.{answered-by}
-use Rattle.re_fit.specs.Fits.{problem_with}
+use Rattle.re_fit.proofs.Answering.{answered}
 use Rattle.re_fit.proofs.finding.find_fit_exchanged.Goals as goal
 
 pub returns-clause-answer : goal.returns-clause-answer
 returns-clause-answer c =
-    let same : problem_with c.len-count.result c.passive.result.now c.active.result.now ≡ exchanged (unnamed c.args.input.now)
-    = (λ i. problem_with ((c.len-count.ensures.len ∙ ap length c.names.ensures.names) i) (c.passive.ensures.passive i) (c.active.ensures.active i)) in
-    IfOk-weaker c.fit_between.result _ _ (λ o f. answered-by (unnamed c.args.problem.now) (problem_with c.len-count.result c.passive.result.now c.active.result.now) (exchanged (unnamed c.args.input.now)) c.args.tries _ same
-    c.names-problem.ensures.problem.problem c.requires.input f) c.fit_between.ensures.found
+    IfOk-weaker c.find_upper.result _ _ (λ o f. answered (unnamed c.args.problem.now) (exchanged (unnamed c.args.input.now)) c.args.tries _ c.names-problem.ensures.problem.problem c.requires.input f) c.find_upper.ensures.found

@@ -1,6 +1,6 @@
 use Rattle.std.proofs.Common.{subst, sym}
 use Rattle.std.proofs.lemmas.Result.{IfOk-weaker}
-use Rattle.re_frame.specs.Outcomes.{Outcome, outcome_of}
+use Rattle.re_frame.specs.Outcomes.{Outcome}
 use Rattle.re_given_words.proofs.ProductMeaning.{product_means}
 use Rattle.re_given_words.specs.ProductTexts.{ProductMeans}
 use Rattle.re_given_words.proofs.multiplying.meant_output.Goals as goal

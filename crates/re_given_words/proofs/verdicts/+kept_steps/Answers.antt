@@ -1,4 +1,4 @@
-use Rattle.std.proofs.Common.{◌≡◌, ◌∙◌, sym}
+use Rattle.std.proofs.Common.{◌∙◌, sym}
 use Rattle.std.proofs.lemmas.Result.{IfOk-weaker}
 use Rattle.re_given_words.proofs.EndNumbers.{kept-here, kept-on, some_number}
 use Rattle.re_given_words.proofs.verdicts.+kept_steps.Goals as goal

@@ -1,5 +1,5 @@
 use Rattle.std.proofs.Common.{◌≡◌, ◌<◌, ◌∙◌, ◌∷◌, ◌++◌, [], Err, List, ℕ, ap, length, refl, subst, sym}
-use Rattle.std.specs.List.{AllByRecursion, flat_map}
+use Rattle.std.specs.List.{AllByRecursion}
 use Rattle.re_config.specs.Configs.{sorted}
 use Rattle.re_config.specs.Orders.{placements}
 use Rattle.re_families.proofs.Listing.{passed}

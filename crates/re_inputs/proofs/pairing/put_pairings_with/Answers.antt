@@ -1,4 +1,4 @@
-use Rattle.std.proofs.Common.{◌≡◌, ◌<◌, ◌∙◌, ◌++◌, ◌∷◌, [], Err, ap, length, refl, subst, sym}
+use Rattle.std.proofs.Common.{◌≡◌, ◌∙◌, ◌++◌, ◌∷◌, [], Err, ap, refl, subst, sym}
 use Rattle.re_config.specs.Configs.{IsConfig}
 use Rattle.re_families.proofs.Listing.{passed}
 use Rattle.re_inputs.proofs.PairingLemmas.{at_end, at_start, come_to, one_more, too_many}

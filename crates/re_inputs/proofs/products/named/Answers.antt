@@ -1,10 +1,10 @@
-use Rattle.std.proofs.Common.{◌≡◌, ◌<◌, ◌*◌, ◌∙◌, ap, length, subst, sym}
+use Rattle.std.proofs.Common.{◌<◌, ◌*◌, ◌∙◌, ap, length, subst, sym}
 use Rattle.std.specs.List.{AllByRecursion}
 use Rattle.re_given.specs.Products.{pairs_of}
 use Rattle.re_inputs.proofs.NamedProofs.{named_is}
 use Rattle.re_inputs.proofs.ProductNames.{labels_low, length-product_labels}
 use Rattle.re_inputs.proofs.ProductProofs.{IsNamedProblem-product}
-use Rattle.re_inputs.specs.NamedProducts.{named_product, product_labels, relabelled}
+use Rattle.re_inputs.specs.NamedProducts.{named_product, relabelled}
 use Rattle.re_labels.specs.declared.TheConstants.{MAX_LABELS}
 use Rattle.re_inputs.proofs.products.named.Goals as goal
 

@@ -21,7 +21,7 @@ export class Searches {
 
     // Each search by its name in search_actions.js, with its numbers; `goesOn` where it is asked again with more.
     async run(card, view, name, numbers, goesOn) {
-        const {k, m, l} = numbers, search = {
+        const {k, m, l, diagram} = numbers, search = {
             lower: () => goesOn ? this.grow(card, view, m) : this.search(card, view, ['lower', k, m]),
             upper: () => this.search(card, view, ['upper', k, m]),
             fixed: () => this.search(card, view, ['fixed', k, m]),
@@ -29,7 +29,7 @@ export class Searches {
             longest: () => this.longest(card, view, k, l, goesOn),
             shortest: () => this.shortest(card, view, k, l, goesOn),
             cycle: () => this.cycle(card, view, k, m, goesOn),
-            closure: () => this.closure(card, view, k),
+            closure: () => this.closure(card, view, k, diagram),
             cover: () => this.workbench.settling.cover(card, view, m),
         };
         await search[name]();
@@ -145,11 +145,12 @@ export class Searches {
         });
     }
 
-    // The closure of the problem, else that of what 1, 2, .. k further steps lead to.
-    closure(card, view, k) {
-        const words = k ? ['closure', String(k)] : ['closure'], what = words.join(' ');
+    // The closure of the problem, raised by the edges of a diagram if some are written, else that of what 1, 2, .. k further steps lead to.
+    closure(card, view, k, diagram = '') {
+        const words = k ? ['closure', String(k)] : ['closure'], edges = diagram.split(',').map(edge => edge.trim()).filter(edge => edge),
+              what = [words.join(' '), ...edges.length ? ['with', edges.join(', ')] : []].join(' ');
         return this.fromChain(card, view, 'closure', 'lower', false, async (task, chain) => {
-            const answer = await task.ask('explore', words, chain);
+            const answer = await task.ask('explore', words, edges.length ? [chain.trimEnd(), '== diagram', ...edges, ''].join('\n') : chain);
             await this.tried(view, task, what, answer);
             return isFound(answer) ? {what, certificate: answer.text} : null;
         });

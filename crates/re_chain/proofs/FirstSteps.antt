@@ -1,4 +1,4 @@
--- The step from a problem to the derived problem of a relaxation fits, and meets its clauses.
+-- A lower step by rows fits; the step from a problem to the derived problem of a relaxation does, and meets its clauses.
 use Rattle.std.proofs.Common.{◌≡◌, ℕ, ◌<◌, ◌≤◌, Bool, true, false, eqb, leb, ltb, List, [], ◌∷◌, length, map, None, Some, Result, Ok, Err, refl, sym, ap, ◌∙◌, arith}
 use Rattle.std.proofs.lemmas.Bool.Decides.{nat_tests}
 use Rattle.std.specs.Prelude.{◌&&◌, IsErrAnd, if◌then◌else◌, option_map}
@@ -45,13 +45,34 @@ relaxed-within problem relaxed none = go (ltb MAX_ROWS (length (max_rows problem
     go true e h = cc
     go false e h = (grind (arith, nat_tests), h)
 
--- ---- the step
+-- ---- a step by rows
 -- the labels of a configuration, in any order
 held_labels : (n : ℕ) (constraint : Constraint) (labels : List ℕ) → IsConstraint n constraint → Has constraint labels → (length labels ≡ constraint.degree) × AllByRecursion (λ x. x < n) labels
 held_labels n constraint labels fine held =
     let config : IsConfig constraint.degree n (sorted labels) = AllByRecursion-contains (IsConfig constraint.degree n) constraint.configs (sorted labels) fine.configs held in
     (sym (length-sorted labels) ∙ config.count, AllByRecursion-Rearranged (λ x. x < n) (Rearranged-sym (Rearranged-sorted labels)) config.below)
 
+module _ (problem next : NamedProblem) (images : List (List ℕ)) (fine : IsNamedProblem next) (few : length (max_rows problem.passive (length problem.names)) ≤ MAX_ROWS)
+    (step : IsLowerStepByRow (unnamed problem) (unnamed next) (max_rows problem.passive (length problem.names)) images) where
+  few-images : leb (length images) MAX_ROWS ≡ true
+  few-images = let f = few in let count = step.count in grind (arith, nat_tests)
+
+  images-fit : list_all (image_fits problem next) images ≡ true
+  images-fit = all-In_from (image_fits problem next) images (λ labels i.
+      let (count, low) = held_labels (length next.names) next.active labels fine.problem.active (step.active labels (In-Contains labels images i)) in
+      true-and (eqb (length labels) problem.passive.degree) (list_all (is_label next) labels)
+      (ap (λ d. eqb d problem.passive.degree) (count ∙ step.active_degree) ∙ eqb-same problem.passive.degree)
+      (below_all (length next.names) labels low))
+
+  pub row_step-fits : (kind : Kind) → is_lower kind ≡ true → step_fits kind problem (the_step next (max_rows problem.passive (length problem.names)) (by_row images)) ≡ true
+  row_step-fits kind lower =
+      let rows : List (List (List ℕ)) = max_rows problem.passive (length problem.names) in
+      let short : leb (length rows) MAX_ROWS ≡ true = (let f = few in grind (arith, nat_tests)) in
+      true-and (is_lower kind && leb (length rows) MAX_ROWS && list_all (row_fits problem) rows) (leb (length images) MAX_ROWS && list_all (image_fits problem next) images)
+      (true-and (is_lower kind && leb (length rows) MAX_ROWS) (list_all (row_fits problem) rows) (true-and (is_lower kind) (leb (length rows) MAX_ROWS) lower short) (rows-fit problem))
+      (true-and (leb (length images) MAX_ROWS) (list_all (image_fits problem next) images) few-images images-fit)
+
+-- ---- the step to a derived problem
 module _ (problem relaxed : NamedProblem) (image : ℕ → ℕ) (below : (label : ℕ) → label < length problem.names → image label < length relaxed.names)
     (is : IsRelaxed (unnamed problem) (unnamed relaxed) image) (fine : IsNamedProblem relaxed) (limit : relaxed_limit problem relaxed ≡ None) where
   abbrev rows : List (List (List ℕ))
@@ -71,23 +92,8 @@ module _ (problem relaxed : NamedProblem) (image : ℕ → ℕ) (below : (label 
   pub relaxed-meets : step_fault problem (relaxed_step image problem relaxed) ≡ None
   relaxed-meets = (lower_clauses problem (relaxed_step image problem relaxed) refl).1 to-named
 
-  few-images : leb (length images) MAX_ROWS ≡ true
-  few-images = let few = (relaxed-within problem relaxed limit).0 in let count = to-named.count in grind (arith, nat_tests)
-
-  images-fit : list_all (image_fits problem (named_derived (unnamed relaxed))) images ≡ true
-  images-fit = all-In_from (image_fits problem (named_derived (unnamed relaxed))) images (λ labels i.
-      let next = named_derived (unnamed relaxed) in
-      let (count, low) = held_labels (length next.names) next.active labels next-named.problem.active (to-named.active labels (In-Contains labels images i)) in
-      true-and (eqb (length labels) problem.passive.degree) (list_all (is_label next) labels)
-      (ap (λ d. eqb d problem.passive.degree) (count ∙ to-named.active_degree) ∙ eqb-same problem.passive.degree)
-      (below_all (length next.names) labels low))
-
   pub relaxed-fits : (kind : Kind) → is_lower kind ≡ true → step_fits kind problem (relaxed_step image problem relaxed) ≡ true
-  relaxed-fits kind lower =
-      let few : leb (length rows) MAX_ROWS ≡ true = (let l = (relaxed-within problem relaxed limit).0 in grind (arith, nat_tests)) in
-      true-and (is_lower kind && leb (length rows) MAX_ROWS && list_all (row_fits problem) rows) (leb (length images) MAX_ROWS && list_all (image_fits problem (named_derived (unnamed relaxed))) images)
-      (true-and (is_lower kind && leb (length rows) MAX_ROWS) (list_all (row_fits problem) rows) (true-and (is_lower kind) (leb (length rows) MAX_ROWS) lower few) (rows-fit problem))
-      (true-and (leb (length images) MAX_ROWS) (list_all (image_fits problem (named_derived (unnamed relaxed))) images) few-images images-fit)
+  relaxed-fits kind lower = row_step-fits problem (named_derived (unnamed relaxed)) images next-named (relaxed-within problem relaxed limit).0 to-named kind lower
 
   -- ---- the chain of this step
   pub first-bound : (kind : Kind) → is_lower kind ≡ true → is_bound (chain_with kind problem (relaxed_step image problem relaxed ∷ [])) ≡ true

@@ -104,9 +104,6 @@ begun-merged x y bound none = ap (λ b. if b then chain_with bound.kind bound.fi
 pub begun-limit : (x y : ℕ) (bound : Bound) → is_nil bound.steps ≡ true → relaxed_limit bound.first (merged_problem x y bound.first) ≡ merge_limit x y bound
 begun-limit x y bound none = ap (λ b. if b then relaxed_limit bound.first (merged_problem x y bound.first) else None) (sym none)
 
-pub no-limit : (x y : ℕ) (bound : Bound) → is_nil bound.steps ≡ false → merge_limit x y bound ≡ None
-no-limit x y bound some = ap (λ b. if b then relaxed_limit bound.first (merged_problem x y bound.first) else None) some
-
 -- the last problem of a chain without steps is the first one
 pub begun-last : (P : NamedProblem → Type 0) (bound : Bound) → is_nil bound.steps ≡ true → P (last_problem bound) → P bound.first
 begun-last P bound none held = subst (λ steps. P (last_or bound.first (next_problems steps))) (nil_of bound.steps none) held

@@ -17,9 +17,10 @@ ghost use Rattle.re_chain.specs.Laws.{DerivedRelaxationLaw, DropLaw, MergeLaw, N
 ghost use Rattle.re_chain.specs.Ordered.{OrderLaw, SoundOrderLaw, ValidOrderLaw};
 
 pub use dropping::drop_label;
-pub use merging::merge;
+pub use merging::{first_merged, merge};
 pub use naming::name_label;
 pub use refusal::{ChainFault, MergeFault, Refusal};
+pub use relaxing::{relaxed_step, top_labels};
 pub use tidying::tidy;
 
 /// A lower step leads, with its map sent along, to each relaxation of its next problem.

@@ -144,8 +144,9 @@ fn merged_last(
     with_last(alloc, certificate, last)
 }
 
-// The step from the problem to the derived problem of the one with the one label in place of the other.
-fn first_merged(alloc: Global, problem: &Problem, from: u8, to: u8) -> Result<Step, StepFault>
+/// The step from the problem to the derived problem of the one in which `from` has become `to`, with the limit that it passes first if any: of
+/// the maximal rows of the problem, or one of the derived problem. Its cost is that of `relaxed_step`.
+pub fn first_merged(alloc: Global, problem: &Problem, from: u8, to: u8) -> Result<Step, StepFault>
     requires from { from < length problem.now.names }
     requires to { to < length problem.now.names }
     requires apart { from ≢ to }

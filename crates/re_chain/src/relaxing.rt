@@ -119,8 +119,9 @@ fn first_dominating(rows: &[Row], other: &Row) -> usize
     unreachable!()
 }
 
-// The labels that stand for the sets of the first row that dominates these sets, in the order in which it holds them.
-fn top_labels(rows: &[Row], sets: &[LabelSet], others: &[LabelSet]) -> RowImage
+/// The labels that stand for the sets of the first row that dominates these sets, in the first order in which it holds them. It tests one
+/// row after another up to that one.
+pub fn top_labels(rows: &[Row], sets: &[LabelSet], others: &[LabelSet]) -> RowImage
     requires few { length sets.now ≤ MAX_LABELS }
     requires seen { IsSeen rows.now others.now }
     ensures { result ≡ top_places rows.now sets.now others.now }
@@ -201,7 +202,7 @@ fn step_of_rows(
 /// It is refused with the limit of rows where the problem has more maximal rows than `re_config::MAX_ROWS`, and else with the limit that the
 /// derived problem passes. The cost is that of `re_universal::maximal_rows` and of `re_step::step`, and for each row a test of maximal rows,
 /// up to the first that dominates its image.
-pub(crate) fn relaxed_step(
+pub fn relaxed_step(
     alloc: Global,
     problem: &Problem,
     relaxed: &Problem,

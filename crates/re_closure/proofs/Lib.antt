@@ -8,3 +8,10 @@ mod Joined
 mod Saying
 mod OneOutcome
 mod Within
+mod DiagramOrders
+mod RaisedProblems
+mod RaisedSteps
+mod RaisedJoined
+mod OneRaisedOutcome
+mod RaisedWithin
+mod EdgeLines

@@ -1,5 +1,5 @@
 -- All closures of a problem have one certificate, and one answer.
-use Rattle.std.proofs.Common.{◌≡◌, ℕ, suc, ◌<◌, List, [], ◌∷◌, ◌++◌, length, map, None, Some, refl, sym, ap, ◌∙◌, subst, ◌⊎◌, inl, inr, arith}
+use Rattle.std.proofs.Common.{◌≡◌, ℕ, suc, ◌<◌, Bool, List, [], ◌∷◌, ◌++◌, length, map, None, Some, refl, sym, ap, ◌∙◌, subst, ◌⊎◌, inl, inr, arith}
 use Rattle.std.specs.Prelude.{slice_index_or}
 use Rattle.re_config.specs.Rows.{placed}
 use Rattle.re_labels.proofs.Membership.{Contains-In, In, In-Contains}
@@ -12,9 +12,8 @@ use Rattle.re_problem.specs.NamedProblems.{NamedProblem, unnamed}
 use Rattle.re_problem.specs.Problems.{IsProblem, Problem}
 use Rattle.re_problem.specs.Steps.{SetEntry}
 use Rattle.re_problem.specs.Zero.{zero_place}
-use Rattle.re_cert.specs.Bounds.{Bound, last_problem}
+use Rattle.re_cert.specs.Bounds.{Bound, BoundStep, has_row_maps, last_problem}
 use Rattle.re_cert.specs.declared.certificate.Kind.TheVariants.{Fixed}
-use Rattle.re_chain_steps.specs.Stepped.{in_form_of}
 use Rattle.re_chain_texts.specs.OverChains.{certificate_outcome}
 use Rattle.re_step.specs.LabelNames.{label_names}
 use Rattle.re_closure_laws.proofs.Generated.{active_first, passive_first}
@@ -23,7 +22,7 @@ use Rattle.re_closure_laws.specs.Closures.{AreClosure, AreTopmost, down_lines, u
 use Rattle.re_closure_laws.specs.Lines.{Family, below, entries_within, labels_within, others, problem_of, topmost}
 use Rattle.re_closure.specs.Closures.{HasRoom, IsClosed, IsSolvableBy, LimitIs}
 use Rattle.re_closure.specs.Limits.{IsSmallClosure, PassesLimit}
-use Rattle.re_closure.specs.Sides.{closed_bound, entries_by, named_of, step_to}
+use Rattle.re_closure.specs.Sides.{bound_by, closed_bound, entries_by, first_step, in_form, named_of, step_to}
 use Rattle.re_closure.specs.declared.types.ClosureLimit.{ClosureLimit}
 use Rattle.re_closure.specs.declared.types.ClosureLimit.TheVariants.{Combinations, Configurations, Labels, Rows, Steps}
 use Rattle.re_frame.specs.Outcomes.{Outcome, limit, refused}
@@ -82,7 +81,7 @@ module _ (problem : Problem) (a p b q : Family) (is : IsProblem problem) (one : 
   closed_named : named_of a p ≡ named_of b q
   closed_named = λ i. record { names = label_names (length (one_sets i)); active = top_a i; passive = below_p i }
 
-  between_named : named_of p a ≡ named_of q b
+  pub between_named : named_of p a ≡ named_of q b
   between_named = λ i. record { names = label_names (length (other_sets i)); active = top_p i; passive = below_a i }
 
   abbrev within_entries : Constraint → List (List ℕ) → List SetEntry
@@ -94,31 +93,41 @@ module _ (problem : Problem) (a p b q : Family) (is : IsProblem problem) (one : 
   entries_p : entries_within p ≡ entries_within q
   entries_p = λ i. within_entries (below_p i) (one_sets i)
 
+  -- the bound by a step and the steps to the closure and back
+  pub same_bound : (r : Bool) (chain : Bound) (one_step two_step : BoundStep) → one_step ≡ two_step → bound_by r chain one_step a p ≡ bound_by r chain two_step b q
+  same_bound r chain one_step two_step same = λ i. record {
+    kind = Fixed;
+    back = suc (length chain.steps);
+    first = chain.first;
+    steps = chain.steps ++ same i ∷ in_form r (step_to (closed_named i) (max_rows (below_a i) (length (other_sets i))) (entries_a i))
+        ∷ in_form r (step_to (between_named i) (max_rows (below_p i) (length (one_sets i))) (entries_p i)) ∷ [];
+    renaming = map (λ label. (label, label)) (count_from 0 (length (other_sets i)));
+  }
+
 module _ (chain : Bound) (a p b q : Family) (is : IsProblem (unnamed (last_problem chain))) (one : AreClosure (unnamed (last_problem chain)) a p) (two : AreClosure (unnamed (last_problem chain)) b q) where
   abbrev P : Problem
   P = unnamed (last_problem chain)
 
+  between : named_of p a ≡ named_of q b
+  between = between_named P a p b q is one two
+
+  abbrev r : Bool
+  r = has_row_maps chain.steps
+
+  first : first_step (unnamed (last_problem chain)) a p ≡ first_step (unnamed (last_problem chain)) b q
+  first = λ i. step_to (between i) (max_rows P.passive P.labels) (entries_by (place_of (one_sets P a p b q is one two i)) (max_sets P.passive P.labels))
+
   pub one_bound : closed_bound chain a p ≡ closed_bound chain b q
-  one_bound = λ i. record {
-    kind = Fixed;
-    back = suc (length chain.steps);
-    first = chain.first;
-    steps = chain.steps ++ map (in_form_of chain.steps) (
-        step_to (between_named P a p b q is one two i) (max_rows P.passive P.labels) (entries_by (place_of (one_sets P a p b q is one two i)) (max_sets P.passive P.labels))
-        ∷ step_to (closed_named P a p b q is one two i) (max_rows (below_a P a p b q is one two i) (length (other_sets P a p b q is one two i))) (entries_a P a p b q is one two i)
-        ∷ step_to (between_named P a p b q is one two i) (max_rows (below_p P a p b q is one two i) (length (one_sets P a p b q is one two i))) (entries_p P a p b q is one two i)
-        ∷ []);
-    renaming = map (λ label. (label, label)) (count_from 0 (length (other_sets P a p b q is one two i)));
-  }
+  one_bound = same_bound P a p b q is one two r chain (in_form r (first_step P a p)) (in_form r (first_step P b q)) (ap (in_form r) first)
 
 -- ---- answers
 bounds : (chain bound other : Bound) → IsProblem (unnamed (last_problem chain)) → IsClosed chain bound → IsClosed chain other → bound ≡ other
 bounds chain bound other is f g = f.bound_is ∙ one_bound chain f.active f.passive g.active g.passive is f.closure.closure g.closure.closure ∙ sym g.bound_is
 
-not_both : (problem : Problem) (a p b q : Family) (place : ℕ) → IsProblem problem → AreClosure problem a p → AreClosure problem b q → zero_place (problem_of a p) ≡ None → zero_place (problem_of b q) ≡ Some place → ⊥
+pub not_both : (problem : Problem) (a p b q : Family) (place : ℕ) → IsProblem problem → AreClosure problem a p → AreClosure problem b q → zero_place (problem_of a p) ≡ None → zero_place (problem_of b q) ≡ Some place → ⊥
 not_both problem a p b q place is one two none some = let e : None ≡ Some place = sym none ∙ ap zero_place (out_is problem a p b q is one two) ∙ some in cc
 
-lines : (problem : NamedProblem) (sets others : List (List ℕ)) → IsProblem (unnamed problem) → IsSolvableBy problem sets → IsSolvableBy problem others → sets ≡ others
+pub lines : (problem : NamedProblem) (sets others : List (List ℕ)) → IsProblem (unnamed problem) → IsSolvableBy problem sets → IsSolvableBy problem others → sets ≡ others
 lines problem sets others is s t =
     let u = unnamed problem in
     let e : Some s.place ≡ Some t.place = sym s.first ∙ ap zero_place (out_is u s.active s.passive t.active t.passive is s.closure.closure t.closure.closure) ∙ t.first in
@@ -137,7 +146,7 @@ room_passes chain Configurations room told = told.1
 room_passes chain Steps room told = absurd (omega (arith, room, told))
 
 -- a closure within its limits passes none but those of the way
-small_passes : (problem : Problem) (a p : Family) (passed : ClosureLimit) → IsProblem problem → IsSmallClosure problem a p → PassesLimit problem passed → IsOnWay passed
+pub small_passes : (problem : Problem) (a p : Family) (passed : ClosureLimit) → IsProblem problem → IsSmallClosure problem a p → PassesLimit problem passed → IsOnWay passed
 small_passes problem a p Rows is small told = tt
 small_passes problem a p Combinations is small told = tt
 small_passes problem a p (Labels count) is small told =
@@ -158,7 +167,7 @@ small_passes problem a p Configurations is small told = elim told.many [
 ]
 small_passes problem a p Steps is small told = absurd told
 
-two_passes : (problem : Problem) (one two : ClosureLimit) → IsProblem problem → PassesLimit problem one → PassesLimit problem two → (one ≡ two) ⊎ (IsOnWay one ⊎ IsOnWay two)
+pub two_passes : (problem : Problem) (one two : ClosureLimit) → IsProblem problem → PassesLimit problem one → PassesLimit problem two → (one ≡ two) ⊎ (IsOnWay one ⊎ IsOnWay two)
 two_passes problem Rows two is h k = inr (inl tt)
 two_passes problem Combinations two is h k = inr (inl tt)
 two_passes problem one Rows is h k = inr (inr tt)
@@ -193,7 +202,7 @@ two_limits chain Steps (Labels m) is h k = let room = k.0 in absurd (omega (arit
 two_limits chain Steps Configurations is h k = let room = k.0 in absurd (omega (arith, h, room))
 two_limits chain Steps Steps is h k = inl refl
 
-limit_lines : (one two : ClosureLimit) → (one ≡ two) ⊎ (IsOnWay one ⊎ IsOnWay two) → (given other : Outcome) → given ≡ limit (limit_line one) → other ≡ limit (limit_line two)
+pub limit_lines : (one two : ClosureLimit) → (one ≡ two) ⊎ (IsOnWay one ⊎ IsOnWay two) → (given other : Outcome) → given ≡ limit (limit_line one) → other ≡ limit (limit_line two)
     → (given ≡ other) ⊎ (IsWayLine given ⊎ IsWayLine other)
 limit_lines one two (inl e) given other f g = inl (f ∙ ap (λ passed. limit (limit_line passed)) e ∙ sym g)
 limit_lines one two (inr (inl way)) given other f g = inr (inl (one, way, f))

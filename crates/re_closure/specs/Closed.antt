@@ -1,11 +1,13 @@
 -- What the computed parts of a closure are.
-use Rattle.std.specs.Prelude.{◌≡◌, ◌<◌, ◌≤◌, length, map}
-use Rattle.re_labels.specs.Lists.{place_of}
+use Rattle.std.specs.Prelude.{◌≡◌, suc, ◌<◌, ◌≤◌, Bool, [], ◌∷◌, ◌++◌, length, map}
+use Rattle.re_labels.specs.Lists.{count_from, place_of}
+use Rattle.re_cert.specs.Bounds.{Bound, BoundStep}
+use Rattle.re_cert.specs.declared.certificate.Kind.TheVariants.{Fixed}
 use Rattle.re_table.specs.declared.constraint_table.TheConstants.{MAX_CONFIGURATIONS}
 use Rattle.re_problem.specs.Problems.{Problem}
 use Rattle.re_closure_laws.specs.Lines.{Family, below, labels_within, topmost}
 use Rattle.re_closure.specs.Limits.{IsSmallClosure}
-use Rattle.re_closure.specs.Sides.{IsMapOf, named_of}
+use Rattle.re_closure.specs.Sides.{IsMapOf, in_form, named_of, step_to}
 use Rattle.re_closure.specs.declared.closure.Closure.{Closure}
 use Rattle.re_closure.specs.declared.closure.Side.{Side}
 use Rattle.re_closure.specs.declared.types.ClosureLimit.{ClosureLimit}
@@ -40,3 +42,14 @@ pub record IsClosureOf (problem : Problem) (closure : Closure) : Type 0 where
   pub active : Family
   pub passive : Family
   pub computed : Computes problem active passive closure
+
+-- the fixed point that is made of a chain, a step to the problem between, and a computed closure
+abbrev pub made_bound : Bool → Bound → BoundStep → Closure → Bound
+made_bound by_rows chain first closure = record {
+  kind = Fixed;
+  back = suc (length chain.steps);
+  first = chain.first;
+  steps = chain.steps ++ first ∷ in_form by_rows (step_to closure.closed closure.out.rows.items closure.out.entries.items)
+      ∷ in_form by_rows (step_to closure.between closure.back.rows.items closure.back.entries.items) ∷ [];
+  renaming = map (λ label. (label, label)) (count_from 0 (length closure.between.names));
+}

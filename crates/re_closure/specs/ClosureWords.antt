@@ -1,5 +1,5 @@
 -- The word `closure`, and what it may answer.
-use Rattle.std.specs.Prelude.{◌≡◌, ℕ, zero, suc, ◌⊎◌, nat_le, List, [], ◌∷◌, ◌++◌, codes, length, if◌then◌else◌, Option, Some, None}
+use Rattle.std.specs.Prelude.{◌≡◌, ℕ, zero, suc, ◌⊎◌, nat_le, Bool, true, false, List, [], ◌∷◌, ◌++◌, codes, length, if◌then◌else◌, Option, Some, None, option_map}
 use Rattle.std.specs.Fmt.{decimal}
 use Rattle.std.specs.Str.{bytes_eq}
 use Rattle.re_problem.specs.NamedProblems.{NamedProblem, unnamed}
@@ -9,22 +9,29 @@ use Rattle.re_cert.specs.Bounds.{Bound, last_problem}
 use Rattle.re_cert.specs.declared.certificate.Kind.{Kind}
 use Rattle.re_cert.specs.declared.certificate.Kind.TheVariants.{Upper}
 use Rattle.re_items.specs.Numerals.{number_of}
+use Rattle.re_chain_steps.specs.RowForms.{by_rows}
 use Rattle.re_chain_steps.specs.Stepped.{stepped, stepping_fault}
 use Rattle.re_chain_steps.specs.declared.stepping.ChainStepFault.{ChainStepFault}
 use Rattle.re_chain_steps.specs.declared.stepping.ChainStepFault.TheVariants as chain_step_fault
 use Rattle.re_chain_texts.specs.ChainTexts.{chain_fault, text_chain}
 use Rattle.re_chain_texts.specs.OverChains.{GivesText, certificate_outcome, steps_refusal}
 use Rattle.re_check.specs.declared.verdict.Verdict.{Verdict}
+use Rattle.re_chain.specs.Relaxing.{relaxed_limit}
 use Rattle.re_closure.specs.Closures.{HasRoom, IsClosed, IsSolvableBy, LimitIs}
+use Rattle.re_closure.specs.DiagramTexts.{diagram_edges, diagram_fault, front_chain, has_diagram}
+use Rattle.re_closure.specs.Diagrams.{raised}
+use Rattle.re_closure.specs.RaisedClosures.{IsRaisedClosed, IsRaisedSolvableBy, RaisedLimitIs, raised_chain}
 use Rattle.re_closure.specs.declared.answering.ClosureWord.{ClosureWord}
 use Rattle.re_closure.specs.declared.answering.TheConstants.{MAX_FURTHER}
 use Rattle.re_closure.specs.declared.types.ClosureLimit.{ClosureLimit}
 use Rattle.re_closure.specs.declared.types.ClosureLimit.TheVariants.{Combinations, Configurations, Labels, Rows, Steps}
 use Rattle.re_frame.specs.Check.{verdict_outcome}
-use Rattle.re_frame.specs.Outcomes.{Outcome, limit, refused}
+use Rattle.re_extend.specs.Extensions.{IsSoundChain}
+use Rattle.re_frame.specs.Outcomes.{Outcome, limit, outcome_of, refused}
 use Rattle.re_frame.specs.SearchLines.{solvable_line}
 use Rattle.re_frame.specs.StepLimits.{limit_line as step_line}
 use Rattle.re_frame.specs.TextFaults.{fault_outcome}
+use Rattle.re_frame.specs.declared.output.Output.{Output}
 use Rattle.re_printing.specs.SetTexts.{row_text}
 
 -- the number of steps, if it is one of at most eight
@@ -40,7 +47,7 @@ closure_word_of words = None
 
 -- the line of help
 unfoldable pub closure_help : List ℕ
-closure_help = codes "closure, closure K: reads a chain, gives the fixed point by right-closed sets that goes on from it, or from it with 1, 2, .. K steps more\n"
+closure_help = codes "closure, closure K: reads a chain, or a chain and a diagram, gives the fixed point by right-closed sets that goes on from it, or from it with 1, 2, .. K steps more\n"
 
 -- ---- lines
 -- the line for a problem whose closure is solvable without communication, with the configuration of sets of its labels that shows it
@@ -101,22 +108,78 @@ MayFindWithin zero chain outcome = MayFindBehind (IsClosureLine chain) (zero_pla
 MayFindWithin (suc more) chain outcome =
     MayFindBehind (MayGoOn chain (MayFindWithin more (stepped chain))) (zero_place (unnamed (last_problem chain))) chain outcome
 
--- a chain of kind upper is refused
-abbrev pub MayGiveAt : Kind → ℕ → Bound → Outcome → Type 0
-MayGiveAt Upper more chain outcome = outcome ≡ refused (codes "no: not a lower chain\n")
-MayGiveAt kind more chain outcome = MayFindWithin more chain outcome
+-- ---- answers behind a diagram
+-- the text of the fixed point of the closure of the raised problem; it is read as this fixed point
+abbrev pub IsRaisedFound : List (ℕ × ℕ) → Bound → Outcome → Type 0
+IsRaisedFound edges chain outcome = (bound : Bound) × (outcome ≡ certificate_outcome bound) × GivesText bound outcome × HasRoom chain × IsRaisedClosed edges chain bound
+
+-- the line of the configuration that shows that this closure is solvable without communication
+abbrev pub IsRaisedLine : List (ℕ × ℕ) → Bound → Outcome → Type 0
+IsRaisedLine edges chain outcome =
+    (sets : List (List ℕ)) × (outcome ≡ refused (closure_line (last_problem chain) sets)) × HasRoom chain × IsRaisedSolvableBy edges (last_problem chain) sets
+
+-- the line of a limit that is passed
+abbrev pub IsRaisedLimitLine : List (ℕ × ℕ) → Bound → Outcome → Type 0
+IsRaisedLimitLine edges chain outcome = (passed : ClosureLimit) × (outcome ≡ limit (limit_line passed)) × RaisedLimitIs edges chain passed
+
+-- what may be given where the last problem isn't solvable without communication: the fixed point of the closure of the raised problem; what is given where this
+-- closure is solvable without communication; or the line of a limit
+abbrev pub MayFindRaised : (Outcome → Type 0) → List (ℕ × ℕ) → Bound → Outcome → Type 0
+MayFindRaised MayGiveSolvable edges chain outcome = IsRaisedFound edges chain outcome ⊎ (MayGiveSolvable outcome ⊎ IsRaisedLimitLine edges chain outcome)
+
+-- the line of the configuration where the last problem is solvable without communication, and else what may be found
+abbrev pub MayFindRaisedBehind : (Outcome → Type 0) → Option ℕ → List (ℕ × ℕ) → Bound → Outcome → Type 0
+MayFindRaisedBehind MayGiveSolvable (Some place) edges chain outcome = outcome ≡ refused (solvable_line (last_problem chain) place)
+MayFindRaisedBehind MayGiveSolvable None edges chain outcome = MayFindRaised MayGiveSolvable edges chain outcome
+
+-- the closure of the raised problem is solvable without communication, and the chain goes on by the step to the derived problem of the raised problem; behind it
+-- there is no diagram
+abbrev pub MayGoOnRaised : List (ℕ × ℕ) → Bound → (Outcome → Type 0) → Outcome → Type 0
+MayGoOnRaised edges chain MayGiveNext outcome =
+    HasRoom chain × ((sets : List (List ℕ)) × IsRaisedSolvableBy edges (last_problem chain) sets)
+    × MayStep (suc (length chain.steps)) (option_map chain_step_fault.Limit (relaxed_limit (last_problem chain) (raised edges (last_problem chain)))) MayGiveNext outcome
+
+-- what the word may give to a chain of kind lower with a diagram
+abbrev pub MayFindRaisedWithin : ℕ → List (ℕ × ℕ) → Bound → Outcome → Type 0
+MayFindRaisedWithin zero edges chain outcome = MayFindRaisedBehind (IsRaisedLine edges chain) (zero_place (unnamed (last_problem chain))) edges chain outcome
+MayFindRaisedWithin (suc more) edges chain outcome =
+    MayFindRaisedBehind (MayGoOnRaised edges chain (MayFindWithin more (raised_chain edges chain))) (zero_place (unnamed (last_problem chain))) edges chain outcome
+
+-- the same with or without a diagram
+abbrev pub MayFindBy : Option (List (ℕ × ℕ)) → ℕ → Bound → Outcome → Type 0
+MayFindBy None more chain outcome = MayFindWithin more chain outcome
+MayFindBy (Some edges) more chain outcome = MayFindRaisedWithin more edges chain outcome
 
 -- ---- texts
+-- a chain of kind upper is refused
+abbrev pub MayGiveAt : Kind → Option (List (ℕ × ℕ)) → ℕ → Bound → Outcome → Type 0
+MayGiveAt Upper diagram more chain outcome = outcome ≡ refused (codes "no: not a lower chain\n")
+MayGiveAt kind diagram more chain outcome = MayFindBy diagram more chain outcome
+
 -- the line of `check` for the first step that fails, and else what may be given to the chain
-abbrev pub MayGiveSound : Option Verdict → ℕ → Bound → Outcome → Type 0
-MayGiveSound (Some verdict) more chain outcome = outcome ≡ verdict_outcome verdict
-MayGiveSound None more chain outcome = MayGiveAt chain.kind more chain outcome
+abbrev pub MayGiveSound : Option Verdict → Option (List (ℕ × ℕ)) → ℕ → Bound → Outcome → Type 0
+MayGiveSound (Some verdict) diagram more chain outcome = outcome ≡ verdict_outcome verdict
+MayGiveSound None diagram more chain outcome = MayGiveAt chain.kind diagram more chain outcome
 
 -- the line of the first fault of the text, and else what may be given to its chain
-abbrev pub MayGiveRead : Option InputFault → ℕ → Bound → Outcome → Type 0
-MayGiveRead (Some fault) more chain outcome = outcome ≡ fault_outcome fault
-MayGiveRead None more chain outcome = MayGiveSound (steps_refusal chain) more chain outcome
+abbrev pub MayGiveRead : Option InputFault → Option (List (ℕ × ℕ)) → ℕ → Bound → Outcome → Type 0
+MayGiveRead (Some fault) diagram more chain outcome = outcome ≡ fault_outcome fault
+MayGiveRead None diagram more chain outcome = MayGiveSound (steps_refusal chain) diagram more chain outcome
 
--- what the word may give to a text
+-- the chain of a text, from which goes on what is found; with a diagram its maps are by rows
+abbrev pub closure_chain : List ℕ → Bound
+closure_chain bytes = if has_diagram bytes then by_rows (front_chain bytes) else text_chain bytes
+
+-- what the word may give to a text with a diagram, and to one without
+abbrev pub MayGiveBy : Bool → ClosureWord → List ℕ → Outcome → Type 0
+MayGiveBy true word bytes outcome = MayGiveRead (diagram_fault bytes) (Some (diagram_edges bytes)) word.steps (front_chain bytes) outcome
+MayGiveBy false word bytes outcome = MayGiveRead (chain_fault bytes) None word.steps (text_chain bytes) outcome
+
+-- what it may give to a text, which has a diagram where it has the line of one
 unfoldable pub MayGive : ClosureWord → List ℕ → Outcome → Type 0
-MayGive word bytes outcome = MayGiveRead (chain_fault bytes) word.steps (text_chain bytes) outcome
+MayGive word bytes outcome = MayGiveBy (has_diagram bytes) word bytes outcome
+
+-- what is said at once to a chain, with a diagram or without: nothing exactly where it is a sound chain of kind lower
+abbrev pub Refuses : Bound → Option Output → Type 0
+Refuses chain None = IsSoundChain chain
+Refuses chain (Some output) = (diagram : Option (List (ℕ × ℕ))) (more : ℕ) → MayGiveSound (steps_refusal chain) diagram more chain (outcome_of output)

@@ -4,3 +4,6 @@ pub mod Limits
 pub mod Sides
 pub mod ClosureWords
 pub mod Laws
+pub mod DiagramTexts
+pub mod Diagrams
+pub mod RaisedClosures

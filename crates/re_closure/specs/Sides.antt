@@ -11,11 +11,10 @@ use Rattle.re_problem.specs.NamedProblems.{NamedProblem, unnamed}
 use Rattle.re_problem.specs.Problems.{Problem}
 use Rattle.re_problem.specs.Steps.{SetEntry}
 use Rattle.re_problem.specs.Steps.LowerMap.{by_set}
-use Rattle.re_cert.specs.Bounds.{Bound, BoundStep, last_problem}
+use Rattle.re_cert.specs.Bounds.{Bound, BoundStep, has_row_maps, last_problem}
 use Rattle.re_cert.specs.declared.certificate.Kind.TheVariants.{Fixed}
 use Rattle.re_step.specs.LabelNames.{label_names}
 use Rattle.re_chain_steps.specs.RowForms.{step_by_rows}
-use Rattle.re_chain_steps.specs.Stepped.{in_form_of}
 use Rattle.re_closure_laws.specs.Lines.{Family, below, entries_to, entries_within, topmost}
 use Rattle.re_closure.specs.declared.types.StepMap.{StepMap}
 
@@ -61,20 +60,22 @@ first_step problem active passive = step_to (named_of passive active) (max_rows 
 abbrev pub step_between : Family → Family → BoundStep
 step_between active passive = step_to (named_of passive active) (max_rows (below passive) (length passive.sets)) (entries_within passive)
 
--- the steps from a problem P to Q, to the closure P*, and back to Q
-abbrev pub closure_steps : Problem → Family → Family → List BoundStep
-closure_steps problem active passive = first_step problem active passive ∷ step_between passive active ∷ step_between active passive ∷ []
-
 -- a step, or the same with its map by rows
 abbrev pub in_form : Bool → BoundStep → BoundStep
 in_form by_rows s = if by_rows then step_by_rows s else s
 
--- the fixed point that goes on from the chain by these steps, with maps in the form of its own, and goes back to the problem behind the first of them
-abbrev pub closed_bound : Bound → Family → Family → Bound
-closed_bound chain active passive = record {
+-- the fixed point that goes on from the chain by a step to the problem between, to the closure, and back to the problem behind the first of these steps; the maps of
+-- the other two are by rows or by sets
+abbrev pub bound_by : Bool → Bound → BoundStep → Family → Family → Bound
+bound_by by_rows chain first active passive = record {
   kind = Fixed;
   back = suc (length chain.steps);
   first = chain.first;
-  steps = chain.steps ++ map (in_form_of chain.steps) (closure_steps (unnamed (last_problem chain)) active passive);
+  steps = chain.steps ++ first ∷ in_form by_rows (step_between passive active) ∷ in_form by_rows (step_between active passive) ∷ [];
   renaming = map (λ label. (label, label)) (count_from 0 (length active.sets));
 }
+
+-- the one by the steps to the closure of its last problem and back, with maps in the form of its own
+abbrev pub closed_bound : Bound → Family → Family → Bound
+closed_bound chain active passive =
+    bound_by (has_row_maps chain.steps) chain (in_form (has_row_maps chain.steps) (first_step (unnamed (last_problem chain)) active passive)) active passive

@@ -1,16 +1,21 @@
 //! The word, and what it answers.
+ghost use Rattle.re_cert.specs.Bounds.{last_problem};
 ghost use Rattle.re_cert.specs.declared.certificate.Kind.TheVariants.{Fixed};
+ghost use Rattle.re_chain_texts.specs.ChainTexts.{chain_fault, text_chain};
 ghost use Rattle.re_chain_texts.specs.OverChains.{steps_refusal};
-ghost use Rattle.re_check.specs.Verdicts.{steps_fault};
 ghost use Rattle.re_chain_steps.specs.Stepped.{stepped, stepping_fault};
 ghost use Rattle.re_chain_steps.specs.declared.stepping.ChainStepFault.{ChainStepFault as WhyNoStep};
-ghost use Rattle.re_closure.specs.ClosureWords.{MayFindWithin, MayGive, MayGiveAt, MayGiveSound, closure_help, closure_with, closure_word_of, stop_outcome};
+ghost use Rattle.re_closure.specs.ClosureWords.{MayFindWithin, MayGive, MayGiveRead, MayGiveSound, Refuses, closure_help, closure_with, closure_word_of, stop_outcome};
+ghost use Rattle.re_closure.specs.DiagramTexts.{AreEdges, diagram_edges, diagram_fault, front_chain};
 ghost use Rattle.re_extend.specs.Extensions.{IsSoundChain};
 ghost use Rattle.re_frame.specs.Outcomes.{outcome_of};
 ghost use Rattle.re_io.specs.declared.read.TheConstants.{MAX_BYTES};
-ghost use Rattle.std.specs.Prelude.{◌≡◌, ◌≤◌, Err, IfOk, None, Some, length, map, string_bytes};
+ghost use Rattle.re_two_texts.specs.TwoTexts.{IsCut};
+ghost use Rattle.std.specs.Prelude.{◌≡◌, ◌<◌, ◌≤◌, ◌+◌, ℕ, Err, IfOk, List, None, Some, codes, length, map, string_bytes};
 
 use crate::limit_lines::{limit_output, solvable, solvable_closure};
+use crate::raised_output::raised_output;
+use crate::reading::read_diagram;
 use crate::{Closing, ClosureFault, ClosureLimit, find_closure};
 use re_cert::{Certificate, Kind};
 use re_chain_steps::{ChainStepFault, step};
@@ -22,10 +27,14 @@ use re_frame::{
 use re_items::read_number;
 use re_labels::NoMemory;
 use re_problem::TextFault;
+use re_two_texts::{Cut, cut_at};
 use std::alloc::Global;
 
 /// The most steps by which the word goes on where a closure is solvable without communication.
 pub const MAX_FURTHER: u32 = 8;
+
+// The name of the line between a chain and a diagram.
+const DIAGRAM: &[u8] = b"diagram";
 
 /// The word `closure K`. It reads a chain as a whole, and takes the time of `check` on the chain, beside that of `find_closure` for its last
 /// problem and for each problem that it goes on to.
@@ -75,11 +84,15 @@ pub fn closure_word(words: &[String]) -> Option<ClosureWord>
 pub fn closure_help() -> &'static str
     ensures { result.now ≡ closure_help }
 {
-    "closure, closure K: reads a chain, gives the fixed point by right-closed sets that goes on from it, or from it with 1, 2, .. K steps more\n"
+    "closure, closure K: reads a chain, or a chain and a diagram, gives the fixed point by right-closed sets that goes on from it, or from it with 1, 2, .. K steps more\n"
 }
 
-// The output for what keeps a chain from its step of this number.
-fn stop_output(alloc: Global, number: u8, fault: ChainStepFault) -> Result<Output, NoMemory>
+/// The output for what keeps a chain from its step of this number.
+pub(crate) fn stop_output(
+    alloc: Global,
+    number: u8,
+    fault: ChainStepFault,
+) -> Result<Output, NoMemory>
     ensures told { IfOk result (λ output. outcome_of output ≡ stop_outcome number fault) }
     ensures not_memory { IfOk result (λ _. fault ≡ ChainStepFault.NoMemory → ⊥) }
 {
@@ -123,27 +136,74 @@ pub fn closure_output(alloc: Global, chain: &Certificate, more: u8) -> Result<Ou
     }
 }
 
-// What the word gives to a chain each step of which meets its clauses.
-fn chain_output(alloc: Global, chain: &Certificate, more: u8) -> Result<Output, NoMemory>
-    requires meets { steps_fault chain.now.first 1 chain.now.steps ≡ None }
-    requires open { chain.now.kind ≡ Fixed → ⊥ }
-    ensures { IfOk result (λ output. MayGiveAt chain.now.kind more chain.now (outcome_of output)) }
+// The output to a chain of which a step fails, or that isn't of kind lower, and None exactly where it is a sound chain of kind lower.
+fn refusal_output(alloc: Global, chain: &Certificate) -> Result<Option<Output>, NoMemory>
+    requires { chain.now.kind ≡ Fixed → ⊥ }
+    ensures { IfOk result (Refuses chain.now) }
 {
+    if let Some(verdict) = steps_refusal(chain) {
+        return Ok(Some(verdict_output(alloc, verdict)?));
+    }
     match chain.kind() {
-        Kind::Lower => closure_output(alloc, chain, more),
-        Kind::Upper => Ok(refused(begun(alloc, "no: not a lower chain\n")?)),
+        Kind::Lower => Ok(None),
+        Kind::Upper => Ok(Some(refused(begun(alloc, "no: not a lower chain\n")?))),
         Kind::Fixed => unreachable!(),
     }
 }
 
 // What the word gives to a chain.
-fn sound_output(alloc: Global, chain: &Certificate, more: u8) -> Result<Output, NoMemory>
+fn chain_output(alloc: Global, chain: &Certificate, more: u8) -> Result<Output, NoMemory>
     requires { chain.now.kind ≡ Fixed → ⊥ }
-    ensures { IfOk result (λ output. MayGiveSound (steps_refusal chain.now) more chain.now (outcome_of output)) }
+    ensures { IfOk result (λ output. MayGiveSound (steps_refusal chain.now) None more chain.now (outcome_of output)) }
 {
-    match steps_refusal(chain) {
-        Some(verdict) => Ok(verdict_output(alloc, verdict)?),
-        None => chain_output(alloc, chain, more),
+    match refusal_output(alloc, chain)? {
+        Some(output) => Ok(output),
+        None => closure_output(alloc, chain, more),
+    }
+}
+
+// What the word gives to a chain with a diagram of its last problem.
+fn diagram_output(
+    alloc: Global,
+    chain: &Certificate,
+    edges: &[(u8, u8)],
+    more: u8,
+) -> Result<Output, NoMemory>
+    requires open { chain.now.kind ≡ Fixed → ⊥ }
+    requires edges { AreEdges (length (last_problem chain.now).names) edges.now }
+    ensures { IfOk result (λ output. MayGiveSound (steps_refusal chain.now) (Some edges.now) more chain.now (outcome_of output)) }
+{
+    match refusal_output(alloc, chain)? {
+        Some(output) => Ok(output),
+        None => raised_output(alloc, chain, edges, more),
+    }
+}
+
+// What the word gives to a text without a diagram.
+fn plain_output(alloc: Global, steps: u8, text: &[u8]) -> Result<Output, NoMemory>
+    requires { length text.now ≤ MAX_BYTES }
+    ensures { IfOk result (λ output. MayGiveRead (chain_fault text.now) None steps (text_chain text.now) (outcome_of output)) }
+{
+    match read_chain(alloc, text) {
+        Ok(chain) => chain_output(alloc, &chain, steps),
+        Err(TextFault::Bad(fault)) => Ok(fault_output(alloc, fault)?),
+        Err(TextFault::NoMemory) => Err(NoMemory),
+    }
+}
+
+// What the word gives to a text that is cut at its line `== diagram`.
+fn cut_output(alloc: Global, steps: u8, cut: Cut<'_>) -> Result<Output, NoMemory>
+    requires few { length cut.front.now ≤ MAX_BYTES }
+    requires counted { cut.number ≤ cut.byte + 1 }
+    requires within { 0 < length cut.behind.now → cut.byte + length cut.behind.now ≤ MAX_BYTES }
+    requires number { 1 < cut.number }
+    ensures { (text : List ℕ) → IsCut (codes "diagram") text cut.entry →
+        IfOk result (λ output. MayGiveRead (diagram_fault text) (Some (diagram_edges text)) steps (front_chain text) (outcome_of output)) }
+{
+    match read_diagram(alloc, cut) {
+        Ok(text) => diagram_output(alloc, &text.chain, text.edges.as_slice(), steps),
+        Err(TextFault::Bad(fault)) => Ok(fault_output(alloc, fault)?),
+        Err(TextFault::NoMemory) => Err(NoMemory),
     }
 }
 
@@ -153,10 +213,9 @@ fn text_output(alloc: Global, word: ClosureWord, text: &[u8]) -> Result<Output, 
     requires { length text.now ≤ MAX_BYTES }
     ensures { IfOk result (λ output. MayGive word text.now (outcome_of output)) }
 {
-    match read_chain(alloc, text) {
-        Ok(chain) => sound_output(alloc, &chain, word.steps),
-        Err(TextFault::Bad(fault)) => Ok(fault_output(alloc, fault)?),
-        Err(TextFault::NoMemory) => Err(NoMemory),
+    match cut_at(DIAGRAM, text) {
+        Some(cut) => cut_output(alloc, word.steps, cut),
+        None => plain_output(alloc, word.steps, text),
     }
 }
 

@@ -1,25 +1,25 @@
 //! The certificate that the closure of a problem comes back.
 ghost use Rattle.re_cert.specs.Bounds.{has_row_maps as have_row_maps, is_by_row as is_map_by_row, last_problem};
-ghost use Rattle.re_chain_steps.specs.Stepped.{in_form_of};
-ghost use Rattle.re_closure.specs.Closed.{Computes, IsClosureOf};
+ghost use Rattle.re_closure.specs.Closed.{IsClosureOf};
 ghost use Rattle.re_closure.specs.Closures.{Answers, HasRoom, IsClosed, IsSolvableBy, LimitIs};
-ghost use Rattle.re_closure.specs.Sides.{IsMapOf, closure_steps};
+ghost use Rattle.re_closure.specs.Sides.{IsMapOf};
 ghost use Rattle.re_config.specs.Rows.{placed, set_at};
 ghost use Rattle.re_config.specs.declared.TheConstants.{MAX_ROWS};
 ghost use Rattle.re_extend.specs.Extensions.{IsSoundChain};
-ghost use Rattle.re_labels.specs.Lists.{count_from, place_of};
-ghost use Rattle.re_closure_laws.specs.Lines.{Family};
+ghost use Rattle.re_labels.specs.Lists.{place_of};
 ghost use Rattle.re_problem.specs.NamedProblems.{unnamed};
 ghost use Rattle.re_problem.specs.Zero.{zero_place};
 ghost use Rattle.re_table.specs.GoodRows.{max_rows};
-ghost use Rattle.std.specs.Prelude.{◌≡◌, ◌≤◌, ◌++◌, ℕ, Err, IfOk, None, Some, [], length, map, slice_index_or};
+ghost use Rattle.std.specs.Prelude.{◌≡◌, ◌≤◌, Err, IfOk, None, Some, [], length, slice_index_or};
 
+use crate::certificates::certificate_by;
 use crate::closure::{Closure, closure_of};
 use crate::occurring::map_of;
 use crate::stepping::step_with;
 use crate::types::{Closing, ClosureFault, ClosureLimit, StepMap};
-use re_cert::{Certificate, Kind, LowerMap, MAX_STEPS, Step, StepParts};
-use re_chain_parts::{copied_steps, over_problems};
+use re_cert::{Certificate, LowerMap, MAX_STEPS, Step, StepParts};
+use re_chain_parts::over_problems;
+use re_config::Row;
 use re_labels::{LabelSet, MAX_LABELS, NoMemory};
 use re_problem::Problem;
 use re_universal::{RowsFault, maximal_rows};
@@ -27,18 +27,7 @@ use re_zero::zero_round;
 use std::alloc::Global;
 
 /// How many steps lead to the closure and back.
-const CLOSURE_STEPS: usize = 3;
-
-// The renaming of so many labels that changes none.
-fn identity(alloc: Global, labels: u8) -> Result<Vec<(u8, u8)>, NoMemory>
-    ensures { IfOk result (λ pairs. pairs.items ≡ map (λ label. (label, label)) (count_from 0 labels)) }
-{
-    let mut pairs = Vec::new(alloc);
-    for label in 0..labels {
-        pairs.push((label, label))?;
-    }
-    Ok(pairs)
-}
+pub(crate) const CLOSURE_STEPS: usize = 3;
 
 // Whether the map of the step is by rows.
 fn is_by_row(step: &Step) -> bool
@@ -57,6 +46,18 @@ fn have_row_maps(steps: &[Step]) -> bool
     steps.iter().any(|step| is_by_row(step))
 }
 
+/// The maximal rows of the problem, which are few.
+pub(crate) fn rows_of(alloc: Global, problem: &Problem) -> Result<Vec<Row>, NoMemory>
+    requires { length (max_rows problem.now.passive (length problem.now.names)) ≤ MAX_ROWS }
+    ensures { IfOk result (λ rows. rows.items ≡ max_rows problem.now.passive (length problem.now.names)) }
+{
+    match maximal_rows(alloc, problem.passive(), problem.names().len() as u8) {
+        Ok(rows) => Ok(rows),
+        Err(RowsFault::TooManyRows) => unreachable!(),
+        Err(RowsFault::NoMemory) => Err(NoMemory),
+    }
+}
+
 // The map of the step from the problem, which has few maximal rows: each set of them is right-closed, and goes to its label.
 fn first_map(alloc: Global, problem: &Problem, sets: &[LabelSet]) -> Result<StepMap, NoMemory>
     requires sets { length sets.now ≤ MAX_LABELS }
@@ -64,36 +65,8 @@ fn first_map(alloc: Global, problem: &Problem, sets: &[LabelSet]) -> Result<Step
     ensures { IfOk result (IsMapOf problem.now.passive (length problem.now.names) (place_of sets.now)) }
 {
     let labels = problem.names().len() as u8;
-    let rows = match maximal_rows(alloc, problem.passive(), labels) {
-        Ok(rows) => rows,
-        Err(RowsFault::TooManyRows) => unreachable!(),
-        Err(RowsFault::NoMemory) => return Err(NoMemory),
-    };
+    let rows = rows_of(alloc, problem)?;
     map_of(alloc, problem.passive(), labels, sets, rows)
-}
-
-// The steps of the chain, and behind them those to the problem between, to the closure, and back to the problem between.
-fn steps_of(
-    alloc: Global,
-    chain: &Certificate,
-    first: StepMap,
-    closure: Closure,
-) -> Result<Vec<Step>, NoMemory>
-    requires first { IsMapOf (last_problem chain.now).passive (length (last_problem chain.now).names) (place_of closure.sets.items) first }
-    requires closure { IsClosureOf (unnamed (last_problem chain.now)) closure }
-    ensures { (active passive : Family) → Computes (unnamed (last_problem chain.now)) active passive closure →
-        IfOk result (λ steps. steps.items ≡ chain.now.steps ++ map (in_form_of chain.now.steps) (closure_steps (unnamed (last_problem chain.now)) active passive)) }
-{
-    let by_rows = have_row_maps(chain.steps());
-    let mut steps = copied_steps(alloc, chain.steps())?;
-    let between = closure.between.copy()?;
-    let there = step_with(alloc, between, first, by_rows)?;
-    steps.push(there)?;
-    let out = step_with(alloc, closure.closed, closure.out, by_rows)?;
-    steps.push(out)?;
-    let back = step_with(alloc, closure.between, closure.back, by_rows)?;
-    steps.push(back)?;
-    Ok(steps)
 }
 
 // The certificate that goes on from the chain by the closure of its last problem.
@@ -109,15 +82,11 @@ fn certificate_of(
     ensures { IfOk result (IsClosed chain.now) }
 {
     over_problems(chain);
-    let back = chain.steps().len() as u8 + 1;
-    let first = chain.first().copy()?;
-    let renaming = identity(alloc, closure.between.names().len() as u8)?;
+    let by_rows = have_row_maps(chain.steps());
     let map = first_map(alloc, chain.last(), closure.sets.as_slice())?;
-    let steps = steps_of(alloc, chain, map, closure)?;
-    match Certificate::build(Kind::Fixed, back, first, steps, renaming) {
-        Some(certificate) => Ok(certificate),
-        None => unreachable!(),
-    }
+    let between = closure.between.copy()?;
+    let first = step_with(alloc, between, map, by_rows)?;
+    certificate_by(alloc, by_rows, chain, first, closure)
 }
 
 // The set at this place, or the empty one where there is none.
@@ -131,8 +100,12 @@ fn set_at(sets: &[LabelSet], place: usize) -> LabelSet
     }
 }
 
-// The right-closed sets of the labels of the active configuration of the closure at this place.
-fn fit_at(alloc: Global, closure: &Closure, place: usize) -> Result<Vec<LabelSet>, NoMemory>
+/// The right-closed sets of the labels of the active configuration of the closure at this place.
+pub(crate) fn fit_at(
+    alloc: Global,
+    closure: &Closure,
+    place: usize,
+) -> Result<Vec<LabelSet>, NoMemory>
     ensures { IfOk result (λ sets. sets.items ≡ placed closure.now.sets.items (slice_index_or closure.now.closed.active.configs place [])) }
 {
     let mut sets = Vec::new(alloc);

@@ -1,26 +1,52 @@
-//! Fixed points from right-closed sets: the closure of the last problem of a chain, the certificate that it comes back, and the word
-//! `closure`.
+//! Fixed points from right-closed sets: the closure of the last problem of a chain, or of the problem that a diagram raises it to, the certificate
+//! that it comes back, and the word `closure`.
 #![tactic(auto)]
 
 mod answering;
+mod certificates;
 mod closure;
 mod constraints;
+mod diagrams;
+mod edges;
 mod finding;
 mod limit_lines;
 mod occurring;
+mod raised_output;
+mod raising;
+mod reading;
 mod rows;
 mod said_sets;
 mod sets;
 mod stepping;
 pub mod types;
 
-ghost use Rattle.re_closure.specs.Laws.{OneOutcomeLaw};
+ghost use Rattle.re_closure.specs.Diagrams.{OrderLaw, RaisedLaw};
+ghost use Rattle.re_closure.specs.Laws.{OneOutcomeLaw, OneRaisedOutcomeLaw};
+ghost use Rattle.re_closure.specs.RaisedClosures.{RaisedStepLaw};
 
 pub use answering::{ClosureWord, MAX_FURTHER, closure_help, closure_output, closure_word};
 pub use finding::find_closure;
+pub use raising::find_raised;
 pub use types::{Closing, ClosureFault, ClosureLimit};
 
 /// A chain whose last problem isn't solvable without communication decides what the word gives to it, but for the limit of rows.
 pub fn one_outcome_law()
-    ensures { OneOutcomeLaw }
+    ensures plain { OneOutcomeLaw }
+    ensures raised { OneRaisedOutcomeLaw }
+{}
+
+/// The order of a diagram is the least one that holds its edges.
+pub fn order_law()
+    ensures { OrderLaw }
+{}
+
+/// The problem that a diagram raises is a problem, and a relaxation.
+pub fn raised_law()
+    ensures { RaisedLaw }
+{}
+
+/// A lower step leads from a problem to the closure of each relaxation of it, with the sides exchanged: where each label stays, each maximal row goes
+/// to one of the relaxation that dominates it.
+pub fn raised_step_law()
+    ensures { RaisedStepLaw }
 {}

@@ -10,7 +10,7 @@ ghost use Rattle.std.specs.Prelude.{◌≡◌, IfOk, IfSome, None};
 use crate::nodes::{Graph, Return};
 use crate::walking::{Walk, Walked};
 use re_cert::{Certificate, Kind, MAX_STEPS, Step};
-use re_extend::{Extension, extended, steps_along};
+use re_extend::{Extension, extended, route_steps, takes_merges};
 use re_labels::{MAX_LABELS, NoMemory};
 use re_problem::LabelMap;
 use re_zero::zero_round;
@@ -76,7 +76,7 @@ fn along(
     ensures { IfOk result (λ found. IfSome found (GoesOn Fixed steps MAX_LABELS chain.now)) }
 {
     let (number, labels) = graph.back_of(walk);
-    let more = steps_along(alloc, chain, graph.path(walk)?)?;
+    let more = route_steps(alloc, chain, graph.route(walk)?)?;
     let extension = fixed(number, more, own_pairs(alloc, labels)?);
     extended(alloc, chain, extension, steps, MAX_LABELS)
 }
@@ -135,10 +135,38 @@ fn answer_of(
     })
 }
 
+// What is found where the chain's last problem isn't solvable without communication; one of the merges of the first step may be of labels of
+// this problem, where that is asked.
+fn walked_from(
+    alloc: Global,
+    chain: &Certificate,
+    steps: u8,
+    merges: u8,
+    nodes: u32,
+    begins: bool,
+) -> Result<Cycle, NoMemory>
+    requires { zero_place (unnamed (last_problem chain.now)) ≡ None }
+    ensures { IfOk result (Answers steps chain.now) }
+{
+    let room = MAX_STEPS.saturating_sub(chain.steps().len());
+    let depth = (room.min(MAX_STEPS) as u8).min(steps);
+    let mut walk = Walk {
+        alloc,
+        graph: Graph::of_chain(alloc, chain)?,
+        most: nodes as usize,
+        merges,
+        begins,
+        limits: 0,
+    };
+    let walked = walk.walk(depth)?;
+    answer_of(alloc, chain, steps, &walk, &walked)
+}
+
 /// Searches for a fixed point that goes on from a sound chain: with at most so many further steps, each to what at most so many merges
-/// have made of a derived problem, looking at so many problems at most. What is found is accepted by `check`, and shows that no algorithm
-/// solves the chain's first problem in any number of rounds. The answer is `Solvable` exactly where the chain's last problem is solvable
-/// without communication.
+/// have made of a derived problem, looking at so many problems at most. Where there is none, it searches once more, where one of the merges of
+/// the first step may be of labels of the chain's last problem itself; only where `takes_merges` holds of the chain. What is found is accepted by
+/// `check`, and shows that no algorithm solves the chain's first problem in any number of rounds. The answer is `Solvable` exactly where the
+/// chain's last problem is solvable without communication.
 ///
 /// The crate's page says in what order the problems are looked at, and what is kept of them.
 pub fn find_cycle(
@@ -153,15 +181,11 @@ pub fn find_cycle(
     if let Some(place) = zero_round(chain.last()) {
         return Ok(Cycle::Solvable(place));
     }
-    let room = MAX_STEPS.saturating_sub(chain.steps().len());
-    let depth = (room.min(MAX_STEPS) as u8).min(steps);
-    let mut walk = Walk {
-        alloc,
-        graph: Graph::of_chain(alloc, chain)?,
-        most: nodes as usize,
-        merges,
-        limits: 0,
-    };
-    let walked = walk.walk(depth)?;
-    answer_of(alloc, chain, steps, &walk, &walked)
+    let answer = walked_from(alloc, chain, steps, merges, nodes, false)?;
+    if let Cycle::NotFound { .. } = answer {
+        if merges > 0 && takes_merges(alloc, chain)? {
+            return walked_from(alloc, chain, steps, merges, nodes, true);
+        }
+    }
+    Ok(answer)
 }

@@ -10,6 +10,11 @@
 //! told as soon as its last step is found. Another one goes to a problem that was met again, and from there the shortest way round: these
 //! are looked for when all problems of so many steps have been looked at.
 //!
+//! Where there is none, it begins anew, with the steps that lead from the chain's last problem behind a merge of two of its labels: to what
+//! some merges have made of the derived problem of the problem that is left. That merge counts as one of the step's. These steps, which have
+//! maps by rows, are looked at behind those without such a merge, in the order of the pairs. So the first answer stands where there is one, also
+//! where another one would be shorter, and the counts of the second are those of both.
+//!
 //! It keeps each problem that it looks at, one step for each two of them, and what all merges but the last have made of one derived
 //! problem.
 #![tactic(auto)]

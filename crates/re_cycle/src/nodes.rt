@@ -1,7 +1,7 @@
 //! The graph of the problems that were looked at.
 use re_cert::Certificate;
 use re_changes::Changed;
-use re_extend::Stop;
+use re_extend::{Route, Stop};
 use re_labels::NoMemory;
 use re_problem::{LabelMap, Problem};
 use re_renaming::{Coloured, Renaming, renaming_to};
@@ -15,10 +15,21 @@ pub(crate) enum Target {
     Seen(usize),
 }
 
-// A step from a problem: where it leads, and for each label of the derived problem the label that it becomes there, if it is left.
+/// Where a problem comes from: the place of the one before the step to it, how many steps lead to it, and the labels that become one before
+/// the step, if any: the first becomes the second.
+#[derive(Clone, Copy)]
+pub(crate) struct Origin {
+    pub(crate) parent: usize,
+    pub(crate) depth: u8,
+    pub(crate) merge: Option<(u8, u8)>,
+}
+
+// A step from a problem: where it leads, the labels that become one before it, if any, and for each label of the derived problem the label
+// that it becomes there, if it is left.
 #[derive(Drop)]
 struct Edge {
     to: Target,
+    merge: Option<(u8, u8)>,
     images: Vec<Option<u8>>,
 }
 
@@ -172,12 +183,18 @@ impl Graph {
     }
 
     // A step from the problem at this place, where there is none yet to there.
-    fn link(&mut self, from: usize, to: Target, images: Vec<Option<u8>>) -> Result<(), NoMemory> {
-        if self.has_edge(from, to) {
+    fn link(
+        &mut self,
+        origin: Origin,
+        to: Target,
+        images: Vec<Option<u8>>,
+    ) -> Result<(), NoMemory> {
+        let Origin { parent, merge, .. } = origin;
+        if self.has_edge(parent, to) {
             return Ok(());
         }
-        match self.seen.as_mut_slice().get_mut(from) {
-            Some(node) => Ok(node.edges.push(Edge { to, images })?),
+        match self.seen.as_mut_slice().get_mut(parent) {
+            Some(node) => Ok(node.edges.push(Edge { to, merge, images })?),
             None => Ok(()),
         }
     }
@@ -189,14 +206,12 @@ impl Graph {
         }
     }
 
-    /// Takes what changes have made of the derived problem of the one at this place: where it is a problem that was met before, under
-    /// whatever names, the step leads there; else it is a new one. The answer is where the step leads; None where there would be more
-    /// problems than `most`.
+    /// Takes what changes have made of a derived problem: where it is a problem that was met before, under whatever names, the step leads
+    /// there; else it is a new one. The answer is where the step leads; None where there would be more problems than `most`.
     pub(crate) fn meet(
         &mut self,
         made: &Changed,
-        from: usize,
-        depth: u8,
+        origin: Origin,
         most: usize,
     ) -> Result<Option<Target>, NoMemory> {
         let coloured = Coloured::new(made.problem().copy()?);
@@ -209,21 +224,21 @@ impl Graph {
         self.given_up = given_up;
         if let Some((number, map)) = past {
             let images = renamed(self.alloc, made.images(), &map)?;
-            self.link(from, Target::Past(number), images)?;
+            self.link(origin, Target::Past(number), images)?;
             return Ok(Some(Target::Past(number)));
         }
         if let Some((place, map)) = seen {
             let images = renamed(self.alloc, made.images(), &map)?;
-            self.link(from, Target::Seen(place), images)?;
+            self.link(origin, Target::Seen(place), images)?;
             self.meet_again(place);
             return Ok(Some(Target::Seen(place)));
         }
         if self.seen.len() >= most {
             return Ok(None);
         }
-        let place = self.add(coloured, from, depth)?;
+        let place = self.add(coloured, origin.parent, origin.depth)?;
         let images = Vec::from_slice(self.alloc, made.images())?;
-        self.link(from, Target::Seen(place), images)?;
+        self.link(origin, Target::Seen(place), images)?;
         Ok(Some(Target::Seen(place)))
     }
 
@@ -301,39 +316,54 @@ impl Graph {
         }
     }
 
-    // The problem to which the step from the one at this place leads, as one on a path.
+    // The step from the problem at this place to there.
+    fn edge(&self, from: usize, to: Target) -> Option<&Edge> {
+        let node = self.seen.as_slice().get(from)?;
+        for edge in node.edges.as_slice() {
+            if edge.to == to {
+                return Some(edge);
+            }
+        }
+        None
+    }
+
+    // The labels that become one before that step, if any.
+    fn merge(&self, from: usize, to: Target) -> Option<(u8, u8)> {
+        self.edge(from, to)?.merge
+    }
+
+    // The problem to which that step leads, as one on a path.
     fn stop(&self, from: usize, to: Target) -> Result<Option<Stop>, NoMemory> {
-        let Some(node) = self.seen.as_slice().get(from) else {
+        let Some(edge) = self.edge(from, to) else {
             return Ok(None);
         };
         let Some(problem) = self.target(to) else {
             return Ok(None);
         };
-        for edge in node.edges.as_slice() {
-            if edge.to == to {
-                return Ok(Some(Stop {
-                    problem: problem.copy()?,
-                    images: Vec::from_slice(self.alloc, edge.images.as_slice())?,
-                }));
-            }
-        }
-        Ok(None)
+        Ok(Some(Stop {
+            problem: problem.copy()?,
+            images: Vec::from_slice(self.alloc, edge.images.as_slice())?,
+        }))
     }
 
-    /// The problems of the walk behind the chain's last one, as they come.
-    pub(crate) fn path(&self, found: &Return) -> Result<Vec<Stop>, NoMemory> {
-        let mut path = Vec::new(self.alloc);
+    /// The walk as a route behind the chain's last problem.
+    pub(crate) fn route(&self, found: &Return) -> Result<Route, NoMemory> {
+        let mut merge = None;
+        let mut stops = Vec::new(self.alloc);
         let places = found.places.as_slice();
         for (at, from) in places.iter().enumerate() {
             let to = match places.get(at.saturating_add(1)) {
                 Some(next) => Target::Seen(*next),
                 None => found.target,
             };
+            if at == 0 {
+                merge = self.merge(*from, to);
+            }
             if let Some(stop) = self.stop(*from, to)? {
-                path.push(stop)?;
+                stops.push(stop)?;
             }
         }
-        Ok(path)
+        Ok(Route { merge, stops })
     }
 
     /// The number, from the chain's first problem on, of the problem to which the walk comes back, and how many labels it has.

@@ -1,5 +1,5 @@
 //! The walk over the problems.
-use crate::nodes::{Graph, Return};
+use crate::nodes::{Graph, Origin, Return};
 use crate::returning::shortest_return;
 use re_changes::{Change, Changed};
 use re_labels::NoMemory;
@@ -21,22 +21,16 @@ pub(crate) enum Walked {
     Full,
 }
 
-/// A walk: the problems so far, how many of them may be, how many merges a step may have, and at how many problems the derived problem
-/// passed a limit.
+/// A walk: the problems so far, how many of them may be, how many merges a step may have, whether one of them may be of labels of the first
+/// problem, and at how many problems the derived problem passed a limit.
 #[derive(Drop)]
 pub(crate) struct Walk {
     pub(crate) alloc: Global,
     pub(crate) graph: Graph,
     pub(crate) most: usize,
     pub(crate) merges: u8,
+    pub(crate) begins: bool,
     pub(crate) limits: u32,
-}
-
-// Where a problem comes from: the place of the one before the step to it, and how many steps lead to it.
-#[derive(Clone, Copy)]
-struct Origin {
-    parent: usize,
-    depth: u8,
 }
 
 // What merges have made of a derived problem. Further merges take labels from this number on as the second one, so that no two ways of
@@ -68,9 +62,8 @@ fn merge_one(
 impl Walk {
     // Looks at a problem. The answer is None where the walk goes on.
     fn look_at(&mut self, made: &Changed, origin: Origin) -> Result<Option<Walked>, NoMemory> {
-        let Origin { parent, depth } = origin;
-        match self.graph.meet(made, parent, depth, self.most)? {
-            Some(target) => match self.graph.back_by(parent, target)? {
+        match self.graph.meet(made, origin, self.most)? {
+            Some(target) => match self.graph.back_by(origin.parent, target)? {
                 Some(found) => Ok(Some(Walked::Back(found))),
                 None => Ok(None),
             },
@@ -120,13 +113,18 @@ impl Walk {
         Ok(None)
     }
 
-    // Looks at what merges make of a derived problem.
-    fn merge_from(&mut self, made: Changed, origin: Origin) -> Result<Option<Walked>, NoMemory> {
+    // Looks at what at most so many merges make of a derived problem.
+    fn merge_from(
+        &mut self,
+        made: Changed,
+        merges: u8,
+        origin: Origin,
+    ) -> Result<Option<Walked>, NoMemory> {
         let mut level = Vec::new(self.alloc);
         level.push(Merged { made, from: 1 })?;
-        for merge in 0..self.merges {
+        for merge in 0..merges {
             let mut next = Vec::new(self.alloc);
-            let wanted = merge.saturating_add(1) < self.merges;
+            let wanted = merge.saturating_add(1) < merges;
             let walked = self.merge_all(level.as_slice(), &mut next, wanted, origin)?;
             if walked.is_some() {
                 return Ok(walked);
@@ -136,8 +134,13 @@ impl Walk {
         Ok(None)
     }
 
-    // Looks at a derived problem and at what merges make of it.
-    fn spread(&mut self, problem: Problem, origin: Origin) -> Result<Option<Walked>, NoMemory> {
+    // Looks at a derived problem and at what at most so many merges make of it.
+    fn spread(
+        &mut self,
+        problem: Problem,
+        merges: u8,
+        origin: Origin,
+    ) -> Result<Option<Walked>, NoMemory> {
         if zero_round(&problem).is_some() {
             return Ok(None);
         }
@@ -146,22 +149,20 @@ impl Walk {
         if walked.is_some() {
             return Ok(walked);
         }
-        self.merge_from(made, origin)
+        self.merge_from(made, merges, origin)
     }
 
-    // Looks at the problems one step behind the one at this place, to which so many steps lead.
-    fn expand(&mut self, place: usize, depth: u8) -> Result<Option<Walked>, NoMemory> {
-        let Some(problem) = self.graph.problem(place) else {
-            return Ok(None);
-        };
-        let origin = Origin {
-            parent: place,
-            depth: depth.saturating_add(1),
-        };
-        match step(self.alloc, problem) {
+    // The same, where it passes no limit.
+    fn spread_within(
+        &mut self,
+        derived: Result<Derived, StepFault>,
+        merges: u8,
+        origin: Origin,
+    ) -> Result<Option<Walked>, NoMemory> {
+        match derived {
             Ok(derived) => {
                 let Derived { problem, .. } = derived;
-                self.spread(problem, origin)
+                self.spread(problem, merges, origin)
             }
             Err(StepFault::Limit(_)) => {
                 self.limits = self.limits.saturating_add(1);
@@ -171,8 +172,67 @@ impl Walk {
         }
     }
 
+    // Looks at the problems one step behind what one merge makes of the first problem.
+    fn begin(&mut self, first: Problem) -> Result<Option<Walked>, NoMemory> {
+        let labels = first.names().len() as u8;
+        let first = Merged {
+            made: Changed::unchanged(first),
+            from: 1,
+        };
+        let merges = self.merges.saturating_sub(1);
+        for high in 1..labels {
+            for low in 0..high {
+                if let Some(after) = merge_one(self.alloc, &first, low, high)? {
+                    let origin = Origin {
+                        parent: 0,
+                        depth: 1,
+                        merge: Some((high, low)),
+                    };
+                    let derived = step(self.alloc, after.made.problem());
+                    let walked = self.spread_within(derived, merges, origin)?;
+                    if walked.is_some() {
+                        return Ok(walked);
+                    }
+                }
+            }
+        }
+        Ok(None)
+    }
+
+    // Looks at the problems one step behind the one at this place, to which so many steps lead.
+    fn expand(&mut self, place: usize, depth: u8) -> Result<Option<Walked>, NoMemory> {
+        let Some(problem) = self.graph.problem(place) else {
+            return Ok(None);
+        };
+        let derived = step(self.alloc, problem);
+        let origin = Origin {
+            parent: place,
+            depth: depth.saturating_add(1),
+            merge: None,
+        };
+        self.spread_within(derived, self.merges, origin)
+    }
+
+    // The same for the first problem, and where that is asked also behind what one merge makes of it.
+    fn expand_first(&mut self) -> Result<Option<Walked>, NoMemory> {
+        let walked = self.expand(0, 0)?;
+        if walked.is_some() || !self.begins {
+            return Ok(walked);
+        }
+        match self.graph.problem(0) {
+            Some(first) => {
+                let first = first.copy()?;
+                self.begin(first)
+            }
+            None => Ok(None),
+        }
+    }
+
     // Looks at the problems one step behind those to which so many steps lead at the fewest.
     fn expand_all(&mut self, depth: u8) -> Result<Option<Walked>, NoMemory> {
+        if depth == 0 {
+            return self.expand_first();
+        }
         for place in 0..self.graph.len() {
             if self.graph.depth(place) == Some(depth) {
                 let walked = self.expand(place, depth)?;

@@ -1,6 +1,6 @@
 -- What the text of an answer Done is worth, by what the command may answer.
-use Rattle.std.proofs.Common.{◌≡◌, ◌<◌, ◌≤◌, ◌+◌, ℕ, zero, suc, List, [], ◌∷◌, ◌++◌, append_assoc, length, sym, ap, ◌∙◌, subst, Option, Some, None, inl, inr, arith}
-use Rattle.std.specs.Prelude.{Contains, option_map}
+use Rattle.std.proofs.Common.{◌≡◌, ◌<◌, ◌≤◌, ◌+◌, ℕ, zero, suc, Bool, true, false, List, [], ◌∷◌, ◌++◌, append_assoc, length, refl, sym, ap, ◌∙◌, subst, Option, Some, None, inl, inr, arith}
+use Rattle.std.specs.Prelude.{Contains, if◌then◌else◌, option_map}
 use Rattle.std.proofs.lemmas.List.Elements.{Contains-append_right}
 use Rattle.re_labels.proofs.Membership.{AllByRecursion-contains, Contains-here, Contains-map}
 use Rattle.std.proofs.lemmas.Bool.{cases_lt}
@@ -11,15 +11,21 @@ use Rattle.re_problem.specs.declared.fault.InputFault.{InputFault}
 use Rattle.re_cert.specs.Bounds.{Bound, BoundStep, last_problem, next_problems}
 use Rattle.re_cert.specs.declared.certificate.Kind.{Kind}
 use Rattle.re_cert.specs.declared.certificate.Kind.TheVariants as kind
+use Rattle.re_chain_steps.specs.RowForms.{by_rows}
 use Rattle.re_chain_steps.specs.Stepped.{next_step, stepped, stepping_fault}
 use Rattle.re_chain_steps.specs.declared.stepping.ChainStepFault.{ChainStepFault}
 use Rattle.re_chain_steps.specs.declared.stepping.ChainStepFault.TheVariants as chain_step_fault
 use Rattle.re_chain_texts.proofs.WordsGiven.{fault_not_done, text_checked}
 use Rattle.re_chain_texts.specs.ChainTexts.{chain_fault, text_chain}
 use Rattle.re_chain_texts.specs.OverChains.{IsTextOf, refusal_of}
-use Rattle.re_check.specs.Verdicts.{steps_fault}
+use Rattle.re_check.specs.Verdicts.{Means, steps_fault}
 use Rattle.re_check.specs.declared.verdict.ClauseFault.{ClauseFault}
-use Rattle.re_closure.specs.ClosureWords.{IsClosureLine, MayFind as MayClose, MayFindBehind as MayCloseBehind, MayFindWithin as MayCloseWithin, MayGive as MayGiveClosure, MayGiveAt as MayCloseAt, MayGiveRead as MayCloseRead, MayGiveSound as MayCloseSound, MayGoOn, MayStep, stop_outcome}
+use Rattle.re_check.specs.declared.verdict.Verdict.TheVariants.{Accepted}
+use Rattle.re_chain.specs.Relaxing.{relaxed_limit}
+use Rattle.re_closure.specs.ClosureWords.{IsClosureLine, IsRaisedLine, MayFind as MayClose, MayFindBehind as MayCloseBehind, MayFindBy, MayFindRaisedBehind, MayFindRaisedWithin, MayFindWithin as MayCloseWithin, MayGive as MayGiveClosure, MayGiveAt as MayCloseAt, MayGiveBy as MayGiveClosureBy, MayGiveRead as MayCloseRead, MayGiveSound as MayCloseSound, MayGoOn, MayGoOnRaised, MayStep, closure_chain, stop_outcome}
+use Rattle.re_closure.specs.DiagramTexts.{diagram_edges, diagram_fault, front_chain, has_diagram}
+use Rattle.re_closure.specs.Diagrams.{raised}
+use Rattle.re_closure.specs.RaisedClosures.{raised_chain, step_to_raised}
 use Rattle.re_closure.specs.declared.answering.ClosureWord.{ClosureWord}
 use Rattle.re_extend.specs.Extensions.{GoesOn}
 use Rattle.re_frame.specs.Answers.{MayAnswer}
@@ -102,29 +108,30 @@ unfolding MayGive
 search_worth word bytes outcome may finished = read_worth (chain_fault bytes) word (word_chain word bytes) outcome may finished
 
 -- ---- the word `closure`
--- a bound that goes on from the chain with a derived step more goes on from the chain
-one_less : (most : ℕ) (chain bound : Bound) → GoesOn kind.Fixed most MAX_LABELS (stepped chain) bound → GoesOn kind.Fixed (suc most) MAX_LABELS chain bound
-one_less most chain bound on = record {
+-- a bound that goes on from the chain with a step more goes on from the chain
+one_less : (most : ℕ) (chain longer bound : Bound) (s : BoundStep) → longer.first ≡ chain.first → longer.steps ≡ chain.steps ++ s ∷ [] → GoesOn kind.Fixed most MAX_LABELS longer bound
+    → GoesOn kind.Fixed (suc most) MAX_LABELS chain bound
+one_less most chain longer bound s first steps on = record {
   fits = on.fits;
   problems = on.problems;
   of_kind = on.of_kind;
-  first = on.first;
-  more = next_step chain ∷ on.more;
+  first = on.first ∙ first;
+  more = s ∷ on.more;
   steps = all;
   few = (let few = on.few in omega (arith, few));
   small = (named.names.few, on.small);
   valid = on.valid;
-  means = on.means;
+  means = subst (λ p. Means (Accepted kind.Fixed (length bound.steps)) (unnamed p)) first on.means;
 }
   where
-    all : bound.steps ≡ chain.steps ++ next_step chain ∷ on.more
-    all = on.steps ∙ append_assoc chain.steps (next_step chain ∷ []) on.more
+    all : bound.steps ≡ chain.steps ++ s ∷ on.more
+    all = on.steps ∙ ap (λ l. l ++ on.more) steps ∙ append_assoc chain.steps (s ∷ []) on.more
 
-    stands : Contains bound.steps (next_step chain)
-    stands = subst (λ steps. Contains steps (next_step chain)) (sym all) (Contains-append_right chain.steps (next_step chain ∷ on.more) (next_step chain) (Contains-here (next_step chain) on.more))
+    stands : Contains bound.steps s
+    stands = subst (λ steps. Contains steps s) (sym all) (Contains-append_right chain.steps (s ∷ on.more) s (Contains-here s on.more))
 
-    named : IsNamedProblem (next_step chain).next
-    named = AllByRecursion-contains IsNamedProblem (next_problems bound.steps) (next_step chain).next on.problems.next (Contains-map (λ (s : BoundStep). s.next) bound.steps (next_step chain) stands)
+    named : IsNamedProblem s.next
+    named = AllByRecursion-contains IsNamedProblem (next_problems bound.steps) s.next on.problems.next (Contains-map (λ (s : BoundStep). s.next) bound.steps s stands)
 
 -- one with few more steps has no more than many
 no_more : (few most : ℕ) (chain bound : Bound) → few ≤ most → GoesOn kind.Fixed few MAX_LABELS chain bound → GoesOn kind.Fixed most MAX_LABELS chain bound
@@ -161,10 +168,10 @@ stop_undone number (chain_step_fault.Limit passed) e = cc
 stop_undone number chain_step_fault.TooManySteps e = cc
 stop_undone number chain_step_fault.NoMemory e = cc
 
-step_worth : (Next : Outcome → Type 0) (most number : ℕ) (chain : Bound) → ((o : Outcome) → Next o → o.status ≡ Done → IsFixedText most (stepped chain) o.text)
+step_worth : (Next : Outcome → Type 0) (most number : ℕ) (chain longer : Bound) (s : BoundStep) → longer.first ≡ chain.first → longer.steps ≡ chain.steps ++ s ∷ [] → ((o : Outcome) → Next o → o.status ≡ Done → IsFixedText most longer o.text)
     → (fault : Option ChainStepFault) (outcome : Outcome) → MayStep number fault Next outcome → outcome.status ≡ Done → IsFixedText (suc most) chain outcome.text
-step_worth Next most number chain next None outcome may finished = let found = next outcome may finished in (found.0, found.1, one_less most chain found.0 found.2)
-step_worth Next most number chain next (Some fault) outcome may finished = undone outcome (stop_outcome number fault) may (stop_undone number fault) finished
+step_worth Next most number chain longer s first steps next None outcome may finished = let found = next outcome may finished in (found.0, found.1, one_less most chain longer found.0 s first steps found.2)
+step_worth Next most number chain longer s first steps next (Some fault) outcome may finished = undone outcome (stop_outcome number fault) may (stop_undone number fault) finished
 
 within_worth : (more : ℕ) (chain : Bound) (outcome : Outcome) → MayCloseWithin more chain outcome → outcome.status ≡ Done → IsFixedText (more + 3) chain outcome.text
 within_worth zero chain outcome may finished =
@@ -172,29 +179,62 @@ within_worth zero chain outcome may finished =
 within_worth (suc more) chain outcome may finished =
     close_behind (MayGoOn chain (MayCloseWithin more (stepped chain))) (suc more + 3) chain (omega arith)
     (λ o on over. let same : suc (more + 3) ≡ suc more + 3 = omega arith in
-    subst (λ most. IsFixedText most chain o.text) same (step_worth (MayCloseWithin more (stepped chain)) (more + 3) (suc (length chain.steps)) chain (within_worth more (stepped chain)) (stepping_fault chain) o on.2 over))
+    subst (λ most. IsFixedText most chain o.text) same (step_worth (MayCloseWithin more (stepped chain)) (more + 3) (suc (length chain.steps)) chain (stepped chain) (next_step chain) refl refl (within_worth more (stepped chain)) (stepping_fault chain) o on.2 over))
     (zero_place (unnamed (last_problem chain))) outcome may finished
 
-close_at : (of : Kind) (more : ℕ) (chain : Bound) (outcome : Outcome) → MayCloseAt of more chain outcome → outcome.status ≡ Done → IsFixedText (more + 3) chain outcome.text
-close_at kind.Lower more chain outcome may finished = within_worth more chain outcome may finished
-close_at kind.Upper more chain outcome may finished = undone outcome _ may (λ e. cc) finished
-close_at kind.Fixed more chain outcome may finished = within_worth more chain outcome may finished
+-- with a diagram
+raised_behind : (Rest : Outcome → Type 0) (most : ℕ) (edges : List (ℕ × ℕ)) (chain : Bound) → 3 ≤ most → ((o : Outcome) → Rest o → o.status ≡ Done → IsFixedText most (by_rows chain) o.text)
+    → (place : Option ℕ) (outcome : Outcome) → MayFindRaisedBehind Rest place edges chain outcome → outcome.status ≡ Done → IsFixedText most (by_rows chain) outcome.text
+raised_behind Rest most edges chain three rest (Some place) outcome may finished = undone outcome _ may (λ e. cc) finished
+raised_behind Rest most edges chain three rest None outcome (inl found) finished = (found.0, found.2 finished, no_more 3 most (by_rows chain) found.0 three found.4.goes_on)
+raised_behind Rest most edges chain three rest None outcome (inr (inl more)) finished = rest outcome more finished
+raised_behind Rest most edges chain three rest None outcome (inr (inr line)) finished = undone outcome _ line.1 (λ e. cc) finished
 
-close_sound : (fault : Option ClauseFault) (more : ℕ) (chain : Bound) (outcome : Outcome) → MayCloseSound (option_map refusal_of fault) more chain outcome → outcome.status ≡ Done
-    → IsFixedText (more + 3) chain outcome.text
-close_sound (Some fault) more chain outcome may finished = undone outcome _ may (λ e. cc) finished
-close_sound None more chain outcome may finished = close_at chain.kind more chain outcome may finished
+raised_worth : (more : ℕ) (edges : List (ℕ × ℕ)) (chain : Bound) (outcome : Outcome) → MayFindRaisedWithin more edges chain outcome → outcome.status ≡ Done → IsFixedText (more + 3) (by_rows chain) outcome.text
+raised_worth zero edges chain outcome may finished =
+    raised_behind (IsRaisedLine edges chain) (0 + 3) edges chain (omega arith) (λ o line over. undone o _ line.1 (λ e. cc) over) (zero_place (unnamed (last_problem chain))) outcome may finished
+raised_worth (suc more) edges chain outcome may finished =
+    raised_behind (MayGoOnRaised edges chain (MayCloseWithin more (raised_chain edges chain))) (suc more + 3) edges chain (omega arith)
+    (λ o on over. let same : suc (more + 3) ≡ suc more + 3 = omega arith in
+    subst (λ most. IsFixedText most (by_rows chain) o.text) same
+    (step_worth (MayCloseWithin more (raised_chain edges chain)) (more + 3) (suc (length chain.steps)) (by_rows chain) (raised_chain edges chain) (step_to_raised edges (last_problem chain)) refl refl
+    (within_worth more (raised_chain edges chain)) (option_map chain_step_fault.Limit (relaxed_limit (last_problem chain) (raised edges (last_problem chain)))) o on.2 over))
+    (zero_place (unnamed (last_problem chain))) outcome may finished
 
-close_read : (fault : Option InputFault) (more : ℕ) (chain : Bound) (outcome : Outcome) → MayCloseRead fault more chain outcome → outcome.status ≡ Done → IsFixedText (more + 3) chain outcome.text
-close_read (Some fault) more chain outcome may finished = undone outcome (fault_outcome fault) may (fault_not_done fault) finished
-close_read None more chain outcome may finished = close_sound (steps_fault chain.first 1 chain.steps) more chain outcome may finished
+-- the chain from which goes on what is found
+abbrev chain_by : Option (List (ℕ × ℕ)) → Bound → Bound
+chain_by None chain = chain
+chain_by (Some edges) chain = by_rows chain
+
+by_worth : (diagram : Option (List (ℕ × ℕ))) (more : ℕ) (chain : Bound) (outcome : Outcome) → MayFindBy diagram more chain outcome → outcome.status ≡ Done → IsFixedText (more + 3) (chain_by diagram chain) outcome.text
+by_worth None more chain outcome may finished = within_worth more chain outcome may finished
+by_worth (Some edges) more chain outcome may finished = raised_worth more edges chain outcome may finished
+
+close_at : (of : Kind) (diagram : Option (List (ℕ × ℕ))) (more : ℕ) (chain : Bound) (outcome : Outcome) → MayCloseAt of diagram more chain outcome → outcome.status ≡ Done → IsFixedText (more + 3) (chain_by diagram chain) outcome.text
+close_at kind.Lower diagram more chain outcome may finished = by_worth diagram more chain outcome may finished
+close_at kind.Upper diagram more chain outcome may finished = undone outcome _ may (λ e. cc) finished
+close_at kind.Fixed diagram more chain outcome may finished = by_worth diagram more chain outcome may finished
+
+close_sound : (fault : Option ClauseFault) (diagram : Option (List (ℕ × ℕ))) (more : ℕ) (chain : Bound) (outcome : Outcome) → MayCloseSound (option_map refusal_of fault) diagram more chain outcome → outcome.status ≡ Done
+    → IsFixedText (more + 3) (chain_by diagram chain) outcome.text
+close_sound (Some fault) diagram more chain outcome may finished = undone outcome _ may (λ e. cc) finished
+close_sound None diagram more chain outcome may finished = close_at chain.kind diagram more chain outcome may finished
+
+close_read : (fault : Option InputFault) (diagram : Option (List (ℕ × ℕ))) (more : ℕ) (chain : Bound) (outcome : Outcome) → MayCloseRead fault diagram more chain outcome → outcome.status ≡ Done
+    → IsFixedText (more + 3) (chain_by diagram chain) outcome.text
+close_read (Some fault) diagram more chain outcome may finished = undone outcome (fault_outcome fault) may (fault_not_done fault) finished
+close_read None diagram more chain outcome may finished = close_sound (steps_fault chain.first 1 chain.steps) diagram more chain outcome may finished
 
 closure_worth : (word : ClosureWord) (bytes : List ℕ) (outcome : Outcome) → MayGiveClosure word bytes outcome → outcome.status ≡ Done
-    → IsAccepted kind.Fixed (word.steps + 3) MAX_LABELS (text_chain bytes) outcome.text
+    → IsAccepted kind.Fixed (word.steps + 3) MAX_LABELS (closure_chain bytes) outcome.text
 unfolding MayGiveClosure
 closure_worth word bytes outcome may finished =
-    let found = close_read (chain_fault bytes) word.steps (text_chain bytes) outcome may finished in
-    accepted kind.Fixed (word.steps + 3) MAX_LABELS (text_chain bytes) found.0 outcome.text found.1 found.2
+    let found : IsFixedText (word.steps + 3) (closure_chain bytes) outcome.text = go (has_diagram bytes) may in
+    accepted kind.Fixed (word.steps + 3) MAX_LABELS (closure_chain bytes) found.0 outcome.text found.1 found.2
+  where
+    go : (b : Bool) → MayGiveClosureBy b word bytes outcome → IsFixedText (word.steps + 3) (if b then by_rows (front_chain bytes) else text_chain bytes) outcome.text
+    go true given = close_read (diagram_fault bytes) (Some (diagram_edges bytes)) word.steps (front_chain bytes) outcome given finished
+    go false given = close_read (chain_fault bytes) None word.steps (text_chain bytes) outcome given finished
 
 -- ---- all commands
 pub worth_of : (command : Option Command) (bytes : List ℕ) (outcome : Outcome) → IsOutcome command bytes outcome → outcome.status ≡ Done → TextWorth command bytes outcome.text

@@ -4,10 +4,10 @@ use Rattle.re_bridge_words.specs.Answers.{WordWorth as BridgeWorth}
 use Rattle.re_cert.specs.Bounds.{Bound}
 use Rattle.re_cert.specs.declared.certificate.Kind.{Kind}
 use Rattle.re_cert.specs.declared.certificate.Kind.TheVariants.{Fixed, Lower, Upper}
-use Rattle.re_chain_texts.specs.ChainTexts.{text_chain}
 use Rattle.re_chain_texts.specs.OverChains.{IsTextOf}
 use Rattle.re_chain_words.specs.Answers.{WordWorth}
 use Rattle.re_check.specs.declared.verdict.Verdict.TheVariants.{Accepted}
+use Rattle.re_closure.specs.ClosureWords.{closure_chain}
 use Rattle.re_extend.specs.Extensions.{GoesOn}
 use Rattle.re_frame.specs.Check.{check_outcome, verdict_line}
 use Rattle.re_frame.specs.Outcomes.{done}
@@ -36,7 +36,7 @@ SearchWorth (Cycle steps merges nodes) chain text = IsAccepted Fixed steps MAX_L
 abbrev pub TextWorth : Option Command → List ℕ → List ℕ → Type 0
 TextWorth (Some (Chains word)) bytes text = WordWorth word bytes text
 TextWorth (Some (Searches word)) bytes text = SearchWorth word (word_chain word bytes) text
-TextWorth (Some (Closes word)) bytes text = IsAccepted Fixed (word.steps + 3) MAX_LABELS (text_chain bytes) text
+TextWorth (Some (Closes word)) bytes text = IsAccepted Fixed (word.steps + 3) MAX_LABELS (closure_chain bytes) text
 TextWorth (Some (Bridges word)) bytes text = BridgeWorth word bytes text
 TextWorth (Some Explains) bytes text = Unit {0}
 TextWorth (Some Describes) bytes text = Unit {0}

@@ -1,5 +1,5 @@
 -- What a certificate that is built of a chain and steps has of its parts.
-use Rattle.std.proofs.Common.{◌≡◌, ◌++◌, ◌<◌, ◌≤◌, ℕ, Bool, true, false, List, [], Option, Some, None, length, refl, sym, ap, ◌∙◌, subst, nat_le, arith}
+use Rattle.std.proofs.Common.{◌≡◌, ◌++◌, ◌≤◌, ℕ, Bool, true, false, List, [], Option, Some, None, length, refl, sym, ap, ◌∙◌, subst, nat_le, arith}
 use Rattle.std.specs.Prelude.{◌&&◌, ◌==◌, if◌then◌else◌, is_none, is_some, not}
 use Rattle.std.proofs.lemmas.List.{append-nil, append_cancel_left}
 use Rattle.re_labels.proofs.Tests.{and-true, eqb-true}
@@ -12,9 +12,8 @@ use Rattle.re_cert.specs.declared.certificate.Kind.TheVariants.{Fixed, Lower, Up
 use Rattle.re_check.specs.Verdicts.{Means, bound_fault, end_fault, fault_at, fault_or, meets_back, verdict_of, verdict_with}
 use Rattle.re_check.specs.declared.verdict.ClauseFault.{ClauseFault}
 use Rattle.re_check.specs.declared.verdict.Verdict.{Verdict}
-use Rattle.re_check.specs.declared.verdict.Verdict.TheVariants.{Accepted, Refused}
+use Rattle.re_check.specs.declared.verdict.Verdict.TheVariants.{Accepted}
 use Rattle.re_chain_parts.specs.Chains.{IsOverProblems}
-use Rattle.re_clauses.specs.declared.clause.Clause.{Clause}
 use Rattle.re_clauses.specs.declared.clause.Clause.TheVariants.{End, Back}
 use Rattle.re_problem.specs.NamedProblems.{NamedProblem, unnamed}
 use Rattle.re_problem.specs.Zero.{zero_place}
@@ -73,32 +72,10 @@ pub whole : (kind : Kind) (back : ℕ) (chain bound : Bound) (more : List BoundS
 whole kind back chain bound more renaming made = built-is (behind kind back chain more renaming) bound made
 
 -- ---- what doesn't go on from the chain
--- steps that are too many
-pub not_few : (kind : Kind) (most labels : ℕ) (chain bound : Bound) (more : List BoundStep) → bound.steps ≡ chain.steps ++ more → most < length more → GoesOn kind most labels chain bound → ⊥
-not_few kind most labels chain bound more steps many on =
-    let same : more ≡ on.more = append_cancel_left chain.steps more on.more (sym steps ∙ on.steps) in
-    let long : length more ≡ length on.more = ap length same in
-    absurd (omega (arith, on.few, many, long))
-
 -- a step to a problem of too many labels
 pub not_small : (kind : Kind) (most labels : ℕ) (chain bound : Bound) (more : List BoundStep) → bound.steps ≡ chain.steps ++ more → (AreSmall labels more → ⊥) → GoesOn kind most labels chain bound → ⊥
 not_small kind most labels chain bound more steps large on =
     large (subst (AreSmall labels) (sym (append_cancel_left chain.steps more on.more (sym steps ∙ on.steps))) on.small)
-
--- parts that make no bound
-none-built : (b : Bool) (x : Bound) → None ≡ (if b then Some x else None) → b ≡ true → ⊥
-none-built true x e is = cc
-none-built false x e is = cc
-
-pub not_built : (kind : Kind) (most labels : ℕ) (chain bound : Bound) → None ≡ built bound → GoesOn kind most labels chain bound → ⊥
-not_built kind most labels chain bound none on = none-built (is_bound bound) bound none on.fits
-
--- a bound that is refused
-pub not_accepted : (kind : Kind) (most labels : ℕ) (chain bound given : Bound) (verdict : Verdict) (step : ℕ) (clause : Clause) → built given ≡ Some bound
-    → verdict ≡ verdict_of bound → verdict ≡ Refused step clause → GoesOn kind most labels chain given → ⊥
-not_accepted kind most labels chain bound given verdict step clause made is refused on =
-    let wrong : Refused step clause ≡ Accepted kind (length given.steps) = sym refused ∙ is ∙ ap verdict_of (built-is given bound made) ∙ on.valid in
-    cc
 
 -- ---- the chain itself
 fixed-none : (kind : Kind) → kind ≡ Lower → is_fixed kind ≡ false

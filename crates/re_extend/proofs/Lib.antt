@@ -1,2 +1,3 @@
 mod Continued
 mod PathSteps
+mod RouteSteps

@@ -1,7 +1,7 @@
 -- The steps along a path, stop after stop.
 use Rattle.std.proofs.Common.{◌≡◌, Bool, true, false, None, Some, cond, List, [], ◌∷◌, ◌++◌, sym, ap, ◌∙◌, subst, append_assoc}
 use Rattle.std.specs.Prelude.{is_none}
-use Rattle.std.proofs.lemmas.List.{append-nil, map-append}
+use Rattle.std.proofs.lemmas.List.{map-append}
 use Rattle.re_problem.proofs.TextLines.{last_push}
 use Rattle.re_problem.specs.NamedProblems.{NamedProblem, unnamed}
 use Rattle.re_problem.specs.ProblemTexts.{last_or}
@@ -41,8 +41,3 @@ module _ (by_rows : Bool) (first before : NamedProblem) (steps whole : List Boun
       go true e f =
           let same : step_along by_rows before stop ≡ s = cc in
           append_assoc steps (s ∷ []) (steps_along by_rows s.next rest) ∙ subst (λ (t : BoundStep). steps ++ (t ∷ steps_along by_rows t.next rest) ≡ whole) same f
-
--- at the end of the path
-pub path_ended : (by_rows : Bool) (first : NamedProblem) (steps whole : List BoundStep) (rest : List Stop) → rest ≡ [] → steps ++ steps_along by_rows (last_or first (next_problems steps)) rest ≡ whole → steps ≡ whole
-path_ended by_rows first steps whole rest none so_far =
-    sym (append-nil steps) ∙ ap (λ r. steps ++ steps_along by_rows (last_or first (next_problems steps)) r) (sym none) ∙ so_far

@@ -10,9 +10,13 @@ use Rattle.re_step.specs.Derivations.{step_limit}
 use Rattle.re_tree.specs.Nodes.{entries_of}
 use Rattle.re_extend.specs.declared.stepping.Stop.{Stop}
 
+-- what the label at a place has become, and 0 where there is none, or it isn't left
+abbrev pub image_left : List (Option ℕ) → ℕ → ℕ
+image_left images place = unwrap_or (slice_index_or images place None) 0
+
 -- the label that a set has become, and 0 where it is none of the sets, or isn't left
 abbrev pub label_left : List (List ℕ) → List (Option ℕ) → List ℕ → ℕ
-label_left sets images set = unwrap_or (slice_index_or images (place_of sets set) None) 0
+label_left sets images set = image_left images (place_of sets set)
 
 -- the map to the labels that the sets have become: by rows, or by those sets whose labels are left
 abbrev pub map_along : Bool → List (List ℕ) → List (List (List ℕ)) → List (Option ℕ) → LowerMap

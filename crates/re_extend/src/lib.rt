@@ -2,7 +2,9 @@
 #![tactic(auto)]
 
 mod extending;
+mod routing;
 mod stepping;
 
 pub use extending::{Extension, extended, repeated};
+pub use routing::{Route, route_steps, takes_merges};
 pub use stepping::{Stop, steps_along};

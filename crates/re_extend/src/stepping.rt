@@ -1,6 +1,6 @@
 //! The step from a problem to what merges have made of its derived problem.
 ghost use Rattle.re_cert.specs.Bounds.{has_row_maps as have_row_maps, is_by_row as is_map_by_row, last_problem, map_of, next_problems};
-ghost use Rattle.re_extend.specs.Along.{label_left, map_along, step_found, steps_along};
+ghost use Rattle.re_extend.specs.Along.{image_left, label_left, map_along, step_found, steps_along};
 ghost use Rattle.re_problem.specs.ProblemTexts.{last_or};
 ghost use Rattle.re_tree.specs.Nodes.{entries_of};
 ghost use Rattle.std.specs.Prelude.{◌≡◌, ◌++◌, IfOk, OnOk, map, true};
@@ -23,8 +23,8 @@ pub struct Stop {
     pub images: Vec<Option<u8>>,
 }
 
-// Whether the step has a map by rows.
-fn is_by_row(step: &Step) -> bool
+/// Whether the step has a map by rows.
+pub(crate) fn is_by_row(step: &Step) -> bool
     ensures { result ≡ is_map_by_row step.now.map }
 {
     match &step.parts {
@@ -40,11 +40,10 @@ fn have_row_maps(steps: &[Step]) -> bool
     steps.iter().any(|step| is_by_row(step))
 }
 
-// The label that the set has become, and 0 where it is none of the sets, or is not left.
-fn label_left(sets: &[LabelSet], images: &[Option<u8>], set: LabelSet) -> u8
-    ensures { result ≡ label_left sets.now images.now set }
+/// What the label at this place has become, and 0 where there is none, or it is not left.
+pub(crate) fn image_left(images: &[Option<u8>], place: usize) -> u8
+    ensures { result ≡ image_left images.now place }
 {
-    let place = place_of(sets, set);
     if place >= images.len() {
         return 0;
     }
@@ -52,6 +51,13 @@ fn label_left(sets: &[LabelSet], images: &[Option<u8>], set: LabelSet) -> u8
         Some(image) => image,
         None => 0,
     }
+}
+
+// The label that the set has become, and 0 where it is none of the sets, or is not left.
+fn label_left(sets: &[LabelSet], images: &[Option<u8>], set: LabelSet) -> u8
+    ensures { result ≡ label_left sets.now images.now set }
+{
+    image_left(images, place_of(sets, set))
 }
 
 // The image of a row.
@@ -170,6 +176,26 @@ fn end_of<'a>(first: &'a Problem, steps: &'a [Step]) -> &'a Problem
     }
 }
 
+/// Appends the steps along a path from the problem behind the steps that are there, with their maps by rows where that is asked.
+pub(crate) fn push_along(
+    alloc: Global,
+    steps: &mut Vec<Step>,
+    first: &Problem,
+    path: Vec<Stop>,
+    by_rows: bool,
+) -> Result<(), NoMemory>
+    ensures { OnOk result (steps.new.items ≡ steps.old.items ++ steps_along by_rows (last_or first.now (next_problems steps.old.items)) path.items) }
+{
+    for stop in path {
+        let before = end_of(first, steps.as_slice());
+        let next = step_to(alloc, before, stop, by_rows)?;
+        if let Some(step) = next {
+            steps.push(step)?;
+        }
+    }
+    Ok(())
+}
+
 /// The steps along a path from the chain's last problem, each with the maximal rows of the problem before it. Their maps, to the labels
 /// that the sets have become, are by rows where those of the chain are. A stop to which no step leads, since the derived problem before it
 /// passes a limit, is passed over. It derives each problem anew. Whether the steps meet their clauses, `extended` finds out.
@@ -182,12 +208,6 @@ pub fn steps_along(
 {
     let by_rows = have_row_maps(chain.steps());
     let mut steps: Vec<Step> = Vec::new(alloc);
-    for stop in path {
-        let before = end_of(chain.last(), steps.as_slice());
-        let next = step_to(alloc, before, stop, by_rows)?;
-        if let Some(step) = next {
-            steps.push(step)?;
-        }
-    }
+    push_along(alloc, &mut steps, chain.last(), path, by_rows)?;
     Ok(steps)
 }

@@ -1,7 +1,8 @@
 //! The search from level to level.
-use crate::levels::{Built, Level, first_level, next_level, plain_stop};
+use crate::levels::{Built, Level, next_level, plain_stop};
 use crate::pool::Kept;
-use re_extend::Stop;
+use crate::starts::Start;
+use re_extend::{Route, Stop};
 use re_labels::NoMemory;
 use re_problem::Problem;
 use std::alloc::Global;
@@ -9,14 +10,14 @@ use std::alloc::Global;
 /// How many levels are built at most.
 const MAX_BUILDS: usize = 128;
 
-// A search under way: the first level, those behind it, and the longest path so far.
+// A search under way: where it begins, the levels behind, and the longest route so far.
 #[derive(Drop)]
-struct Search {
+struct Search<'a> {
     alloc: Global,
     labels: u8,
-    first: Level,
+    start: &'a Start,
     levels: Vec<Level>,
-    longest: Vec<Stop>,
+    longest: Route,
 }
 
 // The problem as one on a path.
@@ -27,18 +28,26 @@ fn stop_of(alloc: Global, kept: &Kept) -> Result<Stop, NoMemory> {
     })
 }
 
-// The path to the first problem of the last level.
-fn path_of(alloc: Global, levels: &[Level]) -> Result<Vec<Stop>, NoMemory> {
-    let mut path = Vec::new(alloc);
+// The route to the first problem of the last level.
+fn route_to(alloc: Global, start: &Start, levels: &[Level]) -> Result<Route, NoMemory> {
+    let mut stops = Vec::new(alloc);
     let mut place = 0;
     for level in levels.iter().rev() {
         if let Some(kept) = level.kept.as_slice().get(place) {
-            path.push(stop_of(alloc, kept)?)?;
+            stops.push(stop_of(alloc, kept)?)?;
             place = kept.parent;
         }
     }
-    path.reverse();
-    Ok(path)
+    stops.reverse();
+    Ok(Route {
+        merge: start.merge(place),
+        stops,
+    })
+}
+
+// The route without a merge over these stops.
+fn route_over(stops: Vec<Stop>) -> Route {
+    Route { merge: None, stops }
 }
 
 // The least number of labels of a problem on the level.
@@ -53,20 +62,20 @@ fn fewest_labels(level: &Level) -> u8 {
     fewest
 }
 
-impl Search {
+impl<'a> Search<'a> {
     // The level behind the last one, with problems of at most so many labels.
     fn build(&self, most: u8) -> Result<Built, NoMemory> {
         match self.levels.as_slice().last() {
             Some(level) => next_level(self.alloc, level, most),
-            None => next_level(self.alloc, &self.first, most),
+            None => next_level(self.alloc, &self.start.level, most),
         }
     }
 
     // Goes on to the level.
     fn enter(&mut self, level: Level) -> Result<(), NoMemory> {
         self.levels.push(level)?;
-        if self.levels.len() > self.longest.len() {
-            self.longest = path_of(self.alloc, self.levels.as_slice())?;
+        if self.levels.len() > self.longest.stops.len() {
+            self.longest = route_to(self.alloc, self.start, self.levels.as_slice())?;
         }
         Ok(())
     }
@@ -89,19 +98,14 @@ impl Search {
     }
 }
 
-// The longest path that one beam finds from the problem: at most so many levels, of problems of at most so many labels.
-fn beam_path(
-    alloc: Global,
-    problem: &Problem,
-    levels: usize,
-    labels: u8,
-) -> Result<Vec<Stop>, NoMemory> {
+// The longest route that one beam finds from the start: at most so many levels, of problems of at most so many labels.
+fn beam_route(alloc: Global, start: &Start, levels: usize, labels: u8) -> Result<Route, NoMemory> {
     let mut search = Search {
         alloc,
         labels,
-        first: first_level(alloc, problem)?,
+        start,
         levels: Vec::new(alloc),
-        longest: Vec::new(alloc),
+        longest: route_over(Vec::new(alloc)),
     };
     let mut most = labels;
     for _build in 0..MAX_BUILDS {
@@ -149,24 +153,49 @@ pub(crate) fn next_size(labels: u8) -> u8 {
     }
 }
 
-/// The longest path that is found from the problem: at most so many levels, of problems of at most so many labels.
-pub(crate) fn longest_path(
+// The longest one of the route and those that the beams find from the start: at most so many levels, of problems of at most so many labels.
+fn longest_from(
     alloc: Global,
-    problem: &Problem,
+    start: &Start,
+    route: Route,
     levels: usize,
     labels: u8,
-) -> Result<Vec<Stop>, NoMemory> {
-    let mut longest = plain_path(alloc, problem, levels, labels)?;
+) -> Result<Route, NoMemory> {
+    let mut longest = route;
     let mut size = 2;
     for _size in 0..labels {
-        if size > labels || longest.len() >= levels {
+        if size > labels || longest.stops.len() >= levels {
             break;
         }
-        let path = beam_path(alloc, problem, levels, size)?;
-        if path.len() > longest.len() {
-            longest = path;
+        let route = beam_route(alloc, start, levels, size)?;
+        if route.stops.len() > longest.stops.len() {
+            longest = route;
         }
         size = next_size(size);
     }
     Ok(longest)
+}
+
+/// The longest route that is found from the problem without a merge in it: at most so many levels, of problems of at most so many labels.
+pub(crate) fn longest_route(
+    alloc: Global,
+    problem: &Problem,
+    levels: usize,
+    labels: u8,
+) -> Result<Route, NoMemory> {
+    let start = Start::at(alloc, problem)?;
+    let plain = route_over(plain_path(alloc, problem, levels, labels)?);
+    longest_from(alloc, &start, plain, levels, labels)
+}
+
+/// The longest route that is found from the problem with a merge in it.
+pub(crate) fn longest_merged(
+    alloc: Global,
+    problem: &Problem,
+    levels: usize,
+    labels: u8,
+) -> Result<Route, NoMemory> {
+    let start = Start::of_merges(alloc, problem)?;
+    let none = route_over(Vec::new(alloc));
+    longest_from(alloc, &start, none, levels, labels)
 }

@@ -1,11 +1,15 @@
 //! The certificate of the longest path.
-ghost use Rattle.re_extend.specs.Extensions.{IsSoundChain};
+ghost use Rattle.re_cert.specs.Bounds.{last_problem};
+ghost use Rattle.re_cert.specs.declared.certificate.Kind.TheVariants.{Lower};
+ghost use Rattle.re_extend.specs.Extensions.{GoesOn, IsSoundChain};
 ghost use Rattle.re_longest.specs.Answers.{Answers};
-ghost use Rattle.std.specs.Prelude.{IfOk};
+ghost use Rattle.re_problem.specs.NamedProblems.{unnamed};
+ghost use Rattle.re_problem.specs.Zero.{zero_place};
+ghost use Rattle.std.specs.Prelude.{◌≡◌, IfOk, IfSome, None};
 
-use crate::beam::longest_path;
-use re_cert::{Certificate, Kind, MAX_STEPS, Step};
-use re_extend::{Extension, extended, repeated, steps_along};
+use crate::beam::{longest_merged, longest_route};
+use re_cert::{Certificate, Kind, MAX_STEPS};
+use re_extend::{Extension, Route, extended, repeated, route_steps, takes_merges};
 use re_labels::NoMemory;
 use re_zero::zero_round;
 use std::alloc::Global;
@@ -19,17 +23,71 @@ pub enum Longest {
     Solvable(usize),
 }
 
-// The steps that were found, at most so many.
-fn found_steps(
+// The lower bound along the route, where it goes on from the chain.
+fn along(
+    alloc: Global,
+    chain: &Certificate,
+    route: Route,
+    steps: u8,
+    labels: u8,
+) -> Result<Option<Certificate>, NoMemory>
+    ensures { IfOk result (λ found. IfSome found (GoesOn Lower steps labels chain.now)) }
+{
+    let extension = Extension {
+        kind: Kind::Lower,
+        back: 0,
+        steps: route_steps(alloc, chain, route)?,
+        renaming: Vec::new(alloc),
+    };
+    extended(alloc, chain, extension, steps, labels)
+}
+
+// How many levels there may be.
+fn levels_behind(chain: &Certificate, steps: u8) -> usize {
+    let room = MAX_STEPS.saturating_sub(chain.steps().len());
+    room.min(steps as usize)
+}
+
+// A lower bound that begins with a merge and is longer than so many steps, if one is found.
+fn longer(
+    alloc: Global,
+    chain: &Certificate,
+    least: usize,
+    steps: u8,
+    labels: u8,
+) -> Result<Option<Certificate>, NoMemory>
+    ensures { IfOk result (λ found. IfSome found (GoesOn Lower steps labels chain.now)) }
+{
+    let levels = levels_behind(chain, steps);
+    if levels <= least || !takes_merges(alloc, chain)? {
+        return Ok(None);
+    }
+    let route = longest_merged(alloc, chain.last(), levels, labels)?;
+    if route.stops.len() <= least {
+        return Ok(None);
+    }
+    along(alloc, chain, route, steps, labels)
+}
+
+// The longest lower bound that is found.
+fn searched(
     alloc: Global,
     chain: &Certificate,
     steps: u8,
     labels: u8,
-) -> Result<Vec<Step>, NoMemory> {
-    let room = MAX_STEPS.saturating_sub(chain.steps().len());
-    let levels = room.min(steps as usize);
-    let path = longest_path(alloc, chain.last(), levels, labels)?;
-    steps_along(alloc, chain, path)
+) -> Result<Certificate, NoMemory>
+    requires sound { IsSoundChain chain.now }
+    requires ends { zero_place (unnamed (last_problem chain.now)) ≡ None }
+    ensures { IfOk result (GoesOn Lower steps labels chain.now) }
+{
+    let route = longest_route(alloc, chain.last(), levels_behind(chain, steps), labels)?;
+    if let Some(certificate) = longer(alloc, chain, route.stops.len(), steps, labels)? {
+        return Ok(certificate);
+    }
+    match along(alloc, chain, route, steps, labels)? {
+        Some(certificate) => Ok(certificate),
+        None => repeated(alloc, chain, steps, labels),
+    }
 }
 
 /// The longest lower bound that the beam search finds which goes on from a sound chain: with at most so many further steps, each to a
@@ -49,14 +107,5 @@ pub fn find_longest(
     if let Some(place) = zero_round(chain.last()) {
         return Ok(Longest::Solvable(place));
     }
-    let extension = Extension {
-        kind: Kind::Lower,
-        back: 0,
-        steps: found_steps(alloc, chain, steps, labels)?,
-        renaming: Vec::new(alloc),
-    };
-    match extended(alloc, chain, extension, steps, labels)? {
-        Some(certificate) => Ok(Longest::Found(certificate)),
-        None => Ok(Longest::Found(repeated(alloc, chain, steps, labels)?)),
-    }
+    Ok(Longest::Found(searched(alloc, chain, steps, labels)?))
 }

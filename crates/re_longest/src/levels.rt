@@ -10,7 +10,7 @@ use re_zero::zero_round;
 use std::alloc::Global;
 
 /// How many candidates of a level stay.
-const WIDTH: usize = 30;
+pub(crate) const WIDTH: usize = 30;
 
 /// The beam on a level. Where it has a plain problem, this is the first one: it is reached without merges.
 #[derive(Drop)]

@@ -21,6 +21,11 @@
 //! **Where it ends.** With as many levels as are wanted, or at a level without candidates. Where a derived problem passed a limit there,
 //! the level before is built again with fewer labels, at most `MAX_BUILDS` levels in all. Its longest path is what a beam gives.
 //!
+//! **Merges to begin with.** Where that is shorter than wanted, the same beams go once more, and begin not with the chain's last problem but with
+//! what merges of two of its labels make of it, whichever two these are: without those that are solvable without communication, the `WIDTH`
+//! with the fewest active configurations. Only a longer path counts. Its first step goes to the derived problem of the merged one, by rows; so
+//! there is no such path where the chain has maps by sets.
+//!
 //! **Ties and numbers.** `WIDTH` is 30, `INNER_WIDTH` 6, `MAX_BUILDS` 128. Of candidates with as many active configurations the one
 //! that was offered first stays first. Problems are taken for equal where a number of 64 bits that is mixed of their configurations is:
 //! a rare mistake loses a candidate, and nothing else rests on it.
@@ -49,16 +54,33 @@
 //!
 //! **Which stay.** Of the candidates with the three greatest numbers of labels in turn the one with the greatest chance, the next one and
 //! so on, 20 in all. Ties and equal problems are as above.
+//!
+//! **Patterns.** Where the passive degree is 2 and the active one, d, is 3 or 5, further searches come first, one for each number of labels
+//! from twice the pairs of ports on, and the beams look for a shorter path. A pattern is a row in which one set of labels stands at all
+//! places but one. Two steps are taken at once. The labels of the first stand for 4, 8, 12 or 16 sets, each with its opposite, which is all
+//! that goes with each of its labels: those that have the most choices of two labels. The active configurations of the second are good rows:
+//! patterns in which a right-closed set stands at all places but one. Two of them go together where a passive node takes any two of their
+//! sets but the two that stand once, and each with itself where it takes two of the same. Where as many patterns go together as there are
+//! pairs of ports, two steps more are the last: a passive node has the label of the pair of its ports, and an active node takes a pattern
+//! that it has at one port alone. As each pattern is at two ports at most, and d is odd, there is one (after Naor and Stockmeyer 1995, and
+//! Mayer, Naor and Stockmeyer 1995, for weak colourings). Else those of the most choices stay, as many as have few enough labels, and two
+//! steps follow. In degree 5, where derived problems are dear, no beam has more than 8 labels if patterns of 20 labels lead to the end,
+//! however many steps and labels are wanted.
 #![tactic(auto)]
 
 mod beam;
 mod chance;
+mod closed_sets;
 mod finding;
 mod levels;
 mod losses;
 mod merges;
+mod opposites;
+mod pairing;
+mod patterns;
 mod pool;
 mod shortening;
+mod starts;
 mod thinning;
 mod upper_beam;
 mod upper_levels;

@@ -214,13 +214,23 @@ pub(crate) fn has_mark(states: &[State], mark: u64) -> bool {
     false
 }
 
+/// What the merge makes of the problem, where there are such labels and it isn't solvable without communication.
+pub(crate) fn merged(
+    alloc: Global,
+    made: &Changed,
+    low: u8,
+    high: u8,
+) -> Result<Option<State>, NoMemory> {
+    match changed(alloc, made, low, high)? {
+        Some(made) => Ok(state_of(made)),
+        None => Ok(None),
+    }
+}
+
 // What the merge makes of its problem, if that isn't solvable without communication.
 fn state_after(alloc: Global, states: &[State], merge: Merge) -> Result<Option<State>, NoMemory> {
-    let Some(state) = states.get(merge.state) else {
-        return Ok(None);
-    };
-    match changed(alloc, &state.made, merge.low, merge.high)? {
-        Some(made) => Ok(state_of(made)),
+    match states.get(merge.state) {
+        Some(state) => merged(alloc, &state.made, merge.low, merge.high),
         None => Ok(None),
     }
 }

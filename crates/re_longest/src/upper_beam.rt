@@ -1,6 +1,7 @@
 //! The search for an upper bound from level to level.
 use crate::beam::next_size;
 use crate::levels::first_level;
+use crate::pairing::{beam_labels, pattern_path};
 use crate::pool::Kept;
 use crate::upper_levels::{Count, End, Reached, Rung, level_behind};
 use crate::upper_steps::upper_step;
@@ -94,9 +95,14 @@ pub(crate) fn shortest_path(
         count: Count { nodes: 0, cut: 0 },
     };
     let mut most = levels;
+    if let Some(path) = pattern_path(alloc, problem, levels, labels)? {
+        most = path.len().saturating_sub(1);
+        climb.path = Some(path);
+    }
+    let widest = beam_labels(alloc, problem, labels)?;
     let mut size = 2;
     for _size in 0..labels {
-        if size > labels || most == 0 {
+        if size > widest || most == 0 {
             break;
         }
         let kept = first.kept.as_slice();

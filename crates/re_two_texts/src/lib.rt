@@ -5,4 +5,4 @@ mod cutting;
 mod reading;
 
 pub use cutting::{Cut, cut_at, has_line};
-pub use reading::{TwoTexts, read_bound, read_problem_at, read_two};
+pub use reading::{TwoTexts, at_line, read_bound, read_problem_at, read_two};

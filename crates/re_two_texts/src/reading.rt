@@ -34,8 +34,8 @@ pub fn read_bound(alloc: Global, text: &[u8]) -> Result<Certificate, TextFault>
     }
 }
 
-// The fault of the bound's text, where the line behind it has this number.
-fn at_line(number: u32, fault: InputFault) -> InputFault
+/// The fault of the text in front of a line of this number: where it ends too early, that line isn't expected.
+pub fn at_line(number: u32, fault: InputFault) -> InputFault
     ensures { result ≡ at_line number fault }
 {
     match fault {

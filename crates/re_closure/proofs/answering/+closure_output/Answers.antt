@@ -1,4 +1,4 @@
-use Rattle.std.proofs.Common.{◌≡◌, ◌+◌, ◌<◌, ap, arith, length, refl, rules, subst, suc, sym, Err, ◌∙◌}
+use Rattle.std.proofs.Common.{◌≡◌, ◌+◌, ap, arith, length, refl, rules, subst, suc, sym, Err, ◌∙◌}
 use Rattle.std.proofs.lemmas.Result.{IfOk-weaker}
 use Rattle.re_cert.specs.Bounds.{last_problem}
 use Rattle.re_chain_texts.proofs.WordsGiven.{both_ok}

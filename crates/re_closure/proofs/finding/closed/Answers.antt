@@ -1,8 +1,9 @@
 use Rattle.std.proofs.Common.{◌+◌, ◌≤◌, Err, length, rules, sym, ap, ◌∙◌, subst}
+use Rattle.re_cert.specs.Bounds.{last_problem}
 use Rattle.re_cert.specs.declared.certificate.TheConstants.{MAX_STEPS}
 use Rattle.re_problem.specs.NamedProblems.{NamedProblem, unnamed}
 use Rattle.re_closure.proofs.Computed.{err_is, limit_of}
-use Rattle.re_closure.proofs.Joined.{solvable_by}
+use Rattle.re_closure.proofs.Joined.{last_is, solvable_by}
 use Rattle.re_closure.specs.Closed.{IsClosureOf}
 use Rattle.re_closure.specs.Limits.{PassesLimit}
 use Rattle.re_closure.proofs.finding.closed.Goals as goal
@@ -17,4 +18,4 @@ pub returns-in_ok-fit_at-in-Some-clause-answers : goal.returns-in_ok-fit_at-in-S
 returns-in_ok-fit_at-in-Some-clause-answers c =
     let room : length c.args.chain.now.steps + 3 ≤ MAX_STEPS = search rules in
     let of = subst (λ (p : NamedProblem). IsClosureOf (unnamed p) c.in_ok-closure.closure) c.last.ensures c.in_ok-closure.ensures.closure in
-    (c.requires.not_zero, room, solvable_by c.args.chain.now c.over_problems.ensures c.in_ok-closure.closure of c.in-Some.place _ (sym c.zero_round.ensures.place ∙ c.in-Some.is) c.in_ok-fit_at-in-Some.ensures)
+    (c.requires.not_zero, room, solvable_by (last_problem c.args.chain.now) (last_is c.args.chain.now c.over_problems.ensures) c.in_ok-closure.closure of c.in-Some.place _ (sym c.zero_round.ensures.place ∙ c.in-Some.is) c.in_ok-fit_at-in-Some.ensures)

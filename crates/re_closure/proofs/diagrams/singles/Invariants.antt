@@ -1,0 +1,6 @@
+use Rattle.std.proofs.Common.{◌≡◌, ◌∷◌, [], map}
+use Rattle.re_labels.specs.Lists.{count_from}
+use Rattle.re_closure.proofs.diagrams.singles.Given as goal
+
+abbrev pub invariant-loop-label : goal.invariant-loop-label
+invariant-loop-label l = l.sets.items ≡ map (λ label. label ∷ []) (count_from 0 l.label)

@@ -43,6 +43,7 @@ END
 printf '== from\n[IO]^3\n\nI O\n== to\nA B\n\n[AB]^3\n== map\nA [I]\nB [O]\n' > "$folder/restricted.txt"
 cat problems/maximal-matching-4.txt family/first.txt > "$folder/bridge.txt"
 printf 'A B\nC D\n\nA B\nC D\n' > "$folder/twice.txt"
+printf 'A^3\nB^2 C\n\nA C\nB^2\n== diagram\nA C\n' > "$folder/diagram.txt"
 for name in sinkless.txt gallery/sinkless-orientation-3.txt; do
     { cat "$name"; printf '== given\n1^3\n2^3\n\n1 2\n'; } > "$folder/given-$(basename "$name")"
 done
@@ -135,6 +136,7 @@ colouring-refused.txt why
 independent.txt longest 2 6
 sinkless.txt cycle 3 0 100
 gallery/two-colouring-3.txt closure
+diagram.txt closure
 bridge.txt bridge
 family/itself.txt bridge
 twice.txt reduce

@@ -1,4 +1,6 @@
 // The buttons of a card, and those for the labels that are selected on it.
+import {kindsOf} from './chains.js';
+import {openDiagramDialog} from './dialogs.js';
 import {button, copy, element, hint} from './dom.js';
 import {SIDES} from './problems.js';
 import {searchActions} from './search_actions.js';
@@ -30,6 +32,10 @@ export function cardActions(bench, card, view) {
     ];
 }
 
+function closureWithDiagram(bench, card, view) {
+    openDiagramDialog(diagram => bench.searches.run(card, view, 'closure', {...bench.numbers.closure, diagram}, false));
+}
+
 function moreMenu(bench, card, view) {
     const menu = element('details.menu', {}, element('summary', {}, 'More'),
         element('div', {}, button('Copy, one configuration a line', event => copy(card.problem, event.currentTarget)),
@@ -37,6 +43,9 @@ function moreMenu(bench, card, view) {
             button('Download', () => bench.downloadProblem(card, view.fileName)),
             card.kind === 'first' &&
                 button('Name…', () => bench.nameChain(view.card), {title: 'the name of the problem, in the list, the title and the files'}),
+            bench.words.has('closure') && kindsOf(bench.cards.path(card.id)).includes('lower') &&
+                button('Closure with a diagram…', () => closureWithDiagram(bench, card, view),
+                    {title: 'a fixed point by right-closed sets, of this problem raised by a diagram'}),
             button('Note…', () => bench.note(view.card)),
             button('To the editor', () => bench.toEditor(card), {title: 'as the first problem of another chain'}),
             button('Remove the card and all behind it', () => bench.cards.remove(card.id))));

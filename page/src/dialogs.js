@@ -53,6 +53,19 @@ export function openNameDialog(name, onKeep) {
     field.select();
 }
 
+// The edges of a diagram of labels.
+export function openDiagramDialog(onKeep) {
+    const field = element('input', {type: 'text', 'aria-label': 'diagram', placeholder: 'A B, C D'});
+    const keep = event => {
+        event.preventDefault();
+        dialog.close();
+        onKeep(field.value);
+    };
+    const dialog = openDialog('Closure with a diagram',
+        element('form', {onsubmit: keep}, hint('A B, C D: around passive nodes B may stand for A, and D for C. The problem that is raised so far has the closure.'),
+            field, element('footer', {}, element('button.primary', {type: 'submit'}, 'Find'))));
+}
+
 export function openCertificateDialog(verdict, bench) {
     if (!verdict?.certificate) {
         say(verdict ? 'This chain is neither a lower nor an upper bound.' : 'There is no certificate yet.');

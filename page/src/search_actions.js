@@ -19,8 +19,8 @@ const STEPS = {
           label: 'L, the most labels of a problem'
       };
 
-// `word` is that of `explore` which has to be there, `kind` that of the chains that it goes on from, `more` the title of the button
-// that asks again and again, and `text` what may be written for this card alone.
+// `word` is that of `explore` which has to be there, `kind` that of the chains that it goes on from, and `more` the title of the button
+// that asks again and again.
 const SEARCHES = [
     {
         name: 'lower',
@@ -68,8 +68,7 @@ const SEARCHES = [
         word: 'closure',
         kind: 'lower',
         title: 'a fixed point by right-closed sets, of this problem or after up to K more steps',
-        numbers: [{name: 'k', least: 0, most: 8, start: 3, label: 'K, the most further steps'}],
-        text: {name: 'diagram', hint: 'A B, ..', label: 'a diagram, if you want one: A B, C D raises B to at least A, and D to at least C'}
+        numbers: [{name: 'k', least: 0, most: 8, start: 3, label: 'K, the most further steps'}]
     },
     {
         name: 'cover',
@@ -90,27 +89,12 @@ export function searchActions(bench, card, view) {
         'div.group.search', {role: 'group', 'aria-label': 'searches'}, offered.map(search => searchNode(bench, card, view, search)));
 }
 
-function searchNode(bench, card, view, {name, title, more, numbers, text}) {
-    const kept = bench.numbers[name], own = {}, run = goesOn => () => bench.searches.run(card, view, name, {...kept, ...own}, goesOn);
+function searchNode(bench, card, view, {name, title, more, numbers}) {
+    const kept = bench.numbers[name], run = goesOn => () => bench.searches.run(card, view, name, {...kept}, goesOn);
     const bounds = numbers.map(({label}) => label).join('; ');
     return element('span.ask', {'data-search': name, role: 'group', 'aria-label': name},
         button(name, run(false), {title: bounds ? `${title}\n${bounds}` : title}), numbers.map(number => numberInput(kept, name, number)),
-        text ? textInput(own, name, text) : null,
         more ? button('+', run(true), {class: 'more', title: more, 'aria-label': `${name}, and more until stopped`}) : null);
-}
-
-function textInput(own, search, {name, hint, label}) {
-    const input = element('input', {
-        type: 'text',
-        size: '7',
-        placeholder: hint,
-        title: label,
-        'aria-label': `${search}: ${label}`,
-        oninput: () => {
-            own[name] = input.value;
-        }
-    });
-    return input;
 }
 
 function numberInput(kept, search, {name, least = 0, most, label}) {

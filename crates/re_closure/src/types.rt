@@ -2,10 +2,9 @@
 ghost use Rattle.std.specs.Prelude.{◌≡◌};
 
 use re_cert::{Certificate, SetEntry};
-use re_closure_lines::LinesFault;
 use re_config::Row;
 use re_labels::{LabelSet, NoMemory};
-use std::alloc::{AllocError, AllocFailed};
+use std::alloc::AllocError;
 
 /// What the closure of the last problem of a chain comes to.
 #[derive(Drop)]
@@ -31,13 +30,15 @@ pub(crate) struct StepMap {
 /// What the closure of a problem has too many of, in the order in which it is told, but `Steps`, which comes first.
 #[derive(Clone, Copy, Debug, PartialEq, Eq)]
 pub enum ClosureLimit {
-    /// More than `re_config::MAX_ROWS` lines of one side, of which none dominates another, that come together on the way to the closure.
+    /// More than `re_config::MAX_ROWS` lines of one side, of which none dominates another, that come together on the way to the closure; with a
+    /// diagram also so many maximal rows of the last problem, told before all of the closure.
     Rows,
     /// More than `re_closure_lines::MAX_COMBINATIONS` combinations of lines of one side that wait, or have to be looked at, on the way.
     Combinations,
     /// More than `re_labels::MAX_LABELS` labels, and how many.
     Labels(usize),
-    /// More than `re_table::MAX_CONFIGURATIONS` configurations of one side.
+    /// More than `re_table::MAX_CONFIGURATIONS` configurations of one side; with a diagram also so many passive ones of the raised problem, told
+    /// before its rows.
     Configurations,
     /// More than `re_cert::MAX_STEPS` steps, with those of the chain.
     Steps,
@@ -69,21 +70,5 @@ impl From<AllocError> for ClosureFault {
 
     fn from(_: AllocError) -> Self {
         ClosureFault::NoMemory
-    }
-}
-
-impl<T: Drop> From<AllocFailed<T>> for ClosureFault {
-    fn from(_fault: AllocFailed<T>) -> ClosureFault {
-        ClosureFault::NoMemory
-    }
-}
-
-impl From<LinesFault> for ClosureFault {
-    fn from(fault: LinesFault) -> ClosureFault {
-        match fault {
-            LinesFault::TooManyLines => ClosureFault::Limit(ClosureLimit::Rows),
-            LinesFault::TooManyCombinations => ClosureFault::Limit(ClosureLimit::Combinations),
-            LinesFault::NoMemory => ClosureFault::NoMemory,
-        }
     }
 }

@@ -115,12 +115,18 @@ export const searchingSessions = {
         await user.says('accepted: not solvable in any number of rounds', 4 * PATIENCE);
         checks.check('behind two steps', (await user.certificate()).startsWith('== certificate 1 fixed 3\n'));
         // A problem that only a diagram settles: C at least as high as A.
+        const behind = async diagram => {
+            await page.click('.card.last .menu summary');
+            await page.click('.card.last .menu button', 'Closure with a diagram…');
+            await page.fill('dialog input', diagram);
+            await page.click('dialog button', 'Find');
+        };
         await user.openProblem('A^3\nB^2 C', 'A C\nB^2');
-        await user.search('closure', 0, 'A C');
+        await behind('A C');
         await user.says('accepted: not solvable in any number of rounds');
         await user.openProblem('A^3\nB^2 C', 'A C\nB^2');
-        await user.search('closure', 0, 'A D');
-        checks.check('a label that the problem lacks', (await user.note()).includes('closure with A D'));
+        await behind('A D');
+        checks.check('a label that the problem lacks', (await user.note()).includes('with A D'));
     },
 
     async 'longest does what a heuristic did'(user, page, checks) {

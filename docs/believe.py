@@ -69,6 +69,45 @@ GROUPS = [
         [("re_given_bounds", "unique_identifiers_law", None)],
         [],
     ),
+    (
+        "With so many identifiers",
+        "what `re_given_bounds::logarithmic_bound_law` adds: how many identifiers are enough.",
+        [("re_given_bounds", "logarithmic_bound_law", None)],
+        [],
+    ),
+    (
+        "With random strings",
+        "what `re_given_bounds::randomised_bound_law` adds: random strings, and failing rarely.",
+        [("re_given_bounds", "randomised_bound_law", None)],
+        [],
+    ),
+    (
+        "With few rounds, or few colours",
+        "what `re_ordered::gap_law`, `beyond_ports_law` and `re_few_colours::few_colours_local_law` add: "
+        "towers of twos, and colourings as input problems.",
+        [
+            ("re_ordered", "gap_law", None),
+            ("re_ordered", "beyond_ports_law", None),
+            ("re_few_colours", "few_colours_local_law", None),
+        ],
+        [],
+    ),
+    (
+        "Classes",
+        "what `re_classes::constant_law`, `nothing_between_law`, `order_log_star_law` and `apart_law`, `re_given_bounds::class_law` and `no_two_classes_law`, and "
+        "`re_local::nodes_seen_law` and `no_room_law` add: classes, and how many nodes a node sees.",
+        [
+            ("re_classes", "constant_law", None),
+            ("re_classes", "nothing_between_law", None),
+            ("re_classes", "order_log_star_law", None),
+            ("re_classes", "apart_law", None),
+            ("re_given_bounds", "class_law", None),
+            ("re_given_bounds", "no_two_classes_law", None),
+            ("re_local", "nodes_seen_law", None),
+            ("re_local", "no_room_law", None),
+        ],
+        [],
+    ),
 ]
 
 WORD = re.compile(r"[^\W\d][\w']*")

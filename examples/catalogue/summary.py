@@ -31,13 +31,14 @@ has `re check` judge what they name; `summary.py` wrote this page from the table
 
 A table holds a line for each problem: its number, its active and passive configurations, the first line of the answer (in hops, and in rounds of
 the graph where passive nodes are edges), and the words that show it. The answers are for port-numbering algorithms on trees. What a fixed point
-excludes (`fixed`, `closure`) no constant number of rounds solves with unique identifiers either, where passive nodes are edges
-(`re_given_bounds::unique_identifiers_law`). What a graph alone excludes (`cover`) may be solvable with identifiers, as a maximal independent set is.
+excludes (`fixed`, `closure`) takes at least the order of log N rounds with N unique identifiers, where passive nodes are edges
+(`re_given_bounds::logarithmic_bound_law`). What a graph alone excludes (`cover`) may be solvable with identifiers, as a maximal independent set is,
+but then takes at least log* N - 10 rounds with N of them, where passive nodes are edges (`re_ordered::graph_gap_law`).
 What is solved in k hops may use the orientation of each edge that its ports give; from unique identifiers one comes in a round.
 
 Given an input problem (`both`, an orientation by which edges lead into each active node and out of it; two `sides`; a colouring of the `edges`; a
 proper `colouring` with 4 colours), `explore rounds` and `explore given` answer, up to the hops that are enough alone, else up to 4. In degree 3
-nodes with unique identifiers find 4 colours in order log* n rounds (Linial; not proved here): what constantly many hops solve given them, that many more do.
+nodes with N unique identifiers find 4 colours in order log* N rounds (`re_few_colours::few_colours_law`): what constantly many hops solve given them, that many more do.
 """
 
 
@@ -132,9 +133,9 @@ def binary_part(tables):
     yield "that each problem of 2 labels on trees has, for deterministic algorithms with unique identifiers, one of the complexities O(1), Θ(log n)"
     yield "and Θ(n), or is unsolvable; none lies between O(1) and Θ(log n). Here each is solvable in exactly 0 or 1 hops, or in no number of rounds,"
     yield "and none is open. In all four tables the first are those where one side allows everything, or one label alone may stand everywhere: such"
-    yield "a problem is O(1) there too. The others aren't solvable in any constant number of rounds with unique identifiers either where passive"
-    yield "nodes have degree 2 and a fixed point shows it, as it does for each of them (`re_given_bounds::unique_identifiers_law`); that they need"
-    yield "Ω(log n) rounds then is that paper's theorem."
+    yield "a problem is O(1) there too. The others take at least the order of log N rounds with N unique identifiers where passive"
+    yield "nodes have degree 2 and a fixed point shows it, as it does for each of them (`re_given_bounds::logarithmic_bound_law`); that they need"
+    yield "Ω(log n) rounds on trees of n nodes is that paper's theorem."
     yield ""
     yield "| Degrees | Problems | exactly 0 | exactly 1 | in no number of rounds | open | one side whole, or one label alone |"
     yield "|---|---|---|---|---|---|---|"

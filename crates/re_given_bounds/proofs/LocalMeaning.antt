@@ -1,9 +1,8 @@
 -- What certificates say of local algorithms.
-use Rattle.std.proofs.Common.{ℕ, ◌+◌, ◌≤◌, List, [], ◌∷◌, length, arith}
-use Rattle.std.specs.List.{AllByRecursion}
-use Rattle.re_cert.specs.Bounds.{Bound, next_problems}
+use Rattle.std.proofs.Common.{ℕ, ◌+◌, ◌^◌, ◌≤◌, arith}
 use Rattle.re_cert.specs.declared.certificate.Kind.TheVariants.{Fixed, Lower, Upper}
-use Rattle.re_check.specs.Verdicts.{verdict_of}
+use Rattle.re_check.proofs.Meaning.{verdict_means}
+use Rattle.re_check.specs.Verdicts.{Means, verdict_of}
 use Rattle.re_check.specs.declared.verdict.Verdict.{Verdict}
 use Rattle.re_check.specs.declared.verdict.Verdict.TheVariants.{Accepted, Refused}
 use Rattle.re_given.proofs.IdentifierGraphs.{identifiers_unavoidable}
@@ -11,15 +10,16 @@ use Rattle.re_given.specs.Given.{SolvableGiven}
 use Rattle.re_given.specs.Identifiers.{identifiers}
 use Rattle.re_given.specs.Inputs.{IsInput}
 use Rattle.re_given_bounds.proofs.GivenMeaning.{beside}
-use Rattle.re_given_bounds.specs.GivenBounds.{HasFewLabels, MeansBeside}
+use Rattle.re_given_bounds.specs.GivenBounds.{MeansBeside}
 use Rattle.re_local.proofs.IdentifierInputs.{IsInput-identifiers, some_identifier}
 use Rattle.re_local.proofs.LocalGiven.{SolvableGiven-labelled}
 use Rattle.re_local.specs.LocalAlgorithms.{SolvableLabelled}
-use Rattle.re_given_bounds.specs.LocalBounds.{LocalBoundLaw, MeansLocal, MeansUnique, UniqueIdentifiersLaw}
-use Rattle.re_labels.proofs.Membership.{AllByRecursion-weaker}
-use Rattle.re_problem.specs.NamedProblems.{NamedProblem, unnamed}
-use Rattle.re_problem.specs.Problems.{Problem}
-use Rattle.re_separating.proofs.Separated.{IsBeyondLocal-labelled, separating}
+use Rattle.re_given_bounds.specs.LocalBounds.{LocalBoundLaw, LogarithmicBoundLaw, MeansLocal, MeansLogarithmic, MeansUnique, UniqueIdentifiersLaw}
+use Rattle.re_ordered.proofs.BeyondLocal.{IsBeyondLocal-unsolvable}
+use Rattle.re_problem.specs.NamedProblems.{unnamed}
+use Rattle.re_problem.specs.Problems.{IsProblem, Problem}
+use Rattle.re_separating.proofs.Separated.{IsBeyondPower-labelled, separating}
+use Rattle.re_separating.specs.Laws.{identifier_base}
 
 local_from : (verdict : Verdict) (problem input : Problem) (N T : ℕ) → (SolvableLabelled problem N T → SolvableGiven problem input T) → MeansBeside verdict problem input → MeansLocal verdict problem N T
 local_from (Accepted Lower steps) problem input N T given means = λ l h. means T l (given h)
@@ -36,24 +36,23 @@ local_bound bound n N T graph fits first named edge few separates =
     (beside bound input n fits first named is_input few (identifiers_unavoidable bound.first.active.degree N n graph (let least = first.problem.active.least in omega arith) separates.joins))
 
 -- ---- from some number of identifiers on
--- at least as many as each of the problems has labels
-abbrev labels_of : List NamedProblem → ℕ
-labels_of [] = 0
-labels_of (problem ∷ problems) = length problem.names + labels_of problems
-
-few_labels : (problems : List NamedProblem) → AllByRecursion (λ (problem : NamedProblem). length problem.names ≤ labels_of problems) problems
-few_labels [] = tt
-few_labels (problem ∷ problems) =
-    (omega arith, AllByRecursion-weaker (λ (other : NamedProblem). length other.names ≤ labels_of problems) (λ (other : NamedProblem). length other.names ≤ length problem.names + labels_of problems) (λ other l. omega arith) problems (few_labels problems))
-
-unique_from : (verdict : Verdict) (problem : Problem) → ((T : ℕ) → (N : ℕ) × MeansLocal verdict problem N T) → MeansUnique verdict problem
-unique_from (Accepted Lower steps) problem each = λ T l. let (N, means) = each T in IsBeyondLocal-labelled problem N T (means l)
-unique_from (Accepted Upper steps) problem each = tt
-unique_from (Accepted Fixed steps) problem each = λ T. let (N, means) = each T in IsBeyondLocal-labelled problem N T means
-unique_from (Refused step clause) problem each = tt
+unique_from : (verdict : Verdict) (problem : Problem) → IsProblem problem → Means verdict problem → MeansUnique verdict problem
+unique_from (Accepted Lower steps) problem is means = λ T l. IsBeyondLocal-unsolvable problem T is (means T l)
+unique_from (Accepted Upper steps) problem is means = tt
+unique_from (Accepted Fixed steps) problem is means = λ T. IsBeyondLocal-unsolvable problem T is (means T)
+unique_from (Refused step clause) problem is means = tt
 
 pub unique_identifiers : UniqueIdentifiersLaw
-unique_identifiers bound fits first named edge = unique_from (verdict_of bound) (unnamed bound.first) (λ T.
-    let n : ℕ = labels_of (bound.first ∷ next_problems bound.steps) in
-    let (N, graph, separates) = separating bound.first.active.degree n T (let l = first.problem.active.least in omega arith) in
-    (N, local_bound bound n N T graph fits first named edge (few_labels (bound.first ∷ next_problems bound.steps)) separates))
+unique_identifiers bound fits first named = unique_from (verdict_of bound) (unnamed bound.first) first.problem (verdict_means bound fits first named)
+
+-- ---- with so many identifiers or more
+logarithmic_from : (verdict : Verdict) (problem : Problem) (C : ℕ) → ((T : ℕ) → (N : ℕ) × (N ≤ C ^ (T + 1)) × MeansLocal verdict problem N T) → MeansLogarithmic verdict problem C
+logarithmic_from (Accepted Lower steps) problem C each = λ T l. let (N, few, means) = each T in IsBeyondPower-labelled problem C N T few (means l)
+logarithmic_from (Accepted Upper steps) problem C each = tt
+logarithmic_from (Accepted Fixed steps) problem C each = λ T. let (N, few, means) = each T in IsBeyondPower-labelled problem C N T few means
+logarithmic_from (Refused step clause) problem C each = tt
+
+pub logarithmic_bound : LogarithmicBoundLaw
+logarithmic_bound bound n fits first named edge labels = logarithmic_from (verdict_of bound) (unnamed bound.first) (identifier_base bound.first.active.degree n) (λ T.
+    let (N, graph, few, separates) = separating bound.first.active.degree n T (let l = first.problem.active.least in omega arith) in
+    (N, few, local_bound bound n N T graph fits first named edge labels separates))

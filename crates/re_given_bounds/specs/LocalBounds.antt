@@ -1,5 +1,5 @@
 -- What certificates of bounds say of local algorithms, whose nodes have unique identifiers.
-use Rattle.std.specs.Prelude.{◌≡◌, ℕ, ◌<◌, true}
+use Rattle.std.specs.Prelude.{◌≡◌, ℕ, ◌<◌, ◌≤◌, true}
 use Rattle.std.specs.List.{AllByRecursion}
 use Rattle.re_cert.specs.Bounds.{Bound, is_bound, next_problems}
 use Rattle.re_cert.specs.declared.certificate.Kind.TheVariants.{Fixed, Lower, Upper}
@@ -12,7 +12,7 @@ use Rattle.re_local.specs.LocalAlgorithms.{SolvableLabelled}
 use Rattle.re_local.specs.Separating.{Separates}
 use Rattle.re_problem.specs.NamedProblems.{IsNamedProblem, unnamed}
 use Rattle.re_problem.specs.Problems.{Problem}
-use Rattle.re_separating.specs.Laws.{IsBeyondLocal}
+use Rattle.re_separating.specs.Laws.{IsBeyondLocal, IsBeyondPower, identifier_base}
 
 -- what a verdict says of local algorithms of T rounds with N identifiers: after a lower bound of more than T steps none solves the first
 -- problem, nor after a fixed point
@@ -29,14 +29,27 @@ LocalBoundLaw = (bound : Bound) (n N T : ℕ) (graph : IdGraph) → is_bound bou
     bound.first.passive.degree ≡ 2 → HasFewLabels n bound → Separates bound.first.active.degree N n T graph → MeansLocal (verdict_of bound) (unnamed bound.first) N T
 
 -- what a verdict says of algorithms with unique identifiers: after a fixed point, for each number T of rounds there is a number of identifiers
--- from which on no local algorithm of T rounds solves the first problem; after a lower bound, for each T below its number of steps
+-- from which on no local algorithm of T rounds solves the first problem; after a lower bound, for each T up to its number of steps
 abbrev pub MeansUnique : Verdict → Problem → Type 0
-MeansUnique (Accepted Lower steps) problem = (T : ℕ) → T < steps → IsBeyondLocal problem T
+MeansUnique (Accepted Lower steps) problem = (T : ℕ) → T ≤ steps → IsBeyondLocal problem T
 MeansUnique (Accepted Upper steps) problem = Unit {0}
 MeansUnique (Accepted Fixed steps) problem = (T : ℕ) → IsBeyondLocal problem T
 MeansUnique (Refused step clause) problem = Unit {0}
 
--- so it is where passive nodes are edges
+-- so it is, with no further premise
 abbrev pub UniqueIdentifiersLaw : Type 0
 UniqueIdentifiersLaw = (bound : Bound) → is_bound bound ≡ true → IsNamedProblem bound.first → AllByRecursion IsNamedProblem (next_problems bound.steps) →
-    bound.first.passive.degree ≡ 2 → MeansUnique (verdict_of bound) (unnamed bound.first)
+    MeansUnique (verdict_of bound) (unnamed bound.first)
+
+-- what a verdict says of how many identifiers are enough for that: after a fixed point, with C ^ (T + 1) or more no local algorithm of T rounds
+-- solves the first problem, for each T; after a lower bound, for each T below its number of steps
+abbrev pub MeansLogarithmic : Verdict → Problem → ℕ → Type 0
+MeansLogarithmic (Accepted Lower steps) problem C = (T : ℕ) → T < steps → IsBeyondPower problem C T
+MeansLogarithmic (Accepted Upper steps) problem C = Unit {0}
+MeansLogarithmic (Accepted Fixed steps) problem C = (T : ℕ) → IsBeyondPower problem C T
+MeansLogarithmic (Refused step clause) problem C = Unit {0}
+
+-- so it is where passive nodes are edges and no problem of the bound has more than n labels, and C depends on the active degree and n alone
+abbrev pub LogarithmicBoundLaw : Type 0
+LogarithmicBoundLaw = (bound : Bound) (n : ℕ) → is_bound bound ≡ true → IsNamedProblem bound.first → AllByRecursion IsNamedProblem (next_problems bound.steps) →
+    bound.first.passive.degree ≡ 2 → HasFewLabels n bound → MeansLogarithmic (verdict_of bound) (unnamed bound.first) (identifier_base bound.first.active.degree n)

@@ -2,9 +2,12 @@
 //! alone, no code.
 #![tactic(auto)]
 
+ghost use Rattle.re_given_bounds.specs.ClassBounds.{AboveLogLaw, ClassLaw, NoTwoClassesLaw};
+ghost use Rattle.re_given_bounds.specs.FewColoursBounds.{UpperBoundLocalLaw};
 ghost use Rattle.re_given_bounds.specs.GivenBounds.{BesideLaw, ColouredBoundLaw, EvenBoundLaw, FixedBoundLaw, OddBoundLaw, UpperBoundLaw, ValidGivenLaw};
 ghost use Rattle.re_given_bounds.specs.OnlyUnavoidable.{OnlyUnavoidableLaw};
-ghost use Rattle.re_given_bounds.specs.LocalBounds.{LocalBoundLaw, UniqueIdentifiersLaw};
+ghost use Rattle.re_given_bounds.specs.RandomBounds.{NamedBoundLaw, RandomisedBoundLaw};
+ghost use Rattle.re_given_bounds.specs.LocalBounds.{LocalBoundLaw, LogarithmicBoundLaw, UniqueIdentifiersLaw};
 
 /// A bound that is valid given an input problem of its first problem says what bounds of its kind say, given the input problem.
 pub fn valid_given_law()
@@ -53,9 +56,52 @@ pub fn local_bound_law()
 {}
 
 /// The verdict on a certificate is right of algorithms with unique identifiers: for each number of rounds there is a number of identifiers from
-/// which on no local algorithm of so many rounds solves what is accepted as a fixed point; at a lower bound, for less rounds than it has steps.
+/// which on no local algorithm of so many rounds solves what is accepted as a fixed point; at a lower bound, for up to as many rounds as it has steps.
 pub fn unique_identifiers_law()
     ensures { UniqueIdentifiersLaw }
+{}
+
+/// Where passive nodes are edges C^(T + 1) identifiers are enough for that: T rounds are enough for what is accepted as a fixed point only where
+/// T + 1 > log_C N, with N identifiers; at a lower bound so it is for fewer rounds than it has steps. The number C, `identifier_base`, depends on
+/// the active degree and the number of labels alone.
+pub fn logarithmic_bound_law()
+    ensures { LogarithmicBoundLaw }
+{}
+
+/// The verdict on a certificate is right of randomised algorithms: after a fixed point each of them of T rounds fails at some node, for some port
+/// numbering, with a probability of at least 1 / q, where q is 2^(D^(T + 1)) or more, so that T rounds are enough for a probability of failure
+/// below 1 / q only where T + 1 > log_D (log_2 q); at a lower bound so it is for fewer rounds than it has steps. The number D depends on the
+/// active degree and the number of labels alone.
+pub fn randomised_bound_law()
+    ensures { RandomisedBoundLaw }
+{}
+
+/// So it is where nodes have N different identifiers too, if N is at least C^(T + 1).
+pub fn named_bound_law()
+    ensures { NamedBoundLaw }
+{}
+
+/// An upper bound that is valid given a proper colouring with one colour more than a node has neighbours is one for local algorithms, with order
+/// log* N rounds more, where nodes have N identifiers.
+pub fn upper_bound_local_law()
+    ensures { UpperBoundLocalLaw }
+{}
+
+/// The verdict on a certificate is right of classes: what is accepted as an upper bound takes a constant number of rounds with unique identifiers,
+/// and what is accepted as a fixed point more than any constant, and where passive nodes are edges at least the order of log N.
+pub fn class_law()
+    ensures { ClassLaw }
+{}
+
+/// Where passive nodes are edges, what is accepted as a fixed point takes at least the order of log N rounds.
+pub fn above_log_law()
+    ensures { AboveLogLaw }
+{}
+
+/// Where passive nodes are edges, what is accepted as a fixed point is solved in no number of rounds given a proper colouring with one colour more
+/// than a node has neighbours: no problem takes both the order of log N rounds at least and the order of log* N at most.
+pub fn no_two_classes_law()
+    ensures { NoTwoClassesLaw }
 {}
 
 /// An input problem helps no problem of n labels in 0 rounds exactly where it is unavoidable for lists of n labels.

@@ -41,7 +41,7 @@ rising_strictly (x ∷ y ∷ xs) h d =
     below : x ≤ y → (x ≡ y → ⊥) → x < y
     below low apart = elim (three_ways x y) [ inl l ↦ l | inr (inl e) ↦ absurd (apart e) | inr (inr l) ↦ absurd (omega (arith, l, low)) ]
 
-all_alike : (n w : ℕ) → AllByRecursion (λ y. y ≡ w) (replicate n w)
+pub all_alike : (n w : ℕ) → AllByRecursion (λ y. y ≡ w) (replicate n w)
 all_alike zero w = tt
 all_alike (suc n) w = (refl, all_alike n w)
 

@@ -25,11 +25,11 @@ not_same : (x y : ℕ) → (x ≡ y → ⊥) → not (eqb x y) ≡ true
 not_same x y apart = ap not (eqb-apart x y apart)
 
 -- lists of a labels below n
-alike_choice : (n : ℕ) (labels : List ℕ) → AllByRecursion (λ x. x < n) labels → IsChoice labels (replicate (length labels) (count_from 0 n))
+pub alike_choice : (n : ℕ) (labels : List ℕ) → AllByRecursion (λ x. x < n) labels → IsChoice labels (replicate (length labels) (count_from 0 n))
 alike_choice n [] h = tt
 alike_choice n (x ∷ labels) h = (Contains-count_from 0 n x (omega arith) (let l = h.0 in omega arith), alike_choice n labels h.1)
 
-length-alike : (n a : ℕ) → length (choices (replicate a (count_from 0 n))) ≡ n ^ a
+pub length-alike : (n a : ℕ) → length (choices (replicate a (count_from 0 n))) ≡ n ^ a
 length-alike n zero = sym (pow-zero n)
 length-alike n (suc a) =
     length-choices (count_from 0 n) (replicate a (count_from 0 n)) ∙ (ap (λ k. k * length (choices (replicate a (count_from 0 n)))) (length-count_from 0 n) ∙ (ap (λ k. n * k) (length-alike n a) ∙ sym (pow-succ' n a)))

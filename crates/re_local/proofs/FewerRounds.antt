@@ -27,7 +27,7 @@ part_append none p = p
 part_append (left_out h) p = left_out (part_append h p)
 part_append (held h) p = held (part_append h p)
 
-part_map : (f : ℕ → ℕ) {xs ys : List ℕ} → IsPart xs ys → IsPart (map f xs) (map f ys)
+pub part_map : (f : ℕ → ℕ) {xs ys : List ℕ} → IsPart xs ys → IsPart (map f xs) (map f ys)
 part_map f none = none
 part_map f (left_out h) = left_out (part_map f h)
 part_map f (held h) = held (part_map f h)
@@ -53,13 +53,13 @@ mutual
   behind_active-cut (suc t) end = none
   behind_active-cut (suc t) (more back label branch rest) = part_append (behind_passive-cut t branch) (behind_active-cut (suc t) rest)
 
-  behind_passive-cut : (t : ℕ) (x : InputView) → IsPart (behind_passive (cut t x)) (behind_passive x)
+  pub behind_passive-cut : (t : ℕ) (x : InputView) → IsPart (behind_passive (cut t x)) (behind_passive x)
   behind_passive-cut zero x = part_empty (behind_passive x)
   behind_passive-cut (suc t) leaf = none
   behind_passive-cut (suc t) end = none
   behind_passive-cut (suc t) (more back label branch rest) = held (part_append (behind_active-cut t branch) (behind_passive-cut (suc t) rest))
 
-shown-cut : (t : ℕ) (x : InputView) → IsPart (shown (cut t x)) (shown x)
+pub shown-cut : (t : ℕ) (x : InputView) → IsPart (shown (cut t x)) (shown x)
 shown-cut zero x = part_empty (shown x)
 shown-cut (suc t) leaf = none
 shown-cut (suc t) end = none

@@ -5,4 +5,7 @@ pub mod FewerRounds
 pub mod IdentifierInputs
 pub mod LocalBounds
 pub mod LocalGiven
+pub mod MoreLocal
+pub mod NoRoom
 pub mod Sinkless
+pub mod Towers

@@ -31,7 +31,7 @@ use Rattle.re_views.specs.Trees.{Child, IsView, backs, child_at, end, leaf, more
 
 -- ---- what is shown under other labels
 mutual
-  behind_active-relabelled : (image : ℕ → ℕ) (x : InputView) → behind_active (relabelled image x) ≡ map image (behind_active x)
+  pub behind_active-relabelled : (image : ℕ → ℕ) (x : InputView) → behind_active (relabelled image x) ≡ map image (behind_active x)
   behind_active-relabelled image leaf = refl
   behind_active-relabelled image end = refl
   behind_active-relabelled image (more back label branch rest) =
@@ -39,7 +39,7 @@ mutual
       let there : behind_active (relabelled image rest) ≡ map image (behind_active rest) = behind_active-relabelled image rest in
       rw (map-append image (behind_passive branch) (behind_active rest), here, there) refl
 
-  behind_passive-relabelled : (image : ℕ → ℕ) (x : InputView) → behind_passive (relabelled image x) ≡ map image (behind_passive x)
+  pub behind_passive-relabelled : (image : ℕ → ℕ) (x : InputView) → behind_passive (relabelled image x) ≡ map image (behind_passive x)
   behind_passive-relabelled image leaf = refl
   behind_passive-relabelled image end = refl
   behind_passive-relabelled image (more back label branch rest) =
@@ -47,21 +47,36 @@ mutual
       let there : behind_passive (relabelled image rest) ≡ map image (behind_passive rest) = behind_passive-relabelled image rest in
       rw (map-append image (behind_active branch) (behind_passive rest), here, there) refl
 
-shown-relabelled : (image : ℕ → ℕ) (x : InputView) → shown (relabelled image x) ≡ map image (shown x)
+pub shown-relabelled : (image : ℕ → ℕ) (x : InputView) → shown (relabelled image x) ≡ map image (shown x)
 shown-relabelled image leaf = refl
 shown-relabelled image end = refl
 shown-relabelled image (more back label branch rest) = ap (◌∷◌ (image label)) (behind_active-relabelled image (more back label branch rest))
 
 -- ---- under other labels
 -- the images of labels that may stand around a node may stand around it by the second constraint
-abbrev TakesTo : (ℕ → ℕ) → Constraint → Constraint → Type 0
+abbrev pub TakesTo : (ℕ → ℕ) → Constraint → Constraint → Type 0
 TakesTo image own next = (labels : List ℕ) → Has own labels → Has next (map image labels)
 
-FitsAround-taken : (image : ℕ → ℕ) (own other own' other' : Constraint) → TakesTo image own own' → TakesTo image other other' → (seen : List ℕ) (x : InputView) → FitsAround own other seen x → FitsAround own' other' (map image seen) (relabelled image x)
+pub FitsAround-taken : (image : ℕ → ℕ) (own other own' other' : Constraint) → TakesTo image own own' → TakesTo image other other' → (seen : List ℕ) (x : InputView) → FitsAround own other seen x → FitsAround own' other' (map image seen) (relabelled image x)
 FitsAround-taken image own other own' other' takes takes' seen leaf h = tt
 FitsAround-taken image own other own' other' takes takes' seen end h = takes seen h
 FitsAround-taken image own other own' other' takes takes' seen (more back label branch rest) h =
     (FitsAround-taken image other own other' own' takes' takes (label ∷ []) branch h.0, FitsAround-taken image own other own' other' takes takes' (label ∷ seen) rest h.1)
+
+-- what stands around a node, where an algorithm answers by other labels
+pub around_known-relabelled : (image : ℕ → ℕ) (f : InputView → List ℕ) (T d e : ℕ) (v : InputView) → IsView d e (suc (suc T)) v
+    → around_known d T (λ k. f (relabelled image k)) v ≡ around_known d T f (relabelled image v)
+around_known-relabelled image f T d e v is =
+    map-count (λ port. at_port (f (relabelled image (known T (shift (suc T) v port)))) (at_port (backs v) port))
+    (λ port. at_port (f (known T (shift (suc T) (relabelled image v) port))) (at_port (backs (relabelled image v)) port)) 1 d
+    (λ k l. rw one-add (each k l (child_of d e (suc T) d v is k l)))
+  where
+    each : (k : ℕ) → k < d → (c : Child ℕ) × (child_at k v ≡ Some c) × IsChild e d (suc T) c
+        → at_port (f (relabelled image (known T (shift (suc T) v (suc k))))) (at_port (backs v) (suc k)) ≡ at_port (f (known T (shift (suc T) (relabelled image v) (suc k)))) (at_port (backs (relabelled image v)) (suc k))
+    each k l (c, at, child) =
+        let seen : relabelled image (known T (shift (suc T) v (suc k))) ≡ known T (shift (suc T) (relabelled image v) (suc k)) =
+        relabelled-known image T (shift (suc T) v (suc k)) ∙ ap (known T) (relabelled-shift image (suc T) v (suc k) c at) in
+        rw (seen, backs-relabelled image v) refl
 
 module _ (problem input next : Problem) (image id : ℕ → ℕ) (T : ℕ) (f : InputView → List ℕ) (active_to : TakesTo image input.active next.active) (passive_to : TakesTo image input.passive next.passive) (solves : SolvesApart problem next id T f) where
   pub SolvesApart-taken : SolvesApart problem input (λ label. id (image label)) T (λ k. f (relabelled image k))
@@ -71,21 +86,10 @@ module _ (problem input next : Problem) (image id : ℕ → ℕ) (T : ℕ) (f : 
         (FitsAround-taken image input.active input.passive next.active next.passive active_to passive_to [] v fits)
         (subst AreDifferent (sym (ap (map id) (shown-relabelled image v) ∙ map-map id image (shown v))) apart));
     passive = λ v is fits apart.
-        rw (around_is v is) (solves.passive (relabelled image v) (IsTree-relabelled image problem.passive.degree problem.active.degree (suc (suc T)) problem.passive.degree v is)
+        rw (around_known-relabelled image f T problem.passive.degree problem.active.degree v is) (solves.passive (relabelled image v) (IsTree-relabelled image problem.passive.degree problem.active.degree (suc (suc T)) problem.passive.degree v is)
         (FitsAround-taken image input.passive input.active next.passive next.active passive_to active_to [] v fits)
         (subst AreDifferent (sym (ap (map id) (behind_passive-relabelled image v) ∙ map-map id image (behind_passive v))) apart));
   }
-    where
-      around_is : (v : InputView) → IsView problem.passive.degree problem.active.degree (suc (suc T)) v → around_known problem.passive.degree T (λ k. f (relabelled image k)) v ≡ around_known problem.passive.degree T f (relabelled image v)
-      around_is v is = map-count (λ port. at_port (f (relabelled image (known T (shift (suc T) v port)))) (at_port (backs v) port)) (λ port. at_port (f (known T (shift (suc T) (relabelled image v) port))) (at_port (backs (relabelled image v)) port)) 1 problem.passive.degree
-          (λ k l. rw one-add (each k l (child_of problem.passive.degree problem.active.degree (suc T) problem.passive.degree v is k l)))
-        where
-          each : (k : ℕ) → k < problem.passive.degree → (c : Child ℕ) × (child_at k v ≡ Some c) × IsChild problem.active.degree problem.passive.degree (suc T) c
-              → at_port (f (relabelled image (known T (shift (suc T) v (suc k))))) (at_port (backs v) (suc k)) ≡ at_port (f (known T (shift (suc T) (relabelled image v) (suc k)))) (at_port (backs (relabelled image v)) (suc k))
-          each k l (c, at, child) =
-              let seen : relabelled image (known T (shift (suc T) v (suc k))) ≡ known T (shift (suc T) (relabelled image v) (suc k)) =
-              relabelled-known image T (shift (suc T) v (suc k)) ∙ ap (known T) (relabelled-shift image (suc T) v (suc k) c at) in
-              rw (seen, backs-relabelled image v) refl
 
 -- ---- from labels to identifiers
 alike_labels : (a x i n : ℕ) → i + n ≤ a → map (λ label. label / a) (count_from (x * a + i) n) ≡ replicate n x

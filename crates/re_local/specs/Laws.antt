@@ -21,6 +21,10 @@ abbrev pub ColouredLocalLaw : Type 0
 ColouredLocalLaw = (problem : Problem) (N T : ℕ) → IsProblem problem →
     SolvableGiven problem (colouring problem.active.degree problem.passive.degree N) T → SolvableLocal problem N T
 
+-- more rounds make it no harder
+abbrev pub MoreRoundsLocalLaw : Type 0
+MoreRoundsLocalLaw = (problem : Problem) (N T : ℕ) → SolvableLocal problem N T → SolvableLocal problem N (T + 1)
+
 -- more identifiers make it no easier
 abbrev pub FewerIdentifiersLaw : Type 0
 FewerIdentifiersLaw = (problem : Problem) (N more T : ℕ) → N ≤ more → SolvableLocal problem more T → SolvableLocal problem N T

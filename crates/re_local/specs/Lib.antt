@@ -2,3 +2,5 @@ pub mod Examples
 pub mod Laws
 pub mod LocalAlgorithms
 pub mod Separating
+pub mod Shown
+pub mod Towers

@@ -2,7 +2,8 @@
 #![tactic(auto)]
 
 ghost use Rattle.re_local.specs.Examples.{SinklessLocalLaw};
-ghost use Rattle.re_local.specs.Laws.{ColouredLocalLaw, CompleteLaw, CompleteLimitLaw, FewerIdentifiersLaw, FewerRoundsLaw, FixedPointLocalLaw, IdentifiersInputLaw, LabelledLaw, LocalGivenLaw, ShorterBoundLocalLaw};
+ghost use Rattle.re_local.specs.Laws.{ColouredLocalLaw, CompleteLaw, CompleteLimitLaw, FewerIdentifiersLaw, FewerRoundsLaw, FixedPointLocalLaw, IdentifiersInputLaw, LabelledLaw, LocalGivenLaw, MoreRoundsLocalLaw, ShorterBoundLocalLaw};
+ghost use Rattle.re_local.specs.Shown.{LinearRoomLaw, LogarithmicRoomLaw, NoRoomLaw, NodesSeenLaw};
 
 /// What a local algorithm solves is solved where the labels of identifiers are known too.
 pub fn labelled_law()
@@ -58,4 +59,30 @@ pub fn complete_limit_law()
 /// `I O`); none of 0 rounds does with more than 8 identifiers.
 pub fn sinkless_local_law()
     ensures { SinklessLocalLaw }
+{}
+
+/// More rounds do no harm.
+pub fn more_rounds_local_law()
+    ensures { MoreRoundsLocalLaw }
+{}
+
+/// The view of an active node after T rounds shows `nodes_seen` active nodes.
+pub fn nodes_seen_law()
+    ensures { NodesSeenLaw }
+{}
+
+/// Where a node sees more nodes in T rounds, `nodes_seen`, than there are identifiers, no view has them all different: nothing is asked of an
+/// algorithm, and every problem counts as solved in T rounds. So the model tells the rounds that a problem takes only up to there.
+pub fn no_room_law()
+    ensures { NoRoomLaw }
+{}
+
+/// So it is from about 2 log N / log q rounds on, where q = (a - 1) (p - 1).
+pub fn logarithmic_room_law()
+    ensures { LogarithmicRoomLaw }
+{}
+
+/// And from N rounds on, also where q = 1.
+pub fn linear_room_law()
+    ensures { LinearRoomLaw }
 {}

@@ -1,9 +1,12 @@
-mod Amalgam
 mod Apart
-mod Ascending
+mod Balls
+mod Choosing
+pub mod Counting
+mod Extended
 mod Matched
 mod Pruned
 pub mod Separated
+mod Sets
 pub mod Sparse
 mod Stages
 pub mod Walks

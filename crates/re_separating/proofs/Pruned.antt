@@ -1,5 +1,5 @@
 -- Identifiers that lack an edge at a port are left out, one after another. Those that stay have an edge at each port.
-use Rattle.std.proofs.Common.{◌≡◌, ℕ, zero, suc, ◌+◌, ◌<◌, Bool, true, false, cond, eqb, ◌||◌, inl, inr, refl, sym, ◌∙◌, ap, subst, arith, eq-or-lt_of_le}
+use Rattle.std.proofs.Common.{◌≡◌, ℕ, zero, suc, ◌+◌, ◌≤◌, ◌<◌, Bool, true, false, cond, eqb, ◌||◌, inl, inr, refl, sym, ◌∙◌, ap, subst, arith, eq-or-lt_of_le}
 use Rattle.std.specs.Prelude.{◌⊎◌}
 use Rattle.std.proofs.lemmas.Bool.Decides.{eqb_tells}
 use Rattle.re_given.specs.Identifiers.{IdGraph}
@@ -33,6 +33,7 @@ renamed name graph x i y j = graph (name x) i (name y) j
 
 pub record Pruned (a N : ℕ) (graph : IdGraph) (m : ℕ) : Type 0 where
   pub count : ℕ
+  pub up_to : count ≤ N
   pub name : ℕ → ℕ
   pub edges : (x i : ℕ) → x < count → i < a → HasEdge a count (renamed name graph) x i
   pub joins : JoinsWithin a count (renamed name graph) m
@@ -147,7 +148,7 @@ module _ (a M m x i : ℕ) (graph : IdGraph) (x_below : x < suc M) (i_below : i 
 
 -- ---- one after another
 pub pruned : (a N m : ℕ) (graph : IdGraph) → JoinsWithin a N graph m → Pruned a N graph m
-pruned a zero m graph joins = record { count = 0; name = λ x. x; edges = λ x i l il. absurd (omega arith); joins = joins }
+pruned a zero m graph joins = record { count = 0; up_to = omega arith; name = λ x. x; edges = λ x i l il. absurd (omega arith); joins = joins }
 pruned a (suc M) m graph joins = elim (all_or_lacks a (suc M) graph) [
   | inl f ↦
       (let x : ℕ = f.0 in
@@ -155,9 +156,10 @@ pruned a (suc M) m graph joins = elim (all_or_lacks a (suc M) graph) [
       pruned a M m (renamed (old a M m x f.2 graph f.1 f.3 f.4) graph) (joins_less a M m x f.2 graph f.1 f.3 f.4 joins) in
       record {
         count = before.count;
+        up_to = (let l = before.up_to in omega (arith, l));
         name = λ y. old a M m x f.2 graph f.1 f.3 f.4 (before.name y);
         edges = before.edges;
         joins = before.joins;
       })
-  | inr all ↦ record { count = suc M; name = λ x. x; edges = all; joins = joins }
+  | inr all ↦ record { count = suc M; up_to = omega arith; name = λ x. x; edges = all; joins = joins }
 ]

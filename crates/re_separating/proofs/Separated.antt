@@ -1,22 +1,36 @@
--- For any number of rounds some graph of identifiers separates.
-use Rattle.std.proofs.Common.{ℕ, suc, ◌+◌, ◌*◌, ◌^◌, arith}
+-- For any number of rounds some graph of identifiers separates, which is not large.
+use Rattle.std.proofs.Common.{ℕ, suc, ◌+◌, ◌*◌, ◌^◌, ◌≤◌, subst, arith}
+use Rattle.std.proofs.Math.Nat.{one-le-pow, pow-le-pow_right}
 use Rattle.re_local.proofs.LocalGiven.{SolvableLabelled-local, SolvableLocal-fewer}
 use Rattle.re_local.proofs.Sinkless.{sinkless_local}
 use Rattle.re_local.specs.LocalAlgorithms.{SolvableLabelled}
 use Rattle.re_problem.specs.Examples.{relaxed_sinkless}
 use Rattle.re_problem.specs.Problems.{Problem}
+use Rattle.re_local.proofs.Towers.{power_of}
 use Rattle.re_separating.proofs.Apart.{AreApart-matched}
 use Rattle.re_separating.proofs.Matched.{JoinsAlike-within, matched, matched_joins, places}
 use Rattle.re_separating.proofs.Pruned.{Pruned, pruned, renamed}
-use Rattle.re_separating.specs.Laws.{IsBeyondLocal, SeparatingLaw, SinklessUniqueLaw}
+use Rattle.re_separating.specs.Hypergraphs.{base}
+use Rattle.re_separating.specs.Laws.{IsBeyondPower, SeparatingLaw, SinklessUniqueLaw}
 use Rattle.re_separating.proofs.Sparse.{sparse_hyper}
+
+-- the powers for the length of closed walks that so many rounds ask for
+few_enough : (b T : ℕ) → 1 ≤ b → b ^ (2 * suc (suc T) + 1) ≤ (b ^ 5) ^ (T + 1)
+few_enough b T some =
+    let longer : b ^ (2 * suc (suc T) + 1) ≤ b ^ (5 * (T + 1)) = pow-le-pow_right some (omega arith) in
+    subst (λ z. b ^ (2 * suc (suc T) + 1) ≤ z) (power_of b 5 (T + 1)) longer
+
+pub some_base : (r m : ℕ) → 1 ≤ base r m
+some_base r m = one-le-pow (r + 3) (3 * (r + 1) * (m + 1)) (omega arith)
 
 pub separating : SeparatingLaw
 separating a n T some =
-    let (points, hyper, is_hyper, sparse, uncolourable) = sparse_hyper (places a) (n ^ a + a) (2 * suc (suc T)) in
-    let part : Pruned a points (matched a hyper) (n ^ a) = pruned a points (n ^ a) (matched a hyper) (matched_joins a points (n ^ a) hyper some is_hyper uncolourable) in (
+    let (points, hyper, few, is_hyper, sparse, uncolourable) = sparse_hyper (places a) (n ^ a + a) (2 * suc (suc T)) in
+    let part : Pruned a points (matched a hyper) (n ^ a) = pruned a points (n ^ a) (matched a hyper) (matched_joins a points (n ^ a) hyper some is_hyper uncolourable) in
+    let enough = few_enough (base (places a) (n ^ a + a)) T (some_base (places a) (n ^ a + a)) in (
       part.count,
       renamed part.name (matched a hyper),
+      (let less = part.up_to in omega (arith, less, few, enough)),
       record {
         edges = part.edges;
         joins = JoinsAlike-within a part.count n (renamed part.name (matched a hyper)) some part.joins;
@@ -25,10 +39,10 @@ separating a n T some =
     )
 
 -- what some number of identifiers excludes, more do
-pub IsBeyondLocal-labelled : (problem : Problem) (N T : ℕ) → (SolvableLabelled problem N T → ⊥) → IsBeyondLocal problem T
-IsBeyondLocal-labelled problem N T never = (N, λ more l solves. never (SolvableLabelled-local problem N T (SolvableLocal-fewer problem N more T l solves)))
+pub IsBeyondPower-labelled : (problem : Problem) (C N T : ℕ) → N ≤ C ^ (T + 1) → (SolvableLabelled problem N T → ⊥) → IsBeyondPower problem C T
+IsBeyondPower-labelled problem C N T few never more l solves = never (SolvableLabelled-local problem N T (SolvableLocal-fewer problem N more T (omega (arith, few, l)) solves))
 
 pub sinkless_unique : SinklessUniqueLaw
-sinkless_unique T =
-    let (N, graph, separates) = separating 3 2 T (omega arith) in
-    (N, λ more l solves. sinkless_local N T graph separates (SolvableLocal-fewer relaxed_sinkless N more T l solves))
+sinkless_unique T more l solves =
+    let (N, graph, few, separates) = separating 3 2 T (omega arith) in
+    sinkless_local N T graph separates (SolvableLocal-fewer relaxed_sinkless N more T (omega (arith, few, l)) solves)

@@ -1,123 +1,132 @@
--- Systems of n parts without short closed walks, part after part amalgamated along hypergraphs that m colours don't colour properly.
-use Rattle.std.proofs.Common.{◌≡◌, ℕ, zero, suc, ◌+◌, ◌*◌, ◌/◌, ◌%◌, ◌≤◌, ◌<◌, cond, eqb, inl, inr, refl, sym, ◌∙◌, ap, subst, arith, mul_comm, eq-or-lt_of_le}
-use Rattle.std.proofs.lemmas.Bool.Decides.{eqb_tells}
-use Rattle.std.proofs.lemmas.Nat.{div-mul-add, div_below, mod-mul-add, mod_below, mul-add-lt}
-use Rattle.re_separating.proofs.Amalgam.{IsPartite, Point, amalgam, amalgam_sparse, copied, positive}
-use Rattle.re_separating.proofs.Ascending.{IsUncoloured}
-use Rattle.re_separating.proofs.Walks.{walk_first}
+-- Edges are chosen one after another. Each lies in many of the large sets of points that hold no edge yet, so few of them are left.
+use Rattle.std.proofs.Common.{◌≡◌, ℕ, suc, ◌+◌, ◌*◌, ◌^◌, ◌≤◌, ◌<◌, Bool, true, false, cond, eqb, leb, ◌&&◌, not, inl, inr, refl, sym, ◌∙◌, ap, subst, arith}
+use Rattle.std.proofs.Math.Nat.{mul-le-mul_right, mul_comm, pow-succ', pow-zero}
+use Rattle.std.proofs.lemmas.Bool.{and_cases, and_parts, cases_order, eqb-true, false≢true, leb-false, not-false}
+use Rattle.std.proofs.lemmas.Bool.Decides.{leb_tells}
+use Rattle.re_separating.proofs.Balls.{Near, ball, ball_holds, ball_small, edges_at, near_turned, stands, stay}
+use Rattle.re_separating.proofs.Choosing.{Chosen, choose, holding_all, holds, spread_below, spread_far, spread_free}
+use Rattle.re_separating.proofs.Counting.{any_found, count, count-split, count_below}
+use Rattle.re_separating.proofs.Extended.{IsHyper-extended, extended, extended_sparse}
+use Rattle.re_separating.proofs.Sets.{set}
 use Rattle.re_separating.specs.Hypergraphs.{Hyper, IsHyper, IsSparse, Walk, one, step}
 
--- ---- disjoint edges over those of a hypergraph, whose points are the parts
-abbrev pub spread : Hyper ℕ → Hyper Point
-spread hyper = record { edges = hyper.edges; at = λ e p. (hyper.at e p, e) }
+-- D edges or more meet in the point
+abbrev pub full : ℕ → ℕ → Hyper ℕ → ℕ → Bool
+full r D hyper x = leb D (edges_at r hyper x)
 
-IsPartite-spread : (r n : ℕ) (hyper : Hyper ℕ) → IsHyper r n hyper → IsPartite r n hyper.edges (spread hyper)
-IsPartite-spread r n hyper is = record { part_below = is.below; below = λ e p el pl. el; parts = is.apart }
-
-spread_sparse : (r g : ℕ) (hyper : Hyper ℕ) → IsSparse r g (spread hyper)
-spread_sparse r g hyper k e f x walk = absurd (never walk refl)
+-- what is left of the sets when an edge takes the (c + 1)-th part
+less_left : (sets c before after within t : ℕ) → before ≡ after + within → before ≤ c * within → before * suc c ^ t ≤ sets * c ^ t
+    → after * suc c ^ suc t ≤ sets * c ^ suc t
+less_left sets c before after within t split many left =
+    let product : before * c ≡ after * c + within * c = ap (λ z. z * c) split ∙ omega arith in
+    let turned : c * within ≡ within * c = mul_comm c within in
+    let part : after * suc c ≤ before * c = omega (arith, split, many, product, turned) in
+    rw (pow-succ' (suc c) t, pow-succ' c t) (of_powers (suc c ^ t) (c ^ t) (mul-le-mul_right (suc c ^ t) part) (mul-le-mul_right c left))
   where
-    never : {k e f : ℕ} {x y : Point} → Walk r (spread hyper) k e f x y → x ≡ y → ⊥
-    never (one on off apart) same = apart same
-    never (step on off apart other walk) same = other (ap (λ z. z.1) off.3 ∙ ap (λ z. z.1) (sym (walk_first walk).3))
+    of_powers : (x y : ℕ) → after * suc c * x ≤ before * c * x → before * x * c ≤ sets * y * c → after * (suc c * x) ≤ sets * (c * y)
+    of_powers x y low high = omega (arith, low, high)
 
--- ---- colourings
--- however the points are coloured, so that each part from k on has one colour, some edge has all its points of one colour
-abbrev pub IsUncolouredFrom : ℕ → ℕ → ℕ → Hyper Point → Type 0
-IsUncolouredFrom r m k system =
-    (colour : Point → ℕ) → ((x : Point) → colour x < m) → (shades : ℕ → ℕ) → ((part : ℕ) → shades part < m) →
-    ((e p : ℕ) → e < system.edges → p < r → k ≤ (system.at e p).0 → colour (system.at e p) ≡ shades (system.at e p).0) →
-    (edge : ℕ) × (shade : ℕ) × (edge < system.edges) × ((p : ℕ) → p < r → colour (system.at edge p) ≡ shade)
+-- n points; large sets have q of them; a new edge takes the (c + 1)-th part of the sets at hand, and at most D edges meet in a point
+module _ (r g n q c D : ℕ) where
+  -- at most t edges, and the sets that hold none
+  pub record Stage (t : ℕ) : Type 0 where
+    pub hyper : Hyper ℕ
+    pub up_to : hyper.edges ≤ t
+    pub is_hyper : IsHyper r n hyper
+    pub sparse : IsSparse r g hyper
+    pub few : (x : ℕ) → edges_at r hyper x ≤ D
+    pub alive : ℕ → Bool
+    pub large : (i : ℕ) → alive i ≡ true → q ≤ count (set i) n
+    pub hit : (i : ℕ) → q ≤ count (set i) n → alive i ≡ false → (e : ℕ) × (e < hyper.edges) × (holds r (hyper.at e) (set i) ≡ true)
+    pub left : count alive (2 ^ n) * suc c ^ t ≤ 2 ^ n * c ^ t
 
-spread_uncoloured : (r m : ℕ) (hyper : Hyper ℕ) → IsUncoloured r m hyper → IsUncolouredFrom r m 0 (spread hyper)
-spread_uncoloured r m hyper un colour below shades shades_below agree =
-    let (e, shade, el, same) = un shades shades_below in
-    (e, shade, el, λ p pl. agree e p el pl (omega arith) ∙ same p pl)
+  -- all large sets
+  abbrev is_large : ℕ → Bool
+  is_large i = leb q (count (set i) n)
 
--- part k gets a colour, and the others keep theirs
-abbrev recoloured : ℕ → ℕ → (ℕ → ℕ) → ℕ → ℕ
-recoloured k shade shades part = cond (eqb part k) shade (shades part)
-
-module _ (r n m s size k : ℕ) (hyper : Hyper ℕ) (system : Hyper Point) (is_hyper : IsHyper s size hyper) (is_partite : IsPartite r n s system) where
-  IsPartite-amalgam : IsPartite r n (size + s * hyper.edges) (amalgam s k hyper system)
-  IsPartite-amalgam = record {
-    part_below = λ c p cl pl. is_partite.part_below (c % system.edges) p (mod_below c system.edges (positive hyper.edges system.edges c cl)) pl;
-    below = λ c p cl pl.
-        let some : 0 < system.edges = positive hyper.edges system.edges c cl in
-        number_below (c / system.edges) (system.at (c % system.edges) p).0 (system.at (c % system.edges) p).1 (div_below c system.edges hyper.edges some cl)
-        (is_partite.below (c % system.edges) p (mod_below c system.edges some) pl);
-    parts = λ c p q cl pl ql. is_partite.parts (c % system.edges) p q (mod_below c system.edges (positive hyper.edges system.edges c cl)) pl ql;
+  pub begin : Stage 0
+  begin = record {
+    hyper = record { edges = 0; at = λ e p. 0 };
+    up_to = omega arith;
+    is_hyper = record { below = λ e p el pl. absurd (omega arith); apart = λ e p q el pl ql same. absurd (omega arith) };
+    sparse = λ k e f x walk. absurd (none walk);
+    few = λ x. omega arith;
+    alive = is_large;
+    large = λ i e. elim (leb_tells q (count (set i) n)) [ inl t ↦ t.1 | inr t ↦ absurd (false≢true (sym t.0 ∙ e)) ];
+    hit = λ i l e. elim (leb_tells q (count (set i) n)) [
+      | inl t ↦ absurd (false≢true (sym e ∙ t.0))
+      | inr t ↦ absurd (let low = t.1 in omega (arith, l, low))
+    ];
+    left = rw (pow-zero (suc c), pow-zero c) (let less = count_below is_large (2 ^ n) in omega (arith, less));
   }
     where
-      number_below : (h part i : ℕ) → h < hyper.edges → i < s → cond (eqb part k) (hyper.at h i) (h * s + i) < size + s * hyper.edges
-      number_below h part i hl il = elim (eqb_tells part k) [
-        | inl t ↦ rw t.0 (let low = is_hyper.below h i hl il in omega arith)
-        | inr t ↦ rw t.0 (let low = mul-add-lt h s i hyper.edges hl il in omega arith)
-      ]
+      none : {k e f x y : ℕ} → Walk r (record { edges = 0; at = λ e p. 0 }) k e f x y → ⊥
+      none (one on off apart) = let l = on.0 in omega (arith, l)
+      none (step on off apart other walk) = let l = on.0 in omega (arith, l)
 
-  amalgam_uncoloured : IsUncoloured s m hyper → IsUncolouredFrom r m k system → IsUncolouredFrom r m (suc k) (amalgam s k hyper system)
-  amalgam_uncoloured hyper_un system_un colour below shades shades_below agree =
-      let (h, shade, hl, same) = hyper_un (λ u. colour (k, u)) (λ u. below (k, u)) in
-      let (e, found, el, each) = system_un (λ x. colour (copied s k hyper h x)) (λ x. below (copied s k hyper h x)) (recoloured k (colour (k, hyper.at h 0)) shades) (now_below h) (agrees h hl shade same) in
-      (h * system.edges + e, found, subst (λ c. h * system.edges + e < c) (mul_comm system.edges hyper.edges) (mul-add-lt h system.edges e hyper.edges hl el), λ p pl. ap colour (at_copy h e p el) ∙ each p pl)
+  -- where no set is left nothing has to be done
+  pub over : (t : ℕ) (now : Stage t) → count now.alive (2 ^ n) ≡ 0 → Stage (suc t)
+  over t now none = record {
+    hyper = now.hyper;
+    up_to = (let l = now.up_to in omega (arith, l));
+    is_hyper = now.is_hyper;
+    sparse = now.sparse;
+    few = now.few;
+    alive = now.alive;
+    large = now.large;
+    hit = now.hit;
+    left = rw none (omega arith);
+  }
+
+  -- one edge more: there is room for it where few points are full
+  pub more : (p K : ℕ) → 1 ≤ p → 1 ≤ n → n ≤ K * p → c ≡ K ^ r → (t : ℕ) (now : Stage t) → 1 ≤ count now.alive (2 ^ n)
+      → count (full r D now.hyper) n + r * suc (D * r) ^ g + p ≤ q → Stage (suc t)
+  more p K some some_points small is_share t now alive room =
+      with_edge (choose n (2 ^ n) set (ball r now.hyper g) (suc (D * r) ^ g) p q K (ball_small r n D now.hyper now.few g) some some_points small r
+      now.alive (full r D now.hyper) now.large alive room)
     where
-      now_below : (h part : ℕ) → recoloured k (colour (k, hyper.at h 0)) shades part < m
-      now_below h part = elim (eqb_tells part k) [ inl t ↦ rw t.0 (below (k, hyper.at h 0)) | inr t ↦ rw t.0 (shades_below part) ]
-
-      at_copy : (h e p : ℕ) → e < system.edges → (amalgam s k hyper system).at (h * system.edges + e) p ≡ copied s k hyper h (system.at e p)
-      at_copy h e p el = ap (λ c. copied s k hyper c (system.at ((h * system.edges + e) % system.edges) p)) (div-mul-add h system.edges e el) ∙ ap (λ c. copied s k hyper h (system.at c p)) (mod-mul-add h system.edges e el)
-
-      agrees : (h : ℕ) → h < hyper.edges → (shade : ℕ) → ((i : ℕ) → i < s → colour (k, hyper.at h i) ≡ shade) → (e p : ℕ) → e < system.edges → p < r → k ≤ (system.at e p).0
-          → colour (copied s k hyper h (system.at e p)) ≡ recoloured k (colour (k, hyper.at h 0)) shades (system.at e p).0
-      agrees h hl shade same e p el pl low = elim (eqb_tells (system.at e p).0 k) [
-        | inl t ↦
-            (let il : (system.at e p).1 < s = is_partite.below e p el pl in
-            let here : cond (eqb (system.at e p).0 k) (hyper.at h (system.at e p).1) (h * s + (system.at e p).1) ≡ hyper.at h (system.at e p).1 = rw t.0 refl in
-            let there : cond (eqb (system.at e p).0 k) (colour (k, hyper.at h 0)) (shades (system.at e p).0) ≡ colour (k, hyper.at h 0) = rw t.0 refl in
-            ap (λ part. colour (part, cond (eqb (system.at e p).0 k) (hyper.at h (system.at e p).1) (h * s + (system.at e p).1))) t.1 ∙ (ap (λ i. colour (k, i)) here ∙ (same (system.at e p).1 il ∙ (sym (same 0 (omega arith)) ∙ sym there))))
-        | inr t ↦
-            (let more : suc k ≤ (system.at e p).0 = above (system.at e p).0 low t.1 in
-            let there : cond (eqb (system.at e p).0 k) (colour (k, hyper.at h 0)) (shades (system.at e p).0) ≡ shades (system.at e p).0 = rw t.0 refl in
-            let moved : (amalgam s k hyper system).at (h * system.edges + e) p ≡ copied s k hyper h (system.at e p) = at_copy h e p el in
-            let edge : h * system.edges + e < hyper.edges * system.edges = subst (λ c. h * system.edges + e < c) (mul_comm system.edges hyper.edges) (mul-add-lt h system.edges e hyper.edges hl el) in
-            let part : ((amalgam s k hyper system).at (h * system.edges + e) p).0 ≡ (system.at e p).0 = ap (λ x. x.0) moved in
-            sym (ap colour moved) ∙ (agree (h * system.edges + e) p edge pl (subst (λ q. suc k ≤ q) (sym part) more) ∙ (ap shades part ∙ sym there)))
-      ]
+      with_edge : Chosen n (2 ^ n) set (ball r now.hyper g) K r now.alive (full r D now.hyper) → Stage (suc t)
+      with_edge chosen = record {
+        hyper = extended points now.hyper;
+        up_to = (let l = now.up_to in omega (arith, l));
+        is_hyper = IsHyper-extended r n points now.hyper now.is_hyper
+            (spread_below n (ball r now.hyper g) r (full r D now.hyper) points chosen.spread)
+            (λ p q pl ql same. same_place p q pl ql (subst (Near r now.hyper g (points p)) same stay));
+        sparse = extended_sparse r g points now.hyper now.sparse (λ p q pl ql near. ap points (same_place p q pl ql near));
+        few = λ x. few_still x (stands r points x) refl;
+        alive = λ i. now.alive i && not (holds r points (set i));
+        large = λ i e. now.large i (and_parts (now.alive i) (not (holds r points (set i))) e).0;
+        hit = λ i l e. elim (and_cases (now.alive i) (not (holds r points (set i))) e) [
+          | inl dead ↦ (let (f, fl, inside) = now.hit i l dead in (suc f, omega (arith, fl), inside))
+          | inr inside ↦ (0, omega arith, not-false (holds r points (set i)) inside)
+        ];
+        left = less_left (2 ^ n) c (count now.alive (2 ^ n)) (count (λ i. now.alive i && not (holds r points (set i))) (2 ^ n))
+            (count (holding_all n (2 ^ n) set now.alive r points) (2 ^ n)) t
+            (count-split now.alive (λ i. holds r points (set i)) (2 ^ n)) many now.left;
+      }
         where
-          above : (q : ℕ) → k ≤ q → (q ≡ k → ⊥) → suc k ≤ q
-          above q l away = elim (eq-or-lt_of_le l) [ inl e ↦ absurd (away (sym e)) | inr more ↦ more ]
+          points : ℕ → ℕ
+          points = chosen.points
 
--- ---- part after part
-pub record Stage (r n m g k : ℕ) : Type 0 where
-  pub size : ℕ
-  pub system : Hyper Point
-  pub partite : IsPartite r n size system
-  pub sparse : IsSparse r (2 * g) system
-  pub uncoloured : IsUncolouredFrom r m k system
+          far : (p q : ℕ) → p < q → q < r → Near r now.hyper g (points p) (points q) → ⊥
+          far p q l ql near =
+              false≢true (sym (spread_far n (ball r now.hyper g) r (full r D now.hyper) points chosen.spread p q l ql) ∙ ball_holds near)
 
--- a hypergraph of r places an edge without closed walks of up to g steps that m colours don't colour properly
-pub record Uncoloured (r m g : ℕ) : Type 0 where
-  pub points : ℕ
-  pub hyper : Hyper ℕ
-  pub is_hyper : IsHyper r points hyper
-  pub sparse : IsSparse r g hyper
-  pub uncoloured : IsUncoloured r m hyper
+          same_place : (p q : ℕ) → p < r → q < r → Near r now.hyper g (points p) (points q) → p ≡ q
+          same_place p q pl ql near = elim (cases_order p q) [
+            | inl same ↦ same
+            | inr unequal ↦ elim unequal [ inl l ↦ absurd (far p q l ql near) | inr l ↦ absurd (far q p l pl (near_turned near)) ]
+          ]
 
-pub stage : (r n m g : ℕ) (hyper : Hyper ℕ) → IsHyper r n hyper → IsUncoloured r m hyper → ((s : ℕ) → Uncoloured s m g) → (k : ℕ) → Stage r n m g k
-stage r n m g hyper is un others zero = record {
-  size = hyper.edges;
-  system = spread hyper;
-  partite = IsPartite-spread r n hyper is;
-  sparse = spread_sparse r (2 * g) hyper;
-  uncoloured = spread_uncoloured r m hyper un;
-}
-stage r n m g hyper is un others (suc k) =
-    let before : Stage r n m g k = stage r n m g hyper is un others k in
-    let other : Uncoloured before.size m g = others before.size in
-    record {
-      size = other.points + before.size * other.hyper.edges;
-      system = amalgam before.size k other.hyper before.system;
-      partite = IsPartite-amalgam r n m before.size other.points k other.hyper before.system other.is_hyper before.partite;
-      sparse = amalgam_sparse r n other.points before.size g k other.hyper before.system other.is_hyper before.partite other.sparse before.sparse;
-      uncoloured = amalgam_uncoloured r n m before.size other.points k other.hyper before.system other.is_hyper before.partite other.uncoloured before.uncoloured;
-    }
+          many : count now.alive (2 ^ n) ≤ c * count (holding_all n (2 ^ n) set now.alive r points) (2 ^ n)
+          many = subst (λ z. count now.alive (2 ^ n) ≤ z * count (holding_all n (2 ^ n) set now.alive r points) (2 ^ n)) (sym is_share) chosen.many
+
+          below : (x : ℕ) → full r D now.hyper x ≡ false → 1 + edges_at r now.hyper x ≤ D
+          below x e = let l = leb-false D (edges_at r now.hyper x) e in omega (arith, l)
+
+          few_still : (x : ℕ) (b : Bool) → stands r points x ≡ b → cond b 1 0 + edges_at r now.hyper x ≤ D
+          few_still x false e = let l = now.few x in omega (arith, l)
+          few_still x true e =
+              let (p, pl, is) = any_found (λ p. eqb (points p) x) r e in
+              let free = spread_free n (ball r now.hyper g) r (full r D now.hyper) points chosen.spread p pl in
+              below x (subst (λ y. full r D now.hyper y ≡ false) (eqb-true (points p) x is) free)

@@ -17,7 +17,8 @@ module _ {V : Type 0} {r : ℕ} {hyper : Hyper V} where
 
   -- two walks one after the other
   pub joined : {k e l : ℕ} {x y : V} {j f m : ℕ} {z : V} → Walk r hyper k e l x y → Walk r hyper j f m y z → (l ≡ f → ⊥) → Walk r hyper (k + j) e m x z
-  joined {j = j} {m = m} {z = z} (one {edge = e} {x = x} on off apart) more other = subst (λ n. Walk r hyper n e m x z) (omega arith) (step on off apart other more)
+  joined {j = j} {m = m} {z = z} (one {edge = e} {x = x} on off apart) more other =
+      subst (λ n. Walk r hyper n e m x z) (omega arith) (step on off apart other more)
   joined {j = j} {m = m} {z = z} (step {k = k} {edge = e} {x = x} on off apart differ walk) more other =
       subst (λ n. Walk r hyper n e m x z) (omega arith) (step on off apart differ (joined walk more other))
 

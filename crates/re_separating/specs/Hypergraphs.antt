@@ -1,5 +1,5 @@
 -- Hypergraphs, whose edges have r places each, without short closed walks.
-use Rattle.std.specs.Prelude.{◌≡◌, ℕ, zero, suc, ◌<◌}
+use Rattle.std.specs.Prelude.{◌≡◌, ℕ, zero, suc, ◌+◌, ◌*◌, ◌^◌, ◌≤◌, ◌<◌}
 
 -- edges are numbers from 0 on, and at edge place is the point at a place of an edge, where places count from 0
 pub record Hyper (V : Type 0) : Type 0 where
@@ -32,6 +32,11 @@ IsUncolourable r n m hyper =
     (colour : ℕ → ℕ) → ((x : ℕ) → x < n → colour x < m) →
     (edge : ℕ) × (shade : ℕ) × (edge < hyper.edges) × ((place : ℕ) → place < r → colour (hyper.at edge place) ≡ shade)
 
--- for all r, m and g there is a hypergraph of r places an edge, without closed walks of up to g steps, that m colours don't colour properly
+-- the base of the power of points that are enough
+abbrev pub base : ℕ → ℕ → ℕ
+base r m = (3 * (r + 1) * (m + 1)) ^ (r + 3)
+
+-- for all r, m and g there is a hypergraph of r places an edge, without closed walks of up to g steps, that m colours don't colour properly; its
+-- points are no more than the power g + 1 of a number that r and m alone tell
 abbrev pub SparseLaw : Type 0
-SparseLaw = (r m g : ℕ) → (n : ℕ) × (hyper : Hyper ℕ) × IsHyper r n hyper × IsSparse r g hyper × IsUncolourable r n m hyper
+SparseLaw = (r m g : ℕ) → (n : ℕ) × (hyper : Hyper ℕ) × (n ≤ base r m ^ (g + 1)) × IsHyper r n hyper × IsSparse r g hyper × IsUncolourable r n m hyper

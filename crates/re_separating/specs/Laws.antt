@@ -1,19 +1,30 @@
--- Graphs of identifiers that separate, for any number of rounds, and what follows for algorithms with unique identifiers.
-use Rattle.std.specs.Prelude.{ℕ, ◌≤◌}
+-- Graphs of identifiers that separate, for any number of rounds and not much larger than they have to be, and what follows for algorithms with
+-- unique identifiers.
+use Rattle.std.specs.Prelude.{ℕ, ◌+◌, ◌*◌, ◌^◌, ◌≤◌}
 use Rattle.re_given.specs.Identifiers.{IdGraph}
 use Rattle.re_local.specs.LocalAlgorithms.{SolvableLocal}
 use Rattle.re_local.specs.Separating.{Separates}
 use Rattle.re_problem.specs.Examples.{relaxed_sinkless}
 use Rattle.re_problem.specs.Problems.{Problem}
+use Rattle.re_separating.specs.Hypergraphs.{base}
 
--- for each number of ports, of labels and of rounds some graph of identifiers joins alike ones and shows different ones on its trees
+-- the base of the power of identifiers that are enough for so many ports and labels
+abbrev pub identifier_base : ℕ → ℕ → ℕ
+identifier_base a n = base (2 * (a * a)) (n ^ a + a) ^ 5
+
+-- for each number of ports, of labels and of rounds some graph of identifiers joins alike ones and shows different ones on its trees; its
+-- identifiers are no more than the power T + 1 of a number that ports and labels alone tell
 abbrev pub SeparatingLaw : Type 0
-SeparatingLaw = (a n T : ℕ) → 1 ≤ a → (N : ℕ) × (graph : IdGraph) × Separates a N n T graph
+SeparatingLaw = (a n T : ℕ) → 1 ≤ a → (N : ℕ) × (graph : IdGraph) × (N ≤ identifier_base a n ^ (T + 1)) × Separates a N n T graph
 
 -- from some number N of identifiers on, no local algorithm of T rounds solves the problem
 abbrev pub IsBeyondLocal : Problem → ℕ → Type 0
 IsBeyondLocal problem T = (N : ℕ) × ((more : ℕ) → N ≤ more → SolvableLocal problem more T → ⊥)
 
+-- with C ^ (T + 1) identifiers or more no local algorithm of T rounds solves the problem: with N, T rounds are enough only where T + 1 > log_C N
+abbrev pub IsBeyondPower : Problem → ℕ → ℕ → Type 0
+IsBeyondPower problem C T = (N : ℕ) → C ^ (T + 1) ≤ N → SolvableLocal problem N T → ⊥
+
 -- so it is for the relaxation of sinkless orientation, for any number of rounds
 abbrev pub SinklessUniqueLaw : Type 0
-SinklessUniqueLaw = (T : ℕ) → IsBeyondLocal relaxed_sinkless T
+SinklessUniqueLaw = (T : ℕ) → IsBeyondPower relaxed_sinkless (identifier_base 3 2) T

@@ -6,19 +6,21 @@ ghost use Rattle.re_separating.specs.Hypergraphs.{SparseLaw};
 ghost use Rattle.re_separating.specs.Laws.{SeparatingLaw, SinklessUniqueLaw};
 
 /// For all r, m and g there is a hypergraph, each of whose edges has r different points, without closed walks of up to g steps, such that each
-/// colouring of its points with m colours has an edge of one colour (Erdős and Hajnal; by Nešetřil and Rödl's amalgamation of partite systems).
+/// colouring of its points with m colours has an edge of one colour (Erdős and Hajnal). It has no more than `base r m ^ (g + 1)` points: its edges are
+/// chosen one after another, each of points far from one another, so that it lies in many of the large sets of points that hold no edge yet.
 pub fn sparse_law()
     ensures { SparseLaw }
 {}
 
 /// For each number of ports from 1 on, of labels and of rounds there is a graph of identifiers that separates: the edges of a hypergraph without
-/// short closed walks, each with a pair of its points for each two ports, and without the identifiers that lack an edge at a port.
+/// short closed walks, each with a pair of its points for each two ports, and without the identifiers that lack an edge at a port. It has no more
+/// than `identifier_base a n ^ (T + 1)` identifiers.
 pub fn separating_law()
     ensures { SeparatingLaw }
 {}
 
-/// For each number of rounds there is a number of identifiers from which on no local algorithm of so many rounds solves the relaxation of
-/// sinkless orientation (`I I O` / `I I`, `I O`).
+/// With `identifier_base 3 2 ^ (T + 1)` identifiers or more no local algorithm of T rounds solves the relaxation of sinkless orientation
+/// (`I I O` / `I I`, `I O`).
 pub fn sinkless_unique_law()
     ensures { SinklessUniqueLaw }
 {}

@@ -1,0 +1,60 @@
+//! The classes of problems by the number of rounds that local algorithms take, what decides them, and that they are apart: laws alone, no code.
+#![tactic(auto)]
+
+ghost use Rattle.re_classes.specs.Examples.{PathColouringLaw, SinklessClassLaw};
+ghost use Rattle.re_classes.specs.Laws.{AboveLogStarLaw, BelowLogStarLaw, ConstantLaw, MoreThanConstantLaw, OrderLogStarLaw};
+ghost use Rattle.re_classes.specs.Laws.{ApartLaw, NothingBetweenLaw, WeakerLaw};
+
+/// A problem takes a constant number of rounds with unique identifiers exactly where some number is enough with port numbers alone.
+pub fn constant_law()
+    ensures { ConstantLaw }
+{}
+
+/// And more than any constant exactly where none is.
+pub fn more_than_constant_law()
+    ensures { MoreThanConstantLaw }
+{}
+
+/// Where passive nodes are edges, it then takes at least log* N rounds, less a constant.
+pub fn above_log_star_law()
+    ensures { AboveLogStarLaw }
+{}
+
+/// What is solvable given a proper colouring with one colour more than a node has neighbours takes at most the order of log* N rounds.
+pub fn below_log_star_law()
+    ensures { BelowLogStarLaw }
+{}
+
+/// Where passive nodes are edges, what is solvable given so few colours, but in no number of rounds with port numbers alone, takes the order of
+/// log* N rounds.
+pub fn order_log_star_law()
+    ensures { OrderLogStarLaw }
+{}
+
+/// Nothing lies between: what doesn't take a constant number of rounds takes more than any constant, and where passive nodes are edges at least
+/// log* N rounds, less a constant.
+pub fn nothing_between_law()
+    ensures { NothingBetweenLaw }
+{}
+
+/// What takes the order of log N rounds at least takes log* N less a constant at least, what takes so many takes more than any constant, and what
+/// takes a constant number takes the order of log* N at most.
+pub fn weaker_law()
+    ensures { WeakerLaw }
+{}
+
+/// No problem takes a constant number of rounds and more than any constant, nor at most the order of log* N rounds and at least that of log N.
+pub fn apart_law()
+    ensures { ApartLaw }
+{}
+
+/// To colour the nodes of paths properly with 3 colours takes the order of log* N rounds: no number of rounds is enough with port numbers alone,
+/// since a node both of whose edges lead to one passive node can't be coloured.
+pub fn path_colouring_law()
+    ensures { PathColouringLaw }
+{}
+
+/// The relaxation of sinkless orientation (`I I O` / `I I`, `I O`) takes at least the order of log N rounds.
+pub fn sinkless_class_law()
+    ensures { SinklessClassLaw }
+{}

@@ -1,0 +1,158 @@
+-- Lists in which nothing stands twice.
+use Rattle.std.proofs.Common.{◌≡◌, ℕ, suc, ◌≤◌, ◌<◌, Bool, true, false, cond, eqb, ltb, List, [], ◌∷◌, filter, length, refl, sym, ◌∙◌, ap, subst, arith, inl, inr}
+use Rattle.std.specs.Prelude.{Contains, not}
+use Rattle.re_config.proofs.Rearranging.{Contains-Rearranged, Rearranged-sym}
+use Rattle.re_config.proofs.Replacing.{has-support_of}
+use Rattle.re_config.specs.Configs.{support_of}
+use Rattle.re_config.specs.Rearranging.{Rearranged, chained, kept, swapped, unmoved}
+use Rattle.re_labels.proofs.Before.{three_ways}
+use Rattle.re_labels.proofs.Membership.{Contains-cases, Contains-filter, Contains-filter_cases, Contains-here, Contains-later, Contains-none, Distinct}
+use Rattle.re_labels.proofs.Numbers.{rising-with_label, rising_tail}
+use Rattle.re_labels.proofs.Sets.{IsIn-has, has-IsIn}
+use Rattle.re_labels.proofs.Tests.{below-true, eqb-apart, eqb-same, eqb-true}
+use Rattle.re_labels.specs.Lists.{IsRising}
+use Rattle.re_labels.specs.Sets.{has, with_label}
+
+-- ---- without one label
+-- the list without a label
+abbrev pub left : ℕ → List ℕ → List ℕ
+left x xs = filter (λ v. not (eqb v x)) xs
+
+pub left_cases : (x v : ℕ) (xs : List ℕ) → Contains (left x xs) v → Contains xs v × (v ≡ x → ⊥)
+left_cases x v xs held =
+    let (there, passes) = Contains-filter_cases (λ v. not (eqb v x)) xs v held in
+    (there, λ e. (let one : eqb v x ≡ true = subst (λ w. eqb v w ≡ true) e (eqb-same v) in absurd (cc)))
+
+pub left_held : (x v : ℕ) (xs : List ℕ) → Contains xs v → (v ≡ x → ⊥) → Contains (left x xs) v
+left_held x v xs held other = Contains-filter (λ v. not (eqb v x)) xs v held (ap not (eqb-apart v x other))
+
+Distinct-filter : (test : ℕ → Bool) (xs : List ℕ) → Distinct xs → Distinct (filter test xs)
+Distinct-filter test [] d = tt
+Distinct-filter test (x ∷ xs) d = at (test x) (Distinct-filter test xs d.1)
+  where
+    at : (b : Bool) → Distinct (filter test xs) → Distinct (cond b (x ∷ filter test xs) (filter test xs))
+    at true rest = (λ held. d.0 (Contains-filter_cases test xs x held).0, rest)
+    at false rest = rest
+
+left_all : (x : ℕ) (xs : List ℕ) → (Contains xs x → ⊥) → length (left x xs) ≡ length xs
+left_all x [] none = refl
+left_all x (y ∷ xs) none = at (eqb y x) refl (left_all x xs (λ held. none (Contains-later x y xs held)))
+  where
+    at : (b : Bool) → eqb y x ≡ b → length (left x xs) ≡ length xs → length (cond (not b) (y ∷ left x xs) (left x xs)) ≡ suc (length xs)
+    at true e rest = absurd (none (subst (Contains (y ∷ xs)) (eqb-true y x e) (Contains-here y xs)))
+    at false e rest = ap suc rest
+
+-- without one of its labels a list has one less
+pub left_less : (x : ℕ) (xs : List ℕ) → Distinct xs → Contains xs x → suc (length (left x xs)) ≡ length xs
+left_less x [] d held = absurd (Contains-none x held)
+left_less x (y ∷ xs) d held = at (eqb y x) refl (λ later. left_less x xs d.1 later)
+  where
+    at : (b : Bool) → eqb y x ≡ b → (Contains xs x → suc (length (left x xs)) ≡ length xs)
+        → suc (length (cond (not b) (y ∷ left x xs) (left x xs))) ≡ suc (length xs)
+    at true e rest = ap suc (left_all x xs (λ later. d.0 (subst (Contains xs) (sym (eqb-true y x e)) later)))
+    at false e rest = elim (Contains-cases x y xs held) [
+      | inl same ↦ absurd (let one : eqb y x ≡ true = subst (λ w. eqb y w ≡ true) (sym same) (eqb-same y) in cc)
+      | inr later ↦ ap suc (rest later)
+    ]
+
+left_most : (x : ℕ) (xs : List ℕ) → Distinct xs → length xs ≤ suc (length (left x xs))
+left_most x xs d = at (has xs x) refl
+  where
+    at : (b : Bool) → has xs x ≡ b → length xs ≤ suc (length (left x xs))
+    at true e = let one = left_less x xs d (has-IsIn xs x e) in omega (arith, one)
+    at false e = let all = left_all x xs (λ held. (let found : has xs x ≡ true = IsIn-has xs x held in absurd (cc))) in omega (arith, all)
+
+-- one of different labels that is none of fewer taken ones
+pub fresh : (taken set : List ℕ) → Distinct set → length taken < length set → (z : ℕ) × Contains set z × (Contains taken z → ⊥)
+fresh [] [] d l = absurd (omega arith)
+fresh [] (z ∷ set) d l = (z, Contains-here z set, Contains-none z)
+fresh (t ∷ taken) set d l =
+    let most : length set ≤ suc (length (left t set)) = left_most t set d in
+    let (z, held, none) = fresh taken (left t set) (Distinct-filter (λ v. not (eqb v t)) set d) (omega (arith, l, most)) in
+    let (there, other) = left_cases t z set held in
+    (z, there, λ at. elim (Contains-cases z t taken at) [ inl e ↦ other e | inr later ↦ none later ])
+
+-- ---- in order
+pub Distinct-Rearranged : {xs ys : List ℕ} → Rearranged xs ys → Distinct xs → Distinct ys
+Distinct-Rearranged unmoved d = tt
+Distinct-Rearranged (kept {x = x} h) d = (λ at. d.0 (Contains-Rearranged x (Rearranged-sym h) at), Distinct-Rearranged h d.1)
+Distinct-Rearranged (swapped {x = x} {y = y} {xs = xs}) d =
+    (λ at. elim (Contains-cases y x xs at) [ inl e ↦ d.0 (subst (Contains (y ∷ xs)) e (Contains-here y xs)) | inr there ↦ d.1.0 there ], (λ at. d.0 (Contains-later x y xs at), d.1.1))
+Distinct-Rearranged (chained h i) d = Distinct-Rearranged i (Distinct-Rearranged h d)
+
+pub rising_strictly : (xs : List ℕ) → IsRising (λ x y. x ≤ y) xs → Distinct xs → IsRising (λ x y. x < y) xs
+rising_strictly [] h d = tt
+rising_strictly (x ∷ []) h d = tt
+rising_strictly (x ∷ y ∷ xs) h d =
+    let apart : x ≡ y → ⊥ = λ e. d.0 (subst (Contains (y ∷ xs)) (sym e) (Contains-here y xs)) in
+    let low : x ≤ y = h.0 in
+    (below low apart, rising_strictly (y ∷ xs) h.1 d.1)
+  where
+    below : x ≤ y → (x ≡ y → ⊥) → x < y
+    below low apart = elim (three_ways x y) [ inl l ↦ l | inr (inl e) ↦ absurd (apart e) | inr (inr l) ↦ absurd (omega (arith, l, low)) ]
+
+-- ---- sets of labels of a list
+first_below : (x : ℕ) (xs : List ℕ) → IsRising (λ x y. x < y) (x ∷ xs) → (z : ℕ) → Contains xs z → x < z
+first_below x [] rises z held = absurd (Contains-none z held)
+first_below x (y ∷ xs) rises z held = elim (Contains-cases z y xs held) [
+  | inl e ↦ (let l = rises.0 in omega (arith, l, e))
+  | inr later ↦ (let l = rises.0 in let m = first_below y xs rises.1 z later in omega (arith, l, m))
+]
+
+with_label-most : (s : List ℕ) (x : ℕ) → length (with_label s x) ≤ suc (length s)
+with_label-most [] x = omega arith
+with_label-most (y ∷ s) x = at (ltb x y) (eqb x y) (with_label-most s x)
+  where
+    at : (b c : Bool) → length (with_label s x) ≤ suc (length s) → length (cond b (x ∷ y ∷ s) (cond c (y ∷ s) (y ∷ with_label s x))) ≤ suc (suc (length s))
+    at true c rest = omega arith
+    at false true rest = omega arith
+    at false false rest = omega (arith, rest)
+
+with_label-again : (s : List ℕ) (x : ℕ) → IsRising (λ x y. x < y) s → Contains s x → length (with_label s x) ≤ length s
+with_label-again [] x rises held = absurd (Contains-none x held)
+with_label-again (y ∷ s) x rises held = at (ltb x y) (eqb x y) refl refl (λ later. with_label-again s x (rising_tail y s rises) later)
+  where
+    at : (b c : Bool) → ltb x y ≡ b → eqb x y ≡ c → (Contains s x → length (with_label s x) ≤ length s)
+        → length (cond b (x ∷ y ∷ s) (cond c (y ∷ s) (y ∷ with_label s x))) ≤ suc (length s)
+    at true c e f rest = let l : x < y = below-true x y e in elim (Contains-cases x y s held) [
+      | inl same ↦ absurd (omega (arith, l, same))
+      | inr later ↦ absurd (let m = first_below y s rises x later in omega (arith, l, m))
+    ]
+    at false true e f rest = omega arith
+    at false false e f rest = elim (Contains-cases x y s held) [
+      | inl same ↦ absurd (let one : eqb x y ≡ true = subst (λ w. eqb x w ≡ true) same (eqb-same x) in cc)
+      | inr later ↦ (let fewer = rest later in omega (arith, fewer))
+    ]
+
+support_rises : (xs : List ℕ) → IsRising (λ x y. x < y) (support_of xs)
+support_rises [] = tt
+support_rises (x ∷ xs) = rising-with_label (support_of xs) x (support_rises xs)
+
+support-most : (xs : List ℕ) → length (support_of xs) ≤ length xs
+support-most [] = omega arith
+support-most (x ∷ xs) = let rest = support-most xs in let one = with_label-most (support_of xs) x in omega (arith, rest, one)
+
+in_support : (xs : List ℕ) (x : ℕ) → Contains xs x → Contains (support_of xs) x
+in_support xs x held = has-IsIn (support_of xs) x (has-support_of xs x ∙ IsIn-has xs x held)
+
+-- as many labels as places: none stands twice
+pub Distinct-support : (xs : List ℕ) → length (support_of xs) ≡ length xs → Distinct xs
+Distinct-support [] e = tt
+Distinct-support (x ∷ xs) e =
+    let most = support-most xs in
+    let one = with_label-most (support_of xs) x in (
+      λ held. (let again = with_label-again (support_of xs) x (support_rises xs) (in_support xs x held) in absurd (omega (arith, again, most, e))),
+      Distinct-support xs (omega (arith, most, one, e)),
+    )
+
+-- one label: all are it
+pub alike_support : (xs : List ℕ) (y z : ℕ) → length (support_of xs) ≡ 1 → Contains xs y → Contains xs z → y ≡ z
+alike_support xs y z e held held' = one (support_of xs) e (in_support xs y held) (in_support xs z held')
+  where
+    one : (s : List ℕ) → length s ≡ 1 → Contains s y → Contains s z → y ≡ z
+    one [] f at at' = absurd (omega (arith, f))
+    one (w ∷ []) f at at' = elim (Contains-cases y w [] at) [
+      | inl e ↦ elim (Contains-cases z w [] at') [ inl e' ↦ e ∙ sym e' | inr none ↦ absurd (Contains-none z none) ]
+      | inr none ↦ absurd (Contains-none y none)
+    ]
+    one (w ∷ v ∷ s) f at at' = absurd (omega (arith, f))

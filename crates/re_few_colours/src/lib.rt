@@ -1,0 +1,24 @@
+//! Few colours, and so bounds above for local algorithms, in order log* N rounds of N identifiers: laws alone, no code.
+#![tactic(auto)]
+
+ghost use Rattle.re_few_colours.specs.Laws.{FewColoursLaw, FewColoursLocalLaw, LogarithmicColoursLaw, OneColourLessLaw};
+
+/// In one hop a proper colouring loses its last colour, where there are more left than a node has neighbours.
+pub fn one_colour_less_law()
+    ensures { OneColourLessLaw }
+{}
+
+/// In one hop a proper colouring with colours of b bits gives one with a power of 2 b, the number of a node's neighbours.
+pub fn logarithmic_colours_law()
+    ensures { LogarithmicColoursLaw }
+{}
+
+/// A proper colouring with N colours gives one with one more than a node has neighbours in order log* N hops.
+pub fn few_colours_law()
+    ensures { FewColoursLaw }
+{}
+
+/// What is solvable given a proper colouring with so few colours has a local algorithm of order log* N rounds, where nodes have N identifiers.
+pub fn few_colours_local_law()
+    ensures { FewColoursLocalLaw }
+{}

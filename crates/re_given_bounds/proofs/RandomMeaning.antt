@@ -1,0 +1,46 @@
+-- What certificates of bounds say of randomised algorithms.
+use Rattle.std.proofs.Common.{ℕ, ◌≤◌, arith}
+use Rattle.re_check.specs.Verdicts.{verdict_of}
+use Rattle.re_check.specs.declared.verdict.Verdict.{Verdict}
+use Rattle.re_check.specs.declared.verdict.Verdict.TheVariants.{Accepted, Refused}
+use Rattle.re_cert.specs.declared.certificate.Kind.TheVariants.{Fixed, Lower, Upper}
+use Rattle.re_given_bounds.proofs.LocalMeaning.{logarithmic_bound}
+use Rattle.re_given_bounds.specs.LocalBounds.{MeansLogarithmic}
+use Rattle.re_given_bounds.specs.RandomBounds.{MeansNamed, MeansRandomised, NamedBoundLaw, RandomisedBoundLaw}
+use Rattle.re_problem.specs.NamedProblems.{unnamed}
+use Rattle.re_problem.specs.Problems.{Problem}
+use Rattle.re_random.proofs.Derandomised.{randomised, randomised_named}
+use Rattle.re_random.specs.Laws.{IsBeyondNamed, IsBeyondRandomised, random_base}
+use Rattle.re_separating.specs.Laws.{IsBeyondPower, identifier_base}
+
+random_from : (verdict : Verdict) (problem : Problem) (C D : ℕ) → ((T : ℕ) → IsBeyondPower problem C T → IsBeyondRandomised problem D T)
+    → MeansLogarithmic verdict problem C
+    → MeansRandomised verdict problem D
+random_from (Accepted Lower steps) problem C D each means = λ T l. each T (means T l)
+random_from (Accepted Upper steps) problem C D each means = tt
+random_from (Accepted Fixed steps) problem C D each means = λ T. each T (means T)
+random_from (Refused step clause) problem C D each means = tt
+
+named_from : (verdict : Verdict) (problem : Problem) (C D : ℕ) → ((T : ℕ) → IsBeyondPower problem C T → IsBeyondNamed problem C D T)
+    → MeansLogarithmic verdict problem C
+    → MeansNamed verdict problem C D
+named_from (Accepted Lower steps) problem C D each means = λ T l. each T (means T l)
+named_from (Accepted Upper steps) problem C D each means = tt
+named_from (Accepted Fixed steps) problem C D each means = λ T. each T (means T)
+named_from (Refused step clause) problem C D each means = tt
+
+pub randomised_bound : RandomisedBoundLaw
+randomised_bound bound n l fits first named edge few bits =
+    let a : ℕ = bound.first.active.degree in
+    let low : bound.first.passive.degree ≤ a = (let l = first.problem.active.least in omega (arith, l, edge)) in
+    random_from (verdict_of bound) (unnamed bound.first) (identifier_base a n) (random_base a l)
+    (λ T. randomised (unnamed bound.first) a (identifier_base a n) l T first.problem (omega arith) low bits)
+    (logarithmic_bound bound n fits first named edge few)
+
+pub named_bound : NamedBoundLaw
+named_bound bound n l fits first named edge few bits =
+    let a : ℕ = bound.first.active.degree in
+    let low : bound.first.passive.degree ≤ a = (let l = first.problem.active.least in omega (arith, l, edge)) in
+    named_from (verdict_of bound) (unnamed bound.first) (identifier_base a n) (random_base a l)
+    (λ T. randomised_named (unnamed bound.first) a (identifier_base a n) l T first.problem (omega arith) low bits)
+    (logarithmic_bound bound n fits first named edge few)

@@ -1,0 +1,3 @@
+pub mod HyperIdentifiers
+pub mod HyperSeparating
+pub mod Laws

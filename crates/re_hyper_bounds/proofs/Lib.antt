@@ -1,0 +1,4 @@
+pub mod FewHyper
+pub mod HyperClasses
+pub mod HyperGap
+pub mod HyperMeaning

@@ -1,0 +1,2 @@
+pub mod HyperBounds
+pub mod HyperGaps

@@ -1,0 +1,12 @@
+pub mod Arranged
+pub mod BeyondLocal
+pub mod DerivedLabels
+pub mod FewIdentifiers
+pub mod Gap
+pub mod GivenGap
+pub mod Parts
+pub mod PortNumbered
+pub mod Ramsey
+pub mod Ranks
+pub mod Tagged
+pub mod Turns

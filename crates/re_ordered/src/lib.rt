@@ -1,0 +1,88 @@
+//! What unique identifiers help in a fixed number of rounds, or in fewer than log* N less a constant: nothing. Laws alone, no code.
+#![tactic(auto)]
+
+ghost use Rattle.re_ordered.specs.GapLaws.{BeyondPortsLaw, ColouredGapLaw, ColouredPairsGapLaw, ConstantRoundsLaw, EvenGapLaw, FewLabelsLaw, GapLaw, GraphGapLaw, TowerLaw, UnavoidableGapLaw, UnavoidableRoundsLaw};
+ghost use Rattle.re_ordered.specs.Laws.{AnyIdentifiersLaw, BeyondLocalLaw, NoSolutionLocalLaw, PortNumberedLaw, UnnoticedLaw};
+
+/// For each problem and number of rounds there is a number of identifiers such that what a local algorithm solves with so many, an algorithm
+/// solves with port numbers alone (by Ramsey's theorem, as Naor and Stockmeyer have it, and an order of the nodes of the tree that port numbers give).
+pub fn port_numbered_law()
+    ensures { PortNumberedLaw }
+{}
+
+/// A local algorithm need take no notice of the identifiers.
+pub fn unnoticed_law()
+    ensures { UnnoticedLaw }
+{}
+
+/// So T rounds solve a problem with port numbers alone exactly where they do with different identifiers, however many of these there are.
+pub fn any_identifiers_law()
+    ensures { AnyIdentifiersLaw }
+{}
+
+/// From some number of identifiers on no local algorithm of T rounds solves a problem, exactly where none does with port numbers alone.
+pub fn beyond_local_law()
+    ensures { BeyondLocalLaw }
+{}
+
+/// Where some finite graph has no solution, the problem is beyond local algorithms of any number of rounds.
+pub fn no_solution_local_law()
+    ensures { NoSolutionLocalLaw }
+{}
+
+/// Each number is at most the tower of as many twos, so that each problem has a tower of twos as large as its number of labels.
+pub fn tower_law()
+    ensures { TowerLaw }
+{}
+
+/// Each derivation puts at most one more two under the number of labels.
+pub fn few_labels_law()
+    ensures { FewLabelsLaw }
+{}
+
+/// An input problem that, exchanged T times, is unavoidable for lists of a tower of T + h twos of labels is of no use in T rounds.
+pub fn unavoidable_rounds_law()
+    ensures { UnavoidableRoundsLaw }
+{}
+
+/// What T rounds solve given an input problem that is unavoidable for lists of a tower of T + h + 1 twos of labels takes at most T + 1 rounds
+/// without it.
+pub fn unavoidable_gap_law()
+    ensures { UnavoidableGapLaw }
+{}
+
+/// A proper colouring with more than p - 1 times as many colours saves at most one round of T.
+pub fn coloured_gap_law()
+    ensures { ColouredGapLaw }
+{}
+
+/// Where passive nodes are edges, one with more than a tower of T + h + 1 twos of colours is of no use in T rounds.
+pub fn coloured_pairs_gap_law()
+    ensures { ColouredPairsGapLaw }
+{}
+
+/// Where passive nodes are edges, and a problem has at most a tower of h twos of labels: what a local algorithm of T rounds solves with identifiers
+/// below N takes at most T + 1 rounds without them, if N is at least a tower of T + h + 6 twos, as where T is less than log* N - h - 6.
+pub fn gap_law()
+    ensures { GapLaw }
+{}
+
+/// And T rounds, where T is even: so few rounds solve exactly what ports solve.
+pub fn even_gap_law()
+    ensures { EvenGapLaw }
+{}
+
+/// So what T rounds solve with one such number of identifiers takes at most T + 1 rounds with any number of them.
+pub fn constant_rounds_law()
+    ensures { ConstantRoundsLaw }
+{}
+
+/// And what no number of rounds solves without identifiers takes at least log* N - h - 6 rounds with them.
+pub fn beyond_ports_law()
+    ensures { BeyondPortsLaw }
+{}
+
+/// Such is each problem that has no solution on some finite graph.
+pub fn graph_gap_law()
+    ensures { GraphGapLaw }
+{}

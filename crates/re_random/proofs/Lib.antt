@@ -1,0 +1,11 @@
+pub mod Certain
+pub mod Derandomised
+pub mod Drawn
+pub mod DrawnColours
+pub mod FewerNames
+pub mod NamedRandomness
+pub mod NamedViews
+pub mod Numbered
+pub mod Powers
+pub mod RandomGap
+pub mod ViewCounts

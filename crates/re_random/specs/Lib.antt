@@ -1,0 +1,5 @@
+pub mod Chances
+pub mod GapLaws
+pub mod Laws
+pub mod NamedRandom
+pub mod RandomAlgorithms

@@ -15,6 +15,7 @@ ones. Words of std and types of the program that stand in src/ are not followed.
 import os
 import re
 import sys
+import textwrap
 
 TOP = os.path.dirname(os.path.dirname(os.path.abspath(__file__)))
 PAGE = os.path.join(TOP, "docs", "DEFINITIONS.md")
@@ -410,7 +411,8 @@ def markdown():
         for (crate, module), definitions in by_module(found):
             crates.setdefault(crate, []).append(f"{module} {size(definitions)}")
         listed = "; ".join(f"`{crate}` {', '.join(modules)}" for crate, modules in crates.items())
-        lines += [f"**{title}**: {what} {len(found)} definitions, {size(found.values())} lines:", listed + ".", ""]
+        counts = f"{len(found)} definitions, {size(found.values())} lines"
+        lines += textwrap.wrap(f"**{title}**: {what} {counts}: {listed}.", 120, break_long_words=False, break_on_hyphens=False) + [""]
     return "\n".join(lines).rstrip("\n")
 
 

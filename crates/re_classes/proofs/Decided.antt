@@ -21,11 +21,11 @@ pub more_than_constant : MoreThanConstantLaw
 more_than_constant problem is = ((λ beyond S. (beyond_local problem S is).0 (beyond S)), (λ never T. (beyond_local problem T is).1 (never T)))
 
 pub above_log_star : AboveLogStarLaw
-above_log_star problem is edge never = (
+above_log_star problem is never = (
   problem.labels + 6,
   λ T N many solvable.
       let same : T + (problem.labels + 6) ≡ T + problem.labels + 6 = omega arith in
-      beyond_ports problem problem.labels T N is edge (below_tower problem.labels) (subst (λ h. tower h ≤ N) same many) never solvable,
+      beyond_ports problem problem.labels T N is (below_tower problem.labels) (subst (λ h. tower h ≤ N) same many) never solvable,
 )
 
 pub below_log_star : BelowLogStarLaw
@@ -38,15 +38,12 @@ below_log_star problem is (k, solvable) = (
 )
 
 pub order_log_star : OrderLogStarLaw
-order_log_star problem is edge never coloured = (above_log_star problem is edge never, below_log_star problem is coloured)
+order_log_star problem is never coloured = (above_log_star problem is never, below_log_star problem is coloured)
 
 pub nothing_between : NothingBetweenLaw
 nothing_between problem is = (
   ((λ never. (more_than_constant problem is).1 (unsolvable never)), (λ more local. constant_apart problem local more)),
-  λ edge. (
-    (λ never. above_log_star problem is edge (unsolvable never)),
-    (λ above local. constant_apart problem local (log_star_above_constant problem above)),
-  ),
+  ((λ never. above_log_star problem is (unsolvable never)), (λ above local. constant_apart problem local (log_star_above_constant problem above))),
 )
   where
     unsolvable : (IsConstantLocal problem → ⊥) → IsUnsolvable problem

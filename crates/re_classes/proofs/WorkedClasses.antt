@@ -116,8 +116,8 @@ loop_none ((x ∷ y ∷ more) ∷ rest) s =
     not_both k low (subst (λ z. Has (colouring 2 2 3).passive (k ∷ z ∷ [])) two (subst (λ z. Has (colouring 2 2 3).passive (z ∷ y ∷ [])) one s.passive.0))
 
 pub path_colouring : PathColouringLaw
-path_colouring = order_log_star (colouring 2 2 3) is_three refl (λ S. no_solution_law (colouring 2 2 3) loop S loop_is loop_none)
+path_colouring = order_log_star (colouring 2 2 3) is_three (λ S. no_solution_law (colouring 2 2 3) loop S loop_is loop_none)
     (0, SolvableGiven-itself (colouring 2 2 3) (IsInput-colouring (colouring 2 2 3) 3 is_three (omega arith)))
 
 pub sinkless_class : SinklessClassLaw
-sinkless_class = (identifier_base 3 2, sinkless_unique)
+sinkless_class = (identifier_base 3 2 2, sinkless_unique)

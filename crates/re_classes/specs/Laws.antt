@@ -1,5 +1,5 @@
 -- What decides the class of a problem, and which classes are apart.
-use Rattle.std.specs.Prelude.{◌≡◌, ℕ, ◌+◌, ◌-◌, ◌*◌, ◌↔◌}
+use Rattle.std.specs.Prelude.{ℕ, ◌+◌, ◌-◌, ◌*◌, ◌↔◌}
 use Rattle.re_classes.specs.Classes.{IsAboveLog, IsAboveLogStar, IsBelowLogStar, IsConstantLocal, IsMoreThanConstant, IsOrderLogStar}
 use Rattle.re_given.specs.Given.{SolvableGiven}
 use Rattle.re_given.specs.Unavoidable.{colouring}
@@ -23,24 +23,22 @@ ConstantLaw = (problem : Problem) → IsProblem problem → IsConstantLocal prob
 abbrev pub MoreThanConstantLaw : Type 0
 MoreThanConstantLaw = (problem : Problem) → IsProblem problem → IsMoreThanConstant problem ↔ IsUnsolvable problem
 
--- where passive nodes are edges, it then takes at least log* N rounds less a constant
+-- it then takes at least log* N rounds less a constant
 abbrev pub AboveLogStarLaw : Type 0
-AboveLogStarLaw = (problem : Problem) → IsProblem problem → problem.passive.degree ≡ 2 → IsUnsolvable problem → IsAboveLogStar problem
+AboveLogStarLaw = (problem : Problem) → IsProblem problem → IsUnsolvable problem → IsAboveLogStar problem
 
 -- what is solvable given few colours takes at most the order of log* N rounds
 abbrev pub BelowLogStarLaw : Type 0
 BelowLogStarLaw = (problem : Problem) → IsProblem problem → IsSolvableColoured problem → IsBelowLogStar problem
 
--- where passive nodes are edges, what is solvable given few colours, but in no number of rounds with port numbers alone, takes the order of log* N
+-- what is solvable given few colours, but in no number of rounds with port numbers alone, takes the order of log* N
 abbrev pub OrderLogStarLaw : Type 0
-OrderLogStarLaw = (problem : Problem) → IsProblem problem → problem.passive.degree ≡ 2 → IsUnsolvable problem → IsSolvableColoured problem →
-    IsOrderLogStar problem
+OrderLogStarLaw = (problem : Problem) → IsProblem problem → IsUnsolvable problem → IsSolvableColoured problem → IsOrderLogStar problem
 
--- nothing lies between: what doesn't take a constant number of rounds takes more than any constant, and where passive nodes are edges at
--- least log* N rounds less a constant
+-- nothing lies between: what doesn't take a constant number of rounds takes more than any constant, and at least log* N less a constant
 abbrev pub NothingBetweenLaw : Type 0
-NothingBetweenLaw = (problem : Problem) → IsProblem problem → ((IsConstantLocal problem → ⊥) ↔ IsMoreThanConstant problem)
-    × (problem.passive.degree ≡ 2 → (IsConstantLocal problem → ⊥) ↔ IsAboveLogStar problem)
+NothingBetweenLaw = (problem : Problem) → IsProblem problem →
+    ((IsConstantLocal problem → ⊥) ↔ IsMoreThanConstant problem) × ((IsConstantLocal problem → ⊥) ↔ IsAboveLogStar problem)
 
 -- what takes at least the order of log N rounds takes at least log* N less a constant; what takes so many takes more than any constant; and what
 -- takes a constant number takes at most the order of log* N

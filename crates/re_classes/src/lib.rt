@@ -15,7 +15,7 @@ pub fn more_than_constant_law()
     ensures { MoreThanConstantLaw }
 {}
 
-/// Where passive nodes are edges, it then takes at least log* N rounds, less a constant.
+/// It then takes at least log* N rounds, less a constant.
 pub fn above_log_star_law()
     ensures { AboveLogStarLaw }
 {}
@@ -25,14 +25,12 @@ pub fn below_log_star_law()
     ensures { BelowLogStarLaw }
 {}
 
-/// Where passive nodes are edges, what is solvable given so few colours, but in no number of rounds with port numbers alone, takes the order of
-/// log* N rounds.
+/// What is solvable given so few colours, but in no number of rounds with port numbers alone, takes the order of log* N rounds.
 pub fn order_log_star_law()
     ensures { OrderLogStarLaw }
 {}
 
-/// Nothing lies between: what doesn't take a constant number of rounds takes more than any constant, and where passive nodes are edges at least
-/// log* N rounds, less a constant.
+/// Nothing lies between: what doesn't take a constant number of rounds takes more than any constant, and at least log* N rounds, less a constant.
 pub fn nothing_between_law()
     ensures { NothingBetweenLaw }
 {}

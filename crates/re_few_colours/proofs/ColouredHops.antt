@@ -12,7 +12,7 @@ use Rattle.re_config.specs.Configs.{IsConfig, sorted, support_of}
 use Rattle.re_config.specs.Orders.{multisets}
 use Rattle.re_config.specs.Rows.{IsChoice, choices}
 use Rattle.re_families.proofs.Whole.{alike_rise}
-use Rattle.re_few_colours.proofs.DifferentLabels.{Distinct-Rearranged, Distinct-support, alike_support, left, left_cases, left_held, left_less, rising_strictly}
+use Rattle.re_few_colours.proofs.DifferentLabels.{Distinct-Rearranged, left, left_cases, left_held, left_less, rising_strictly}
 use Rattle.re_few_colours.proofs.OneHop.{SolvableGiven-hop}
 use Rattle.re_given.proofs.Colourings.{IsInput-colouring, colour_there, colours_there, filtered_constraint}
 use Rattle.re_given.specs.Given.{SolvableGiven}
@@ -23,6 +23,7 @@ use Rattle.re_labels.proofs.Tests.{and-true, eqb-apart, eqb-same, eqb-true, true
 use Rattle.re_labels.specs.Lists.{count_from, place_of}
 use Rattle.re_labels.specs.Sets.{IsIn}
 use Rattle.re_local.proofs.Complete.{alike_choice}
+use Rattle.re_local.proofs.Supports.{Distinct-support, alike_support}
 use Rattle.re_problem.specs.Problems.{IsProblem}
 use Rattle.re_table.specs.GoodRows.{IsAllowed, IsGood}
 

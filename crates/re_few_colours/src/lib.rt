@@ -8,17 +8,19 @@ pub fn one_colour_less_law()
     ensures { OneColourLessLaw }
 {}
 
-/// In one hop a proper colouring with colours of b bits gives one with a power of 2 b, the number of a node's neighbours.
+/// In one hop a proper colouring with colours of b bits gives one with (2 b)^d colours, where d = a (p - 1) is the number of a node's neighbours (a simple
+/// form of Linial's colour reduction).
 pub fn logarithmic_colours_law()
     ensures { LogarithmicColoursLaw }
 {}
 
-/// A proper colouring with N colours gives one with one more than a node has neighbours in order log* N hops.
+/// A proper colouring with N colours gives one with one more than a node has neighbours in order log* N hops (Linial).
 pub fn few_colours_law()
     ensures { FewColoursLaw }
 {}
 
-/// What is solvable given a proper colouring with so few colours has a local algorithm of order log* N rounds, where nodes have N identifiers.
+/// What is solvable in k hops given a proper colouring with so few colours has a local algorithm, one with unique identifiers, of 2 log* N + k + K
+/// rounds, where identifiers are below N and K depends on the degrees alone.
 pub fn few_colours_local_law()
     ensures { FewColoursLocalLaw }
 {}

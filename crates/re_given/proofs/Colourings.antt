@@ -109,7 +109,7 @@ colours_there a p c ws count set =
     (((multisets_law p c).1 ws).1 (record { count = count; below = set.1; ascends = rising_weakly ws set.0 })) different
 
 -- the first of a rising list is below the others
-first_below : (x : ℕ) (xs : List ℕ) → IsRising (λ x y. x < y) (x ∷ xs) → (z : ℕ) → Contains xs z → x < z
+pub first_below : (x : ℕ) (xs : List ℕ) → IsRising (λ x y. x < y) (x ∷ xs) → (z : ℕ) → Contains xs z → x < z
 first_below x [] rises z held = absurd (Contains-none z held)
 first_below x (y ∷ xs) rises z held = elim (Contains-cases z y xs held) [
   | inl e ↦ (let l = rises.0 in omega (arith, l, e))

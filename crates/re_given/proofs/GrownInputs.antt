@@ -62,7 +62,7 @@ completed n d e own other x sides (config, held, at) =
     (rest, omega (arith, is.count, sides.own_degree), rw same held)
 
 -- children with these labels, all of that depth
-filled_children : (d e t : ℕ) (own other : Constraint) (rest seen : List ℕ) → 1 ≤ e → ((y : ℕ) → Contains rest y → (b : InputView) × IsTree e d t (pred e) b × FitsAround other own (y ∷ []) b) → Has own (rest ++ seen)
+pub filled_children : (d e t : ℕ) (own other : Constraint) (rest seen : List ℕ) → 1 ≤ e → ((y : ℕ) → Contains rest y → (b : InputView) × IsTree e d t (pred e) b × FitsAround other own (y ∷ []) b) → Has own (rest ++ seen)
     → (b : InputView) × IsTree d e (suc t) (length rest) b × FitsAround own other seen b
 filled_children d e t own other [] seen some each has = (end, tt, has)
 filled_children d e t own other (y ∷ rest) seen some each has =

@@ -8,7 +8,6 @@ pub mod FastGiven
 pub mod Fitting
 pub mod GivenTables
 pub mod GrownInputs
-pub mod IdentifierGraphs
 pub mod Itself
 pub mod JoinedInputs
 pub mod KnownViews

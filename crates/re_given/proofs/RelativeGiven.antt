@@ -77,7 +77,7 @@ SolvableGiven-through problem input given S is is_given (sets, upper) (table, so
     SolvableGiven-by problem given S (chosen_from problem input given S (answer_known table) is sets upper solves.solves) is_given (SolvesGivenBy-through problem input given S (answer_known table) is sets upper solves.solves)
 
 -- ---- rounds
-IsInput-derived_by : (k : ℕ) (problem input : Problem) → IsInput problem input → IsInput (derived_by k problem) (exchanged_by k input)
+pub IsInput-derived_by : (k : ℕ) (problem input : Problem) → IsInput problem input → IsInput (derived_by k problem) (exchanged_by k input)
 IsInput-derived_by zero problem input is = is
 IsInput-derived_by (suc k) problem input is = IsInput-derived (derived_by k problem) (exchanged_by k input) (IsInput-derived_by k problem input is)
 

@@ -2,7 +2,6 @@
 use Rattle.std.specs.Prelude.{◌≡◌, ℕ, suc, ◌↔◌, ◌+◌, ◌-◌, ◌*◌, ◌^◌, ◌≤◌, ◌<◌, List, ◌∷◌}
 use Rattle.std.specs.List.{AllByRecursion}
 use Rattle.re_given.specs.Given.{SolvableGiven, SolvesGivenBy, ZeroGiven}
-use Rattle.re_given.specs.Identifiers.{IdGraph, JoinsAlike, identifiers}
 use Rattle.re_given.specs.InputExamples.{coloured_edges, oriented, oriented_both, sides}
 use Rattle.re_given.specs.InputViews.{Fits, InputView}
 use Rattle.re_given.specs.Inputs.{IsInput, exchanged, exchanged_by, nothing}
@@ -155,11 +154,6 @@ LoopUnavoidableLaw = (first middle one last input : Problem) (back j k T : ℕ) 
 -- what is unavoidable for lists of many labels is so for lists of fewer
 abbrev pub FewerLabelsLaw : Type 0
 FewerLabelsLaw = (input : Problem) (m n : ℕ) → m ≤ n → IsUnavoidable input n → IsUnavoidable input m
-
--- identifiers are unavoidable for lists below n where, however they get such lists, among those with some one list the graph has an edge for
--- each two ports
-abbrev pub IdentifiersLaw : Type 0
-IdentifiersLaw = (a N n : ℕ) (graph : IdGraph) → 1 ≤ a → JoinsAlike a N graph n → IsUnavoidable (identifiers a N graph) n
 
 -- a proper colouring with more than (p - 1) n colours is unavoidable for lists below n
 abbrev pub ColouringLaw : Type 0

@@ -1,6 +1,5 @@
 pub mod Examples
 pub mod Given
-pub mod Identifiers
 pub mod InputExamples
 pub mod InputViews
 pub mod Inputs

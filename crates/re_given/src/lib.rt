@@ -3,7 +3,7 @@
 
 mod examples;
 
-ghost use Rattle.re_given.specs.Laws.{ColouredPairsLaw, ColouringInputLaw, ColouringLaw, ComposedLaw, DeeperFitsLaw, EdgesInputLaw, FewerLabelsLaw, FitLaw, FixedPointColouredLaw, FixedPointGivenLaw, FixedPointUnavoidableLaw, IdentifiersLaw, InputRelaxationLaw, ItselfGivenLaw, LoopGivenLaw, LoopUnavoidableLaw, LowerBoundColouredLaw, LowerBoundColouredPairsLaw, LowerBoundGivenLaw, LowerBoundUnavoidableLaw, MappingGivenLaw, MoreColoursLaw, MoreRoundsGivenLaw, NothingGivenLaw, NothingInputLaw, OrientationInputLaw, RelativeLaw, RelaxationGivenLaw, RoundsGivenLaw, ShorterBoundColouredLaw, ShiftFitsLaw, ShorterBoundUnavoidableLaw, SidesInputLaw, SpeedupGivenLaw, TableGivenLaw, UnavoidableLaw, UngivenLaw, UpperBoundGivenLaw, UpperStepGivenLaw, ZeroGivenLaw};
+ghost use Rattle.re_given.specs.Laws.{ColouredPairsLaw, ColouringInputLaw, ColouringLaw, ComposedLaw, DeeperFitsLaw, EdgesInputLaw, FewerLabelsLaw, FitLaw, FixedPointColouredLaw, FixedPointGivenLaw, FixedPointUnavoidableLaw, InputRelaxationLaw, ItselfGivenLaw, LoopGivenLaw, LoopUnavoidableLaw, LowerBoundColouredLaw, LowerBoundColouredPairsLaw, LowerBoundGivenLaw, LowerBoundUnavoidableLaw, MappingGivenLaw, MoreColoursLaw, MoreRoundsGivenLaw, NothingGivenLaw, NothingInputLaw, OrientationInputLaw, RelativeLaw, RelaxationGivenLaw, RoundsGivenLaw, ShorterBoundColouredLaw, ShiftFitsLaw, ShorterBoundUnavoidableLaw, SidesInputLaw, SpeedupGivenLaw, TableGivenLaw, UnavoidableLaw, UngivenLaw, UpperBoundGivenLaw, UpperStepGivenLaw, ZeroGivenLaw};
 ghost use Rattle.re_given.specs.ProductLaws.{ProductConfigsLaw, ProductGivenLaw, ProductMappingLaw, ProductPartsLaw, ProductProblemLaw, ProductRelaxationLaw};
 
 pub use examples::{orientation_given_law, sinkless_coloured_law, sinkless_edge_coloured_law};
@@ -147,12 +147,6 @@ pub fn loop_unavoidable_law()
 /// What is unavoidable for lists of many labels is so for lists of fewer.
 pub fn fewer_labels_law()
     ensures { FewerLabelsLaw }
-{}
-
-/// Identifiers are unavoidable for lists below n where, however they get such lists, among those with some one list the graph that says which
-/// of them may be neighbours has an edge for each two ports.
-pub fn identifiers_law()
-    ensures { IdentifiersLaw }
 {}
 
 /// A proper colouring with more than (p - 1) n colours is unavoidable for lists below n, where p is the passive degree.

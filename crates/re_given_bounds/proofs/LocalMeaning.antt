@@ -5,14 +5,14 @@ use Rattle.re_check.proofs.Meaning.{verdict_means}
 use Rattle.re_check.specs.Verdicts.{Means, verdict_of}
 use Rattle.re_check.specs.declared.verdict.Verdict.{Verdict}
 use Rattle.re_check.specs.declared.verdict.Verdict.TheVariants.{Accepted, Refused}
-use Rattle.re_given.proofs.IdentifierGraphs.{identifiers_unavoidable}
 use Rattle.re_given.specs.Given.{SolvableGiven}
-use Rattle.re_given.specs.Identifiers.{identifiers}
 use Rattle.re_given.specs.Inputs.{IsInput}
 use Rattle.re_given_bounds.proofs.GivenMeaning.{beside}
 use Rattle.re_given_bounds.specs.GivenBounds.{MeansBeside}
 use Rattle.re_local.proofs.IdentifierInputs.{IsInput-identifiers, some_identifier}
 use Rattle.re_local.proofs.LocalGiven.{SolvableGiven-labelled}
+use Rattle.re_local.proofs.UnavoidableIdentifiers.{identifiers_unavoidable}
+use Rattle.re_local.specs.Identifiers.{identifiers}
 use Rattle.re_local.specs.LocalAlgorithms.{SolvableLabelled}
 use Rattle.re_given_bounds.specs.LocalBounds.{LocalBoundLaw, LogarithmicBoundLaw, MeansLocal, MeansLogarithmic, MeansUnique, UniqueIdentifiersLaw}
 use Rattle.re_ordered.proofs.BeyondLocal.{IsBeyondLocal-unsolvable}
@@ -28,12 +28,16 @@ local_from (Accepted Fixed steps) problem input N T given means = λ h. means T 
 local_from (Refused step clause) problem input N T given means = tt
 
 pub local_bound : LocalBoundLaw
-local_bound bound n N T graph fits first named edge few separates =
+local_bound bound n N T hyper fits first named few separates =
     let problem : Problem = unnamed bound.first in
-    let input : Problem = identifiers bound.first.active.degree N graph in
-    let is_input : IsInput problem input = IsInput-identifiers problem N graph first.problem edge (some_identifier bound.first.active.degree N n graph (let least = first.problem.active.least in omega arith) separates.joins) separates.edges in
-    local_from (verdict_of bound) problem input N T (SolvableGiven-labelled problem N T graph is_input separates.apart)
-    (beside bound input n fits first named is_input few (identifiers_unavoidable bound.first.active.degree N n graph (let least = first.problem.active.least in omega arith) separates.joins))
+    let a : ℕ = bound.first.active.degree in
+    let p : ℕ = bound.first.passive.degree in
+    let some : 1 ≤ a = (let least = first.problem.active.least in omega arith) in
+    let more : 1 ≤ p = (let least = first.problem.passive.least in omega arith) in
+    let input : Problem = identifiers a p N hyper in
+    let is_input : IsInput problem input = IsInput-identifiers problem N hyper first.problem (some_identifier a p N n hyper some more separates.joins) separates.edges in
+    local_from (verdict_of bound) problem input N T (SolvableGiven-labelled problem N T hyper is_input separates.apart)
+    (beside bound input n fits first named is_input few (identifiers_unavoidable a p N n hyper some more separates.joins))
 
 -- ---- from some number of identifiers on
 unique_from : (verdict : Verdict) (problem : Problem) → IsProblem problem → Means verdict problem → MeansUnique verdict problem
@@ -53,6 +57,9 @@ logarithmic_from (Accepted Fixed steps) problem C each = λ T. let (N, few, mean
 logarithmic_from (Refused step clause) problem C each = tt
 
 pub logarithmic_bound : LogarithmicBoundLaw
-logarithmic_bound bound n fits first named edge labels = logarithmic_from (verdict_of bound) (unnamed bound.first) (identifier_base bound.first.active.degree n) (λ T.
-    let (N, graph, few, separates) = separating bound.first.active.degree n T (let l = first.problem.active.least in omega arith) in
-    (N, few, local_bound bound n N T graph fits first named edge labels separates))
+logarithmic_bound bound n fits first named labels =
+    let a : ℕ = bound.first.active.degree in
+    let p : ℕ = bound.first.passive.degree in
+    logarithmic_from (verdict_of bound) (unnamed bound.first) (identifier_base a p n) (λ T.
+    let (N, hyper, few, separates) = separating a p n T (let l = first.problem.active.least in omega arith) (let l = first.problem.passive.least in omega arith) in
+    (N, few, local_bound bound n N T hyper fits first named labels separates))

@@ -10,10 +10,10 @@ use Rattle.re_given_bounds.specs.RandomBounds.{MeansNamed, MeansRandomised, Name
 use Rattle.re_problem.specs.NamedProblems.{unnamed}
 use Rattle.re_problem.specs.Problems.{Problem}
 use Rattle.re_random.proofs.Derandomised.{randomised, randomised_named}
-use Rattle.re_random.specs.Laws.{IsBeyondNamed, IsBeyondRandomised, random_base}
+use Rattle.re_random.specs.Laws.{IsBeyondNamed, IsBeyondDoublePower, random_base}
 use Rattle.re_separating.specs.Laws.{IsBeyondPower, identifier_base}
 
-random_from : (verdict : Verdict) (problem : Problem) (C D : ℕ) → ((T : ℕ) → IsBeyondPower problem C T → IsBeyondRandomised problem D T)
+random_from : (verdict : Verdict) (problem : Problem) (C D : ℕ) → ((T : ℕ) → IsBeyondPower problem C T → IsBeyondDoublePower problem D T)
     → MeansLogarithmic verdict problem C
     → MeansRandomised verdict problem D
 random_from (Accepted Lower steps) problem C D each means = λ T l. each T (means T l)
@@ -30,17 +30,13 @@ named_from (Accepted Fixed steps) problem C D each means = λ T. each T (means T
 named_from (Refused step clause) problem C D each means = tt
 
 pub randomised_bound : RandomisedBoundLaw
-randomised_bound bound n l fits first named edge few bits =
-    let a : ℕ = bound.first.active.degree in
-    let low : bound.first.passive.degree ≤ a = (let l = first.problem.active.least in omega (arith, l, edge)) in
-    random_from (verdict_of bound) (unnamed bound.first) (identifier_base a n) (random_base a l)
-    (λ T. randomised (unnamed bound.first) a (identifier_base a n) l T first.problem (omega arith) low bits)
-    (logarithmic_bound bound n fits first named edge few)
+randomised_bound bound n d l fits first named few low low' bits =
+    let C : ℕ = identifier_base bound.first.active.degree bound.first.passive.degree n in
+    random_from (verdict_of bound) (unnamed bound.first) C (random_base d l) (λ T. randomised (unnamed bound.first) d C l T first.problem low low' bits)
+    (logarithmic_bound bound n fits first named few)
 
 pub named_bound : NamedBoundLaw
-named_bound bound n l fits first named edge few bits =
-    let a : ℕ = bound.first.active.degree in
-    let low : bound.first.passive.degree ≤ a = (let l = first.problem.active.least in omega (arith, l, edge)) in
-    named_from (verdict_of bound) (unnamed bound.first) (identifier_base a n) (random_base a l)
-    (λ T. randomised_named (unnamed bound.first) a (identifier_base a n) l T first.problem (omega arith) low bits)
-    (logarithmic_bound bound n fits first named edge few)
+named_bound bound n d l fits first named few low low' bits =
+    let C : ℕ = identifier_base bound.first.active.degree bound.first.passive.degree n in
+    named_from (verdict_of bound) (unnamed bound.first) C (random_base d l) (λ T. randomised_named (unnamed bound.first) d C l T first.problem low low' bits)
+    (logarithmic_bound bound n fits first named few)

@@ -6,8 +6,8 @@ use Rattle.re_cert.specs.declared.certificate.Kind.TheVariants.{Fixed, Lower, Up
 use Rattle.re_check.specs.Verdicts.{verdict_of}
 use Rattle.re_check.specs.declared.verdict.Verdict.{Verdict}
 use Rattle.re_check.specs.declared.verdict.Verdict.TheVariants.{Accepted, Refused}
-use Rattle.re_given.specs.Identifiers.{IdGraph}
 use Rattle.re_given_bounds.specs.GivenBounds.{HasFewLabels}
+use Rattle.re_local.specs.Identifiers.{IdHypergraph}
 use Rattle.re_local.specs.LocalAlgorithms.{SolvableLabelled}
 use Rattle.re_local.specs.Separating.{Separates}
 use Rattle.re_problem.specs.NamedProblems.{IsNamedProblem, unnamed}
@@ -22,11 +22,11 @@ MeansLocal (Accepted Upper steps) problem N T = Unit {0}
 MeansLocal (Accepted Fixed steps) problem N T = SolvableLabelled problem N T → ⊥
 MeansLocal (Refused step clause) problem N T = Unit {0}
 
--- so it is where passive nodes are edges, no problem of the bound has more than n labels, and there is a graph of identifiers for T rounds and
--- lists below n
+-- so it is where no problem of the bound has more than n labels, and there is a hypergraph of identifiers for T rounds and lists below n
 abbrev pub LocalBoundLaw : Type 0
-LocalBoundLaw = (bound : Bound) (n N T : ℕ) (graph : IdGraph) → is_bound bound ≡ true → IsNamedProblem bound.first → AllByRecursion IsNamedProblem (next_problems bound.steps) →
-    bound.first.passive.degree ≡ 2 → HasFewLabels n bound → Separates bound.first.active.degree N n T graph → MeansLocal (verdict_of bound) (unnamed bound.first) N T
+LocalBoundLaw = (bound : Bound) (n N T : ℕ) (hyper : IdHypergraph) → is_bound bound ≡ true → IsNamedProblem bound.first →
+    AllByRecursion IsNamedProblem (next_problems bound.steps) → HasFewLabels n bound →
+    Separates bound.first.active.degree bound.first.passive.degree N n T hyper → MeansLocal (verdict_of bound) (unnamed bound.first) N T
 
 -- what a verdict says of algorithms with unique identifiers: after a fixed point, for each number T of rounds there is a number of identifiers
 -- from which on no local algorithm of T rounds solves the first problem; after a lower bound, for each T up to its number of steps
@@ -49,7 +49,8 @@ MeansLogarithmic (Accepted Upper steps) problem C = Unit {0}
 MeansLogarithmic (Accepted Fixed steps) problem C = (T : ℕ) → IsBeyondPower problem C T
 MeansLogarithmic (Refused step clause) problem C = Unit {0}
 
--- so it is where passive nodes are edges and no problem of the bound has more than n labels, and C depends on the active degree and n alone
+-- so it is where no problem of the bound has more than n labels, and C depends on the degrees and n alone
 abbrev pub LogarithmicBoundLaw : Type 0
-LogarithmicBoundLaw = (bound : Bound) (n : ℕ) → is_bound bound ≡ true → IsNamedProblem bound.first → AllByRecursion IsNamedProblem (next_problems bound.steps) →
-    bound.first.passive.degree ≡ 2 → HasFewLabels n bound → MeansLogarithmic (verdict_of bound) (unnamed bound.first) (identifier_base bound.first.active.degree n)
+LogarithmicBoundLaw = (bound : Bound) (n : ℕ) → is_bound bound ≡ true → IsNamedProblem bound.first →
+    AllByRecursion IsNamedProblem (next_problems bound.steps) → HasFewLabels n bound →
+    MeansLogarithmic (verdict_of bound) (unnamed bound.first) (identifier_base bound.first.active.degree bound.first.passive.degree n)

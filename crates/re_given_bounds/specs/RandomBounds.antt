@@ -9,25 +9,25 @@ use Rattle.re_check.specs.declared.verdict.Verdict.TheVariants.{Accepted, Refuse
 use Rattle.re_given_bounds.specs.GivenBounds.{HasFewLabels}
 use Rattle.re_problem.specs.NamedProblems.{IsNamedProblem, unnamed}
 use Rattle.re_problem.specs.Problems.{Problem}
-use Rattle.re_random.specs.Laws.{IsBeyondNamed, IsBeyondRandomised, random_base}
+use Rattle.re_random.specs.Laws.{IsBeyondNamed, IsBeyondDoublePower, random_base}
 use Rattle.re_separating.specs.Laws.{identifier_base}
 
 -- what a verdict says of randomised algorithms: after a fixed point, for each T, each of them of T rounds fails on the first problem at some node,
 -- for some port numbering, with a probability of at least 1 / q, where q is 2 ^ (D ^ (T + 1)) or more; after a lower bound, for each T below its
 -- number of steps
 abbrev pub MeansRandomised : Verdict → Problem → ℕ → Type 0
-MeansRandomised (Accepted Lower steps) problem D = (T : ℕ) → T < steps → IsBeyondRandomised problem D T
+MeansRandomised (Accepted Lower steps) problem D = (T : ℕ) → T < steps → IsBeyondDoublePower problem D T
 MeansRandomised (Accepted Upper steps) problem D = Unit {0}
-MeansRandomised (Accepted Fixed steps) problem D = (T : ℕ) → IsBeyondRandomised problem D T
+MeansRandomised (Accepted Fixed steps) problem D = (T : ℕ) → IsBeyondDoublePower problem D T
 MeansRandomised (Refused step clause) problem D = Unit {0}
 
--- so it is where passive nodes are edges and no problem of the bound has more than n labels; D depends on the active degree and n alone, and
--- is 17,856 for degree 3 and 2 labels, with 989 for l
+-- so it is where no problem of the bound has more than n labels, and no node more than d ports; D depends on the degrees and n alone, and is
+-- 17,856 for degrees 3 and 2 and 2 labels, with 989 for l
 abbrev pub RandomisedBoundLaw : Type 0
-RandomisedBoundLaw = (bound : Bound) (n l : ℕ) → is_bound bound ≡ true → IsNamedProblem bound.first →
-    AllByRecursion IsNamedProblem (next_problems bound.steps) → bound.first.passive.degree ≡ 2 → HasFewLabels n bound →
-    identifier_base bound.first.active.degree n ≤ 2 ^ l →
-    MeansRandomised (verdict_of bound) (unnamed bound.first) (random_base bound.first.active.degree l)
+RandomisedBoundLaw = (bound : Bound) (n d l : ℕ) → is_bound bound ≡ true → IsNamedProblem bound.first →
+    AllByRecursion IsNamedProblem (next_problems bound.steps) → HasFewLabels n bound →
+    let a : ℕ = bound.first.active.degree in let p : ℕ = bound.first.passive.degree in
+    a ≤ d → p ≤ d → identifier_base a p n ≤ 2 ^ l → MeansRandomised (verdict_of bound) (unnamed bound.first) (random_base d l)
 
 -- what a verdict says of randomised algorithms whose nodes have N different identifiers too: after a fixed point, for each T, each of them of T
 -- rounds fails on the first problem at some node, for some port numbering and some different identifiers, with a probability of at least 1 / q,
@@ -38,9 +38,9 @@ MeansNamed (Accepted Upper steps) problem C D = Unit {0}
 MeansNamed (Accepted Fixed steps) problem C D = (T : ℕ) → IsBeyondNamed problem C D T
 MeansNamed (Refused step clause) problem C D = Unit {0}
 
--- so it is where passive nodes are edges and no problem of the bound has more than n labels
+-- so it is where no problem of the bound has more than n labels, and no node more than d ports
 abbrev pub NamedBoundLaw : Type 0
-NamedBoundLaw = (bound : Bound) (n l : ℕ) → is_bound bound ≡ true → IsNamedProblem bound.first →
-    AllByRecursion IsNamedProblem (next_problems bound.steps) → bound.first.passive.degree ≡ 2 → HasFewLabels n bound →
-    identifier_base bound.first.active.degree n ≤ 2 ^ l →
-    MeansNamed (verdict_of bound) (unnamed bound.first) (identifier_base bound.first.active.degree n) (random_base bound.first.active.degree l)
+NamedBoundLaw = (bound : Bound) (n d l : ℕ) → is_bound bound ≡ true → IsNamedProblem bound.first →
+    AllByRecursion IsNamedProblem (next_problems bound.steps) → HasFewLabels n bound →
+    let a : ℕ = bound.first.active.degree in let p : ℕ = bound.first.passive.degree in
+    a ≤ d → p ≤ d → identifier_base a p n ≤ 2 ^ l → MeansNamed (verdict_of bound) (unnamed bound.first) (identifier_base a p n) (random_base d l)

@@ -49,29 +49,29 @@ pub fn fixed_bound_law()
     ensures { FixedBoundLaw }
 {}
 
-/// The verdict on a certificate is right of local algorithms of as many rounds as there is a graph of identifiers for, at a lower bound with one
-/// round less.
+/// The verdict on a certificate is right of local algorithms of as many rounds as there is a hypergraph of identifiers for, at a lower bound with
+/// one round less.
 pub fn local_bound_law()
     ensures { LocalBoundLaw }
 {}
 
-/// The verdict on a certificate is right of algorithms with unique identifiers: for each number of rounds there is a number of identifiers from
+/// The verdict on a certificate is right of local algorithms, those with unique identifiers: for each number of rounds there is a number of identifiers from
 /// which on no local algorithm of so many rounds solves what is accepted as a fixed point; at a lower bound, for up to as many rounds as it has steps.
 pub fn unique_identifiers_law()
     ensures { UniqueIdentifiersLaw }
 {}
 
-/// Where passive nodes are edges C^(T + 1) identifiers are enough for that: T rounds are enough for what is accepted as a fixed point only where
-/// T + 1 > log_C N, with N identifiers; at a lower bound so it is for fewer rounds than it has steps. The number C, `identifier_base`, depends on
-/// the active degree and the number of labels alone.
+/// C^(T + 1) identifiers are enough for that (after Brandt, Chang, Grebík, Grunau, Rozhoň and Vidnyánszky): T rounds are enough for what is accepted as a fixed point only where T + 1 > log_C N, with identifiers
+/// below N; at a lower bound so it is for fewer rounds than it has steps. The number C, `identifier_base`, depends on the degrees and the number of
+/// labels of the certificate's problems alone.
 pub fn logarithmic_bound_law()
     ensures { LogarithmicBoundLaw }
 {}
 
 /// The verdict on a certificate is right of randomised algorithms: after a fixed point each of them of T rounds fails at some node, for some port
 /// numbering, with a probability of at least 1 / q, where q is 2^(D^(T + 1)) or more, so that T rounds are enough for a probability of failure
-/// below 1 / q only where T + 1 > log_D (log_2 q); at a lower bound so it is for fewer rounds than it has steps. The number D depends on the
-/// active degree and the number of labels alone.
+/// below 1 / q only where T + 1 > log_D (log_2 q); at a lower bound so it is for fewer rounds than it has steps. The number D, `random_base`,
+/// depends on the degrees and the number of labels alone.
 pub fn randomised_bound_law()
     ensures { RandomisedBoundLaw }
 {}
@@ -88,18 +88,18 @@ pub fn upper_bound_local_law()
 {}
 
 /// The verdict on a certificate is right of classes: what is accepted as an upper bound takes a constant number of rounds with unique identifiers,
-/// and what is accepted as a fixed point more than any constant, and where passive nodes are edges at least the order of log N.
+/// and what is accepted as a fixed point at least the order of log N.
 pub fn class_law()
     ensures { ClassLaw }
 {}
 
-/// Where passive nodes are edges, what is accepted as a fixed point takes at least the order of log N rounds.
+/// What is accepted as a fixed point takes at least the order of log N rounds.
 pub fn above_log_law()
     ensures { AboveLogLaw }
 {}
 
-/// Where passive nodes are edges, what is accepted as a fixed point is solved in no number of rounds given a proper colouring with one colour more
-/// than a node has neighbours: no problem takes both the order of log N rounds at least and the order of log* N at most.
+/// What is accepted as a fixed point is solved in no number of rounds given a proper colouring with one colour more than a node has neighbours:
+/// no problem takes both the order of log N rounds at least and the order of log* N at most.
 pub fn no_two_classes_law()
     ensures { NoTwoClassesLaw }
 {}

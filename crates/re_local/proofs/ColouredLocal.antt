@@ -18,7 +18,7 @@ use Rattle.re_labels.proofs.Before.{three_ways}
 use Rattle.re_labels.proofs.Membership.{AllByRecursion-contains, Contains-cases, Contains-here, Contains-later, Contains-map_cases, Contains-none, count_from_range}
 use Rattle.re_labels.specs.Lists.{IsRising, count_from}
 use Rattle.re_local.proofs.FewerRounds.{IsPart, held, left_out, none, part_different, part_empty}
-use Rattle.re_local.specs.LocalAlgorithms.{AreDifferent, SolvableLocal, behind_active, behind_passive, named, shown}
+use Rattle.re_local.specs.LocalAlgorithms.{AreDifferent, SolvableLocal, behind_active, behind_passive, identified, shown}
 use Rattle.re_problem.specs.Problems.{IsProblem, Problem}
 use Rattle.re_table.specs.Constraints.{Has}
 use Rattle.re_views.specs.Trees.{IsTree, IsView, end, leaf, more}
@@ -30,7 +30,7 @@ different_Rearranged (swapped {x = x} {y = y} {xs = xs}) d =
     (λ at. elim (Contains-cases y x xs at) [ inl e ↦ d.0 (subst (Contains (y ∷ xs)) e (Contains-here y xs)) | inr there ↦ d.1.0 there ], (λ at. d.0 (Contains-later x y xs at), d.1.1))
 different_Rearranged (chained h i) d = different_Rearranged i (different_Rearranged h d)
 
-rising_strictly : (xs : List ℕ) → IsRising (λ x y. x ≤ y) xs → AreDifferent xs → IsRising (λ x y. x < y) xs
+pub rising_strictly : (xs : List ℕ) → IsRising (λ x y. x ≤ y) xs → AreDifferent xs → IsRising (λ x y. x < y) xs
 rising_strictly [] h d = tt
 rising_strictly (x ∷ []) h d = tt
 rising_strictly (x ∷ y ∷ xs) h d =
@@ -69,31 +69,31 @@ part_rest (x ∷ xs) us vs = held (part_rest xs us vs)
 
 module _ (a p N : ℕ) (some : 1 ≤ a) where
   -- an identifier stands on all edges of its node
-  alike : (labels : List ℕ) (y z : ℕ) → Has (named a p N).active labels → Contains labels y → Contains labels z → y ≡ z
+  alike : (labels : List ℕ) (y z : ℕ) → Has (identified a p N).active labels → Contains labels y → Contains labels z → y ≡ z
   alike labels y z has at at' =
       let (x, there, is) = Contains-map_cases (replicate a) (count_from 0 N) (sorted labels) has in
       let one : (w : ℕ) → Contains labels w → w ≡ x = λ w h. AllByRecursion-contains (λ y. y ≡ x) (replicate a x) w (all_alike a x) (subst (λ (c : List ℕ). Contains c w) (sym is) (Contains-Rearranged w (Rearranged-sorted labels) h)) in
       one y at ∙ sym (one z at')
 
-  active_there : (labels : List ℕ) → Has (named a p N).active labels → Has (colouring a p N).active labels
+  active_there : (labels : List ℕ) → Has (identified a p N).active labels → Has (colouring a p N).active labels
   active_there labels has =
       let (x, there, is) = Contains-map_cases (replicate a) (count_from 0 N) (sorted labels) has in
       subst (Contains (colouring a p N).active.configs) is (colour_there a p N x some (let l = (count_from_range 0 N x there).1 in omega arith))
 
-  passive_there : (labels : List ℕ) → Has (named a p N).passive labels → AreDifferent labels → Has (colouring a p N).passive labels
+  passive_there : (labels : List ℕ) → Has (identified a p N).passive labels → AreDifferent labels → Has (colouring a p N).passive labels
   passive_there labels has different =
       let is : IsConfig p N (sorted labels) = ((multisets_law p N).1 (sorted labels)).0 has in
       colours_there a p N (sorted labels) is.count (rising_strictly (sorted labels) is.ascends (different_Rearranged (Rearranged-sorted labels) different), is.below)
 
-  alike_behind : (t n z : ℕ) (seen : List ℕ) (x : InputView) → IsTree a p t n x → FitsAround (named a p N).active (named a p N).passive seen x → Contains seen z → (y : ℕ) → Contains (payloads x) y → y ≡ z
+  alike_behind : (t n z : ℕ) (seen : List ℕ) (x : InputView) → IsTree a p t n x → FitsAround (identified a p N).active (identified a p N).passive seen x → Contains seen z → (y : ℕ) → Contains (payloads x) y → y ≡ z
   alike_behind zero n z seen leaf tree fits at y stands = absurd (Contains-none y stands)
   alike_behind zero n z seen end tree fits at y stands = absurd tree
   alike_behind zero n z seen (more back label branch rest) tree fits at y stands = absurd tree
   alike_behind (suc t) n z seen x tree fits at y stands =
-      alike (payloads x ++ seen) y z (Has-around (named a p N).active (named a p N).passive a p t n seen x tree fits) (Contains-append_left (payloads x) seen y stands) (Contains-append_right (payloads x) seen z at)
+      alike (payloads x ++ seen) y z (Has-around (identified a p N).active (identified a p N).passive a p t n seen x tree fits) (Contains-append_left (payloads x) seen y stands) (Contains-append_right (payloads x) seen z at)
 
   mutual
-    coloured_active : (t n z : ℕ) (seen : List ℕ) (x : InputView) → IsTree a p t n x → ((y : ℕ) → Contains (payloads x) y → y ≡ z) → FitsAround (named a p N).active (named a p N).passive seen x → AreDifferent (z ∷ behind_active x)
+    coloured_active : (t n z : ℕ) (seen : List ℕ) (x : InputView) → IsTree a p t n x → ((y : ℕ) → Contains (payloads x) y → y ≡ z) → FitsAround (identified a p N).active (identified a p N).passive seen x → AreDifferent (z ∷ behind_active x)
         → FitsAround (colouring a p N).active (colouring a p N).passive seen x
     coloured_active t n z seen leaf tree same fits d = tt
     coloured_active t n z seen end tree same fits d = active_there seen fits
@@ -107,7 +107,7 @@ module _ (a p N : ℕ) (some : 1 ≤ a) where
           coloured_active (suc t) n z (label ∷ seen) rest tree.3 (λ y at. same y (Contains-later y label (payloads rest) at)) fits.1 others,
         )
 
-    coloured_passive : (t n : ℕ) (seen : List ℕ) (x : InputView) → IsTree p a t n x → FitsAround (named a p N).passive (named a p N).active seen x → AreDifferent (seen ++ behind_passive x)
+    coloured_passive : (t n : ℕ) (seen : List ℕ) (x : InputView) → IsTree p a t n x → FitsAround (identified a p N).passive (identified a p N).active seen x → AreDifferent (seen ++ behind_passive x)
         → FitsAround (colouring a p N).passive (colouring a p N).active seen x
     coloured_passive t n seen leaf tree fits d = tt
     coloured_passive t n seen end tree fits d = passive_there seen fits (rw append-nil at d)
@@ -121,12 +121,12 @@ module _ (a p N : ℕ) (some : 1 ≤ a) where
           coloured_passive (suc t) n (label ∷ seen) rest tree.3 fits.1 others,
         )
 
-  coloured_root : (t : ℕ) (v : InputView) → IsView a p (suc t) v → Fits (named a p N).active (named a p N).passive v → AreDifferent (shown v) → Fits (colouring a p N).active (colouring a p N).passive v
+  coloured_root : (t : ℕ) (v : InputView) → IsView a p (suc t) v → Fits (identified a p N).active (identified a p N).passive v → AreDifferent (shown v) → Fits (colouring a p N).active (colouring a p N).passive v
   coloured_root t leaf view fits d = tt
   coloured_root t end view fits d = active_there [] fits
   coloured_root t (more back label branch rest) view fits d =
       coloured_active (suc t) a label [] (more back label branch rest) view
-      (λ y at. alike (payloads (more back label branch rest) ++ []) y label (Has-around (named a p N).active (named a p N).passive a p t a [] (more back label branch rest) view fits)
+      (λ y at. alike (payloads (more back label branch rest) ++ []) y label (Has-around (identified a p N).active (identified a p N).passive a p t a [] (more back label branch rest) view fits)
       (Contains-append_left (payloads (more back label branch rest)) [] y at) (Contains-append_left (payloads (more back label branch rest)) [] label (Contains-here label (payloads rest))))
       fits d
 

@@ -1,28 +1,46 @@
--- The graph that joins all different identifiers.
-use Rattle.std.proofs.Common.{◌≡◌, ℕ, zero, suc, pred, ◌*◌, ◌/◌, ◌^◌, ◌≤◌, ◌<◌, Bool, true, false, cond, eqb, leb, ◌||◌, List, [], ◌∷◌, ◌++◌, map, length, refl, sym, ◌∙◌, ap, subst, arith, inl, inr}
-use Rattle.std.specs.Prelude.{Contains, not, replicate}
+-- The hypergraph that joins all different identifiers.
+use Rattle.std.proofs.Common.{◌≡◌, ℕ, zero, suc, pred, ◌+◌, ◌-◌, ◌*◌, ◌/◌, ◌^◌, ◌≤◌, ◌<◌, eqb, true, List, [], ◌∷◌, ◌++◌, map, length, refl, sym, ◌∙◌, ap, subst, arith, append-nil, inl, inr}
+use Rattle.std.specs.Prelude.{Contains, replicate}
 use Rattle.std.specs.List.{AllByRecursion}
 use Rattle.std.proofs.Math.Nat.{pow-succ', pow-zero}
+use Rattle.std.proofs.lemmas.Bool.Decides.{leb_tells}
+use Rattle.std.proofs.lemmas.Nat.{div-mul-add}
 use Rattle.re_config.proofs.ChoicesOfRows.{choices-IsChoice}
+use Rattle.re_config.proofs.Rearranging.{Rearranged-map, Rearranged-sym}
 use Rattle.re_config.proofs.Rounds.{length-choices}
-use Rattle.re_config.specs.Configs.{sorted}
+use Rattle.re_config.proofs.Sorting.{IsConfig-sorted, Rearranged-sorted}
+use Rattle.re_config.specs.Configs.{IsConfig, sorted, support_of}
 use Rattle.re_config.specs.Orders.{multisets}
+use Rattle.re_config.specs.Rearranging.{Rearranged}
 use Rattle.re_config.specs.Rows.{IsChoice, choices}
-use Rattle.re_given.proofs.Colourings.{pigeonhole}
-use Rattle.re_given.specs.Identifiers.{AreAlike, JoinsAlike, are_joined, identifiers}
-use Rattle.re_given.specs.InputViews.{Fits, InputView}
-use Rattle.re_labels.proofs.Membership.{Contains-cases, Contains-count_from, Contains-filter_cases, Contains-here, Contains-later, Contains-none, count_from_range, length-count_from}
-use Rattle.re_labels.proofs.Numbers.{IsLabelSet-count_from}
-use Rattle.re_labels.proofs.Tests.{eqb-apart, eqb-same, or-true}
-use Rattle.re_labels.specs.Lists.{count_from}
+use Rattle.re_given.proofs.Colourings.{colours_there, first_below, pigeonhole}
+use Rattle.re_given.proofs.Fitting.{Has-around}
+use Rattle.re_given.proofs.GrownInputs.{Has-occurs}
+use Rattle.re_given.specs.InputViews.{Fits, InputView, payloads}
+use Rattle.re_given.specs.Unavoidable.{colouring}
+use Rattle.re_labels.proofs.Membership.{AllByRecursion-contains, AllByRecursion-from_contains, Contains-count_from, Contains-filter_cases, Contains-here, Contains-none, Distinct, Distinct-count_from, count_from_range, length-count_from}
+use Rattle.re_labels.proofs.Numbers.{IsLabelSet-count_from, rising_tail}
+use Rattle.re_labels.proofs.Tests.{eqb-true}
+use Rattle.re_labels.specs.Lists.{IsRising, count_from}
 use Rattle.re_labels.specs.Sets.{IsLabelSet}
+use Rattle.re_local.proofs.ColouredLocal.{different_Rearranged, rising_strictly}
+use Rattle.re_local.proofs.FewerRounds.{IsPart, held, part_contains, part_different, part_empty}
+use Rattle.re_local.proofs.Supports.{Distinct-support}
+use Rattle.re_local.proofs.UnavoidableIdentifiers.{first_ports, joined_there, label_there, labels_at_below, length-labels_at, same_port}
+use Rattle.re_local.specs.Identifiers.{AreAlike, JoinsAlike, identifiers, labels_at}
 use Rattle.re_local.specs.LocalAlgorithms.{AreDifferent, behind_active, behind_passive, shown}
-use Rattle.re_local.specs.Separating.{AreApart, HasEdge, Separates, complete}
+use Rattle.re_local.specs.Separating.{AreApart, HasAllEdges, Separates, complete}
+use Rattle.re_table.proofs.Goodness.{Has-Rearranged, Has-has_config, has_config-Has}
 use Rattle.re_table.specs.Constraints.{Has}
 use Rattle.re_views.specs.Trees.{IsTree, IsView, end, leaf, more}
 
-not_same : (x y : ℕ) → (x ≡ y → ⊥) → not (eqb x y) ≡ true
-not_same x y apart = ap not (eqb-apart x y apart)
+pub different_distinct : (xs : List ℕ) → Distinct xs → AreDifferent xs
+different_distinct [] d = tt
+different_distinct (x ∷ xs) d = (d.0, different_distinct xs d.1)
+
+different_rising : (xs : List ℕ) → IsRising (λ x y. x < y) xs → AreDifferent xs
+different_rising [] rises = tt
+different_rising (x ∷ xs) rises = (λ at. (let l = first_below x xs rises x at in omega (arith, l)), different_rising xs (rising_tail x xs rises))
 
 -- lists of a labels below n
 pub alike_choice : (n : ℕ) (labels : List ℕ) → AllByRecursion (λ x. x < n) labels → IsChoice labels (replicate (length labels) (count_from 0 n))
@@ -34,37 +52,99 @@ length-alike n zero = sym (pow-zero n)
 length-alike n (suc a) =
     length-choices (count_from 0 n) (replicate a (count_from 0 n)) ∙ (ap (λ k. k * length (choices (replicate a (count_from 0 n)))) (length-count_from 0 n) ∙ (ap (λ k. n * k) (length-alike n a) ∙ sym (pow-succ' n a)))
 
--- two of a list of more than one number in ascending order
-two_of : (N : ℕ) (zs : List ℕ) → IsLabelSet N zs → 1 < length zs → (x : ℕ) × (y : ℕ) × Contains zs x × Contains zs y × (x < y) × (y < N)
-two_of N [] set many = absurd (omega arith)
-two_of N (x ∷ []) set many = absurd (omega arith)
-two_of N (x ∷ y ∷ zs) set many = (x, y, Contains-here x (y ∷ zs), Contains-later y x (y ∷ zs) (Contains-here y zs), set.0.0, set.1.1.0)
+-- ---- different identifiers are joined
+-- the identifiers of labels
+ids_labels_at : (a : ℕ) (ids ports : List ℕ) → length ids ≡ length ports → AllByRecursion (λ i. i < a) ports → map (λ u. u / a) (labels_at a ids ports) ≡ ids
+ids_labels_at a [] [] same low = refl
+ids_labels_at a [] (i ∷ ports) same low = absurd (omega (arith, same))
+ids_labels_at a (x ∷ ids) [] same low = absurd (omega (arith, same))
+ids_labels_at a (x ∷ ids) (i ∷ ports) same low =
+    ap (λ z. z ∷ map (λ u. u / a) (labels_at a ids ports)) (div-mul-add x a i low.0) ∙ ap (λ l. x ∷ l) (ids_labels_at a ids ports (omega (arith, same)) low.1)
 
-joins_complete : (a N n : ℕ) → n ^ a < N → JoinsAlike a N complete n
-joins_complete a N n many list_of each = go (pigeonhole list_of 1 N lists (count_from 0 N) (IsLabelSet-count_from 0 N N (omega arith)) listed enough)
+different_joined : (a p N : ℕ) (ids ports : List ℕ) → length ids ≡ p → AllByRecursion (λ x. x < N) ids → AreDifferent ids → length ports ≡ p → AllByRecursion (λ i. i < a) ports
+    → complete a p N (sorted (labels_at a ids ports)) ≡ true
+different_joined a p N ids ports count below different ports_count low =
+    let is : IsConfig p N (sorted ids) = IsConfig-sorted p N ids count below in
+    let has : Has (colouring a p N).passive ids =
+    colours_there a p N (sorted ids) is.count (rising_strictly (sorted ids) is.ascends (different_Rearranged (Rearranged-sorted ids) different), is.below) in
+    let moved : Rearranged (map (λ u. u / a) (labels_at a ids ports)) (map (λ u. u / a) (sorted (labels_at a ids ports))) =
+    Rearranged-map (λ u. u / a) (Rearranged-sorted (labels_at a ids ports)) in
+    let same : map (λ u. u / a) (labels_at a ids ports) ≡ ids = ids_labels_at a ids ports (count ∙ sym ports_count) low in
+    Has-has_config (colouring a p N).passive (map (λ u. u / a) (sorted (labels_at a ids ports)))
+    (Has-Rearranged (colouring a p N).passive moved (subst (Has (colouring a p N).passive) (sym same) has))
+
+pub different_there : (a p N : ℕ) (ids ports : List ℕ) → length ids ≡ p → AllByRecursion (λ x. x < N) ids → AreDifferent ids → length ports ≡ p → AllByRecursion (λ i. i < a) ports
+    → Has (identifiers a p N (complete a p N)).passive (labels_at a ids ports)
+different_there a p N ids ports count below different ports_count low =
+    joined_there a p N (complete a p N) (labels_at a ids ports) (length-labels_at a ids ports (count ∙ sym ports_count) ∙ ports_count) (labels_at_below a N ids ports below low)
+    (different_joined a p N ids ports count below different ports_count low)
+
+pub some_below : (N k : ℕ) → k ≤ N → AllByRecursion (λ x. x < N) (count_from 0 k)
+some_below N k l = AllByRecursion-from_contains (λ x. x < N) (count_from 0 k) (λ x held. let (low, high) = count_from_range 0 k x held in omega arith)
+
+-- p different identifiers with this one
+with_others : (p N x : ℕ) → 1 ≤ p → p ≤ N → x < N → (ids : List ℕ) × (length ids ≡ p) × AllByRecursion (λ y. y < N) ids × AreDifferent ids × Contains ids x
+with_others p N x some many l = elim (leb_tells p x) [
+  | inl t ↦ (
+    x ∷ count_from 0 (p - 1),
+    (let count = length-count_from 0 (p - 1) in omega (arith, count, some)),
+    (l, some_below N (p - 1) (omega arith)),
+    ((λ at. (let (low, high) = count_from_range 0 (p - 1) x at in let apart = t.1 in omega (arith, high, apart, some))), different_distinct (count_from 0 (p - 1)) (Distinct-count_from 0 (p - 1))),
+    Contains-here x (count_from 0 (p - 1)),
+  )
+  | inr t ↦ (
+    count_from 0 p,
+    length-count_from 0 p,
+    some_below N p many,
+    different_distinct (count_from 0 p) (Distinct-count_from 0 p),
+    Contains-count_from 0 p x (omega arith) (let below = t.1 in omega (arith, below)),
+  )
+]
+
+pub edges_complete : (a p N : ℕ) → 1 ≤ p → p ≤ N → HasAllEdges a p N (complete a p N)
+edges_complete a p N some many x i l il =
+    let (ids, count, below, different, at) = with_others p N x some many l in
+    let (ports_count, low) = first_ports a p i il in
+    Has-occurs (identifiers a p N (complete a p N)).passive (labels_at a ids (same_port i p)) (x * a + i) (different_there a p N ids (same_port i p) count below different ports_count low)
+    (subst (λ k. Contains (labels_at a ids (same_port i k)) (x * a + i)) count (label_there a x i ids at))
+
+-- the first so many of a list
+first_of : (k : ℕ) (zs : List ℕ) → k ≤ length zs → (xs : List ℕ) × (length xs ≡ k) × IsPart xs zs
+first_of zero zs l = ([], refl, part_empty zs)
+first_of (suc k) [] l = absurd (omega (arith, l))
+first_of (suc k) (z ∷ zs) l = let (xs, count, part) = first_of k zs (omega (arith, l)) in (z ∷ xs, ap suc count, held part)
+
+joins_complete : (a p N n : ℕ) → 1 ≤ p → (p - 1) * n ^ a < N → JoinsAlike a p N (complete a p N) n
+joins_complete a p N n some many list_of each = go (pigeonhole list_of (p - 1) N lists (count_from 0 N) (IsLabelSet-count_from 0 N N (omega arith)) listed enough)
   where
     lists : List (List ℕ)
     lists = choices (replicate a (count_from 0 n))
 
     listed : (x : ℕ) → Contains (count_from 0 N) x → Contains lists (list_of x)
-    listed x held =
-        let (count, below) = each x (let l = (count_from_range 0 N x held).1 in omega arith) in
+    listed x at =
+        let (count, below) = each x (let l = (count_from_range 0 N x at).1 in omega arith) in
         choices-IsChoice (replicate a (count_from 0 n)) (list_of x) (subst (λ k. IsChoice (list_of x) (replicate k (count_from 0 n))) count (alike_choice n (list_of x) below))
 
-    enough : 1 * length lists < length (count_from 0 N)
-    enough = rw (length-alike n a, length-count_from 0 N) (omega arith)
+    enough : (p - 1) * length lists < length (count_from 0 N)
+    enough = rw (length-alike n a, length-count_from 0 N) many
 
-    go : (y : List ℕ) × (zs : List ℕ) × IsLabelSet N zs × (1 < length zs) × ((z : ℕ) → Contains zs z → list_of z ≡ y) → (list : List ℕ) × ((i j : ℕ) → i < a → j < a → AreAlike N complete list_of list i j)
-    go (list, zs, set, count, same) =
-        let (x, y, x_in, y_in, l, m) = two_of N zs set count in
-        (list, λ i j il jl. record { one = x; other = y; one_below = omega arith; other_below = m; one_list = same x x_in; other_list = same y y_in; joined = not_same x y (λ e. omega (arith, e, l)) })
-
-pub edges_complete : (a N : ℕ) → 2 ≤ N → (x i : ℕ) → x < N → i < a → HasEdge a N complete x i
-edges_complete a N some zero i l il = record { other = 1; port = i; other_below = omega arith; port_below = il; joined = refl }
-edges_complete a N some (suc x) i l il = record { other = 0; port = i; other_below = omega arith; port_below = il; joined = ap (λ b. not b || not (eqb 0 (suc x))) (eqb-apart (suc x) 0 (λ e. omega (arith, e))) }
+    go : (y : List ℕ) × (zs : List ℕ) × IsLabelSet N zs × (p - 1 < length zs) × ((z : ℕ) → Contains zs z → list_of z ≡ y)
+        → (list : List ℕ) × ((ports : List ℕ) → length ports ≡ p → AllByRecursion (λ i. i < a) ports → AreAlike a N (complete a p N) list_of list ports)
+    go (list, zs, set, count, same) = (list, λ ports is low. alike (first_of p zs (omega (arith, count, some))) ports is low)
+      where
+        alike : (ids : List ℕ) × (length ids ≡ p) × IsPart ids zs → (ports : List ℕ) → length ports ≡ p → AllByRecursion (λ i. i < a) ports → AreAlike a N (complete a p N) list_of list ports
+        alike (ids, ids_count, part) ports is low =
+            let below : AllByRecursion (λ x. x < N) ids = AllByRecursion-from_contains (λ x. x < N) ids (λ x at. AllByRecursion-contains (λ x. x < N) zs x set.1 (part_contains x part at)) in
+            record {
+              ids = ids;
+              count = ids_count ∙ sym is;
+              below = below;
+              lists = AllByRecursion-from_contains (λ x. list_of x ≡ list) ids (λ x at. same x (part_contains x part at));
+              joined = different_joined a p N ids ports ids_count below (part_different part (different_rising zs set.0)) is low;
+            }
 
 -- nothing is shown behind the edges of the last layer
-none_behind : (d e n : ℕ) (x : InputView) → IsTree d e 1 n x → behind_active x ≡ []
+pub none_behind : (d e n : ℕ) (x : InputView) → IsTree d e 1 n x → behind_active x ≡ []
 none_behind d e n leaf h = absurd h
 none_behind d e n end h = refl
 none_behind d e zero (more back label branch rest) h = absurd h
@@ -72,50 +152,39 @@ none_behind d e (suc n) (more back label leaf rest) h = none_behind d e n rest h
 none_behind d e (suc n) (more back label end rest) h = absurd h.2
 none_behind d e (suc n) (more back label (more back' label' branch' rest') rest) h = absurd h.2
 
--- the ends of an edge have different identifiers
-ends_apart : (a N : ℕ) (u w : ℕ) → Has (identifiers a N complete).passive (w ∷ u ∷ []) → u / a ≡ w / a → ⊥
-ends_apart a N u w has e = go (leb w u) (Contains-filter_cases (are_joined a complete) (multisets 2 0 (a * N)) (sorted (w ∷ u ∷ [])) has).1
+-- and a passive node sees those of its own edges alone
+only_payloads : (p a n : ℕ) (v : InputView) → IsTree p a 2 n v → behind_passive v ≡ payloads v
+only_payloads p a n leaf tree = absurd tree
+only_payloads p a n end tree = refl
+only_payloads p a zero (more back label branch rest) tree = absurd tree
+only_payloads p a (suc n) (more back label branch rest) tree =
+    ap (λ (b : List ℕ). (label ∷ b) ++ behind_passive rest) (none_behind a p (pred a) branch tree.2) ∙ ap (λ (r : List ℕ). label ∷ r) (only_payloads p a n rest tree.3)
+
+-- labels around a passive node have different identifiers
+different_around : (a p N : ℕ) (labels : List ℕ) → Has (identifiers a p N (complete a p N)).passive labels → AreDifferent (map (λ u. u / a) labels)
+different_around a p N labels has =
+    let joined : complete a p N (sorted labels) ≡ true = (Contains-filter_cases (complete a p N) (multisets p 0 (a * N)) (sorted labels) has).1 in
+    let ids : List ℕ = map (λ u. u / a) (sorted labels) in
+    let colours : Has (colouring a p N).passive ids = has_config-Has (colouring a p N).passive ids joined in
+    let same : length (support_of (sorted ids)) ≡ length (sorted ids) = eqb-true (length (support_of (sorted ids))) (length (sorted ids))
+    (Contains-filter_cases (λ edges. eqb (length (support_of edges)) (length edges)) (multisets p 0 N) (sorted ids) colours).1 in
+    let different : AreDifferent ids = different_Rearranged (Rearranged-sym (Rearranged-sorted ids)) (different_distinct (sorted ids) (Distinct-support (sorted ids) same)) in
+    different_Rearranged (Rearranged-map (λ u. u / a) (Rearranged-sym (Rearranged-sorted labels))) different
+
+apart_complete : (a p N : ℕ) → AreApart (identifiers a p N (complete a p N)) (λ label. label / a) 0
+apart_complete a p N = record { active = on_active; passive = on_passive }
   where
-    one : eqb (w / a) (u / a) ≡ true
-    one = ap (λ x. eqb x (u / a)) (sym e) ∙ eqb-same (u / a)
-
-    two : eqb (u / a) (w / a) ≡ true
-    two = ap (λ x. eqb x (w / a)) e ∙ eqb-same (w / a)
-
-    go : (b : Bool) → are_joined a complete (cond b (w ∷ u ∷ []) (u ∷ w ∷ [])) ≡ true → ⊥
-    go true h =
-        let o : eqb (w / a) (u / a) ≡ true = one in
-        let t : eqb (u / a) (w / a) ≡ true = two in
-        elim (or-true (not (eqb (w / a) (u / a))) (not (eqb (u / a) (w / a))) h) [ inl f ↦ absurd (cc) | inr f ↦ absurd (cc) ]
-    go false h =
-        let o : eqb (w / a) (u / a) ≡ true = one in
-        let t : eqb (u / a) (w / a) ≡ true = two in
-        elim (or-true (not (eqb (u / a) (w / a))) (not (eqb (w / a) (u / a))) h) [ inl f ↦ absurd (cc) | inr f ↦ absurd (cc) ]
-
-apart_complete : (a N : ℕ) → AreApart (identifiers a N complete) (λ label. label / a) 0
-apart_complete a N = record { active = on_active; passive = on_passive }
-  where
-    on_active : (v : InputView) → IsView a 2 1 v → Fits (identifiers a N complete).active (identifiers a N complete).passive v → AreDifferent (map (λ label. label / a) (shown v))
+    on_active : (v : InputView) → IsView a p 1 v → Fits (identifiers a p N (complete a p N)).active (identifiers a p N (complete a p N)).passive v → AreDifferent (map (λ label. label / a) (shown v))
     on_active leaf view fits = tt
     on_active end view fits = tt
     on_active (more back label branch rest) view fits =
-        subst (λ (labels : List ℕ). AreDifferent (map (λ label. label / a) (label ∷ labels))) (sym (none_behind a 2 a (more back label branch rest) view)) (λ none. Contains-none (label / a) none, tt)
+        subst (λ (labels : List ℕ). AreDifferent (map (λ label. label / a) (label ∷ labels))) (sym (none_behind a p a (more back label branch rest) view)) (λ none. Contains-none (label / a) none, tt)
 
-    on_passive : (v : InputView) → IsView 2 a 2 v → Fits (identifiers a N complete).passive (identifiers a N complete).active v → AreDifferent (map (λ label. label / a) (behind_passive v))
-    on_passive leaf view fits = absurd view
-    on_passive end view fits = absurd view
-    on_passive (more back u branch leaf) view fits = absurd view.3
-    on_passive (more back u branch end) view fits = absurd view.3
-    on_passive (more back u branch (more back' w branch' leaf)) view fits = absurd view.3.3
-    on_passive (more back u branch (more back' w branch' (more back'' x branch'' rest))) view fits = absurd view.3.3
-    on_passive (more back u branch (more back' w branch' end)) view fits =
-        let first : behind_active branch ≡ [] = none_behind a 2 (pred a) branch view.2 in
-        let second : behind_active branch' ≡ [] = none_behind a 2 (pred a) branch' view.3.2 in
-        let apart : u / a ≡ w / a → ⊥ = ends_apart a N u w fits.1.1 in
-        let is : behind_passive (more back u branch (more back' w branch' end)) ≡ u ∷ w ∷ [] =
-        ap (λ (b : List ℕ). (u ∷ b) ++ ((w ∷ behind_active branch') ++ [])) first ∙ ap (λ (b : List ℕ). u ∷ ((w ∷ b) ++ [])) second in
-        subst (λ (labels : List ℕ). AreDifferent (map (λ label. label / a) labels)) (sym is)
-        (λ held. elim (Contains-cases (u / a) (w / a) [] held) [ inl e ↦ apart e | inr none ↦ Contains-none (u / a) none ], (λ none. Contains-none (w / a) none, tt))
+    on_passive : (v : InputView) → IsView p a 2 v → Fits (identifiers a p N (complete a p N)).passive (identifiers a p N (complete a p N)).active v → AreDifferent (map (λ label. label / a) (behind_passive v))
+    on_passive v view fits =
+        let has : Has (identifiers a p N (complete a p N)).passive (payloads v ++ []) =
+        Has-around (identifiers a p N (complete a p N)).passive (identifiers a p N (complete a p N)).active p a 1 p [] v view fits in
+        subst (λ (labels : List ℕ). AreDifferent (map (λ label. label / a) labels)) (append-nil (payloads v) ∙ sym (only_payloads p a p v view)) (different_around a p N (payloads v ++ []) has)
 
-pub Separates-complete : (a N n : ℕ) → 1 ≤ a → 2 ≤ N → n ^ a < N → Separates a N n 0 complete
-Separates-complete a N n some two many = record { edges = edges_complete a N two; joins = joins_complete a N n many; apart = apart_complete a N }
+pub Separates-complete : (a p N n : ℕ) → 1 ≤ a → 1 ≤ p → p ≤ N → (p - 1) * n ^ a < N → Separates a p N n 0 (complete a p N)
+Separates-complete a p N n some some' enough many = record { edges = edges_complete a p N some' enough; joins = joins_complete a p N n some' many; apart = apart_complete a p N }

@@ -1,18 +1,20 @@
--- From one round on the graph that joins all different identifiers doesn't do: two neighbours of a node may be one identifier.
-use Rattle.std.proofs.Common.{◌≡◌, ℕ, zero, suc, pred, ◌+◌, ◌*◌, ◌/◌, ◌≤◌, ◌<◌, List, [], ◌∷◌, ◌++◌, map, refl, arith, append-nil}
+-- From one round on the hypergraph that joins all different identifiers doesn't do: two neighbours of a node may be one identifier.
+use Rattle.std.proofs.Common.{◌≡◌, ℕ, zero, suc, pred, ◌+◌, ◌*◌, ◌/◌, ◌≤◌, ◌<◌, List, [], ◌∷◌, ◌++◌, map, length, sym, ◌∙◌, ap, subst, arith, append-nil}
+use Rattle.std.specs.Prelude.{Contains}
 use Rattle.std.proofs.lemmas.List.Elements.{Contains-append_right}
 use Rattle.re_config.proofs.Rearranging.{Rearranged-refl, Rearranged-sym}
 use Rattle.re_config.specs.Rearranging.{Rearranged, chained}
 use Rattle.re_given.proofs.Fitting.{Rearranged-front}
-use Rattle.re_given.proofs.GrownInputs.{AreSides, active_sides, filled}
+use Rattle.re_given.proofs.GrownInputs.{AreSides, Has-occurs, active_sides, filled, filled_children}
 use Rattle.re_given.proofs.ZeroGiven.{config-Has}
-use Rattle.re_given.specs.Identifiers.{id_labels, identifiers}
 use Rattle.re_given.specs.InputViews.{FitsAround, InputView}
 use Rattle.re_given.specs.Inputs.{IsInput}
-use Rattle.re_labels.proofs.Membership.{Contains-count_from, Contains-here, Contains-map}
+use Rattle.re_labels.proofs.Membership.{Contains-count_from, Contains-here, Contains-later, Contains-map, Distinct-count_from, length-count_from}
 use Rattle.re_labels.specs.Lists.{count_from}
-use Rattle.re_local.proofs.Complete.{edges_complete}
-use Rattle.re_local.proofs.IdentifierInputs.{IsInput-identifiers, edge_there, identifiers_active, identifiers_passive}
+use Rattle.re_local.proofs.Complete.{different_distinct, different_there, edges_complete, some_below}
+use Rattle.re_local.proofs.IdentifierInputs.{IsInput-identifiers, identifiers_active, identifiers_passive}
+use Rattle.re_local.proofs.UnavoidableIdentifiers.{first_ports, length-labels_at, same_port}
+use Rattle.re_local.specs.Identifiers.{id_labels, identifiers, labels_at}
 use Rattle.re_local.specs.LocalAlgorithms.{AreDifferent, behind_active, behind_passive, shown}
 use Rattle.re_local.specs.Separating.{AreApart, complete}
 use Rattle.re_problem.specs.NamedProblems.{OccursIn}
@@ -21,52 +23,83 @@ use Rattle.re_table.proofs.Goodness.{Has-Rearranged}
 use Rattle.re_table.specs.Constraints.{Has}
 use Rattle.re_views.specs.Trees.{IsTree, end, more}
 
--- children with the labels from k on, behind each of which stands the same branch after the label z
-abbrev alike_children : ℕ → InputView → ℕ → ℕ → InputView
-alike_children z c k zero = end
-alike_children z c k (suc m) = more 1 k (more 1 z c end) (alike_children z c (suc k) m)
+-- the degrees are b + 2 and r + 2
+module _ (b r N T : ℕ) (most : suc (suc b) ≤ 6) (most' : suc (suc r) ≤ 6) (many : suc (suc r) ≤ N) where
+  abbrev a : ℕ
+  a = suc (suc b)
 
-module _ (a N T : ℕ) (least : 2 ≤ a) (most : a ≤ 6) (two : 2 ≤ N) where
+  abbrev p : ℕ
+  p = suc (suc r)
+
   abbrev input : Problem
-  input = identifiers a N complete
+  input = identifiers (suc (suc b)) (suc (suc r)) N (complete (suc (suc b)) (suc (suc r)) N)
 
-  is_problem : IsProblem (identifiers a N complete)
-  is_problem = record { active = identifiers_active a N complete least most; passive = identifiers_passive a N complete }
+  is_problem : IsProblem input
+  is_problem = record { active = identifiers_active a p N (complete a p N) (omega arith) most; passive = identifiers_passive a p N (complete a p N) (omega arith) most' }
 
-  is_input : IsInput (identifiers a N complete) (identifiers a N complete)
-  is_input = IsInput-identifiers (identifiers a N complete) N complete is_problem refl (omega arith) (edges_complete a N two)
+  is_input : IsInput input input
+  is_input = IsInput-identifiers input N (complete a p N) is_problem (omega arith) (edges_complete a p N (omega arith) many)
 
-  tree : (c : InputView) → IsTree a 2 T (pred a) c → (k m : ℕ) → IsTree a 2 (suc (suc T)) m (alike_children a c k m)
-  tree c branch k zero = tt
-  tree c branch k (suc m) = (omega arith, omega arith, (omega arith, omega arith, branch, tt), tree c branch (suc k) m)
+  sides : AreSides (a * N) a p input.active input.passive
+  sides = active_sides input input is_input
 
-  beside : (k : ℕ) → k < a → Has (identifiers a N complete).passive (a ∷ k ∷ [])
+  -- the labels of the identifiers behind the second one
+  abbrev others : List ℕ
+  others = labels_at (suc (suc b)) (count_from 2 r) (same_port 0 r)
+
+  -- the first identifier by one of its ports, and all others by their first ones, stand around a passive node
+  beside : (k : ℕ) → k < a → Has input.passive ((0 * a + k) ∷ (1 * a + 0) ∷ others)
   beside k l =
-      let one : 1 * a + 0 ≡ a = omega arith in
-      let other : 0 * a + k ≡ k = omega arith in
-      let there : Has (identifiers a N complete).passive ((1 * a + 0) ∷ (0 * a + k) ∷ []) = edge_there a N complete 1 0 0 k (omega arith) (omega arith) (omega arith) l refl in
-      rw (one, other) at there
+      let (count, low) = first_ports a (suc r) 0 (omega arith) in
+      different_there a p N (count_from 0 p) (k ∷ same_port 0 (suc r)) (length-count_from 0 p) (some_below N p many) (different_distinct (count_from 0 p) (Distinct-count_from 0 p)) (ap suc count) (l, low)
 
-  fits : (c : InputView) → FitsAround (identifiers a N complete).active (identifiers a N complete).passive (a ∷ []) c → (k m : ℕ) (seen : List ℕ) → k + m ≤ a → Rearranged (count_from k m ++ seen) (id_labels a 0)
-      → FitsAround (identifiers a N complete).active (identifiers a N complete).passive seen (alike_children a c k m)
-  fits c branch k zero seen l order =
-      Has-Rearranged (identifiers a N complete).active (Rearranged-sym order)
-      (config-Has (a * N) (identifiers a N complete).active (id_labels a 0) is_problem.active (Contains-map (id_labels a) (count_from 0 N) 0 (Contains-count_from 0 N 0 (omega arith) (omega arith))))
-  fits c branch k (suc m) seen l order =
-      ((branch, beside k (omega arith)), fits c branch (suc k) m (k ∷ seen) (omega arith) (chained (Rearranged-front (count_from (suc k) m) k seen) order))
+  occurs : (k : ℕ) → k < a → (y : ℕ) → Contains ((0 * a + k) ∷ (1 * a + 0) ∷ others) y → OccursIn input.active y
+  occurs k l y at = (sides.occurs y).1 (Has-occurs input.passive ((0 * a + k) ∷ (1 * a + 0) ∷ others) y (beside k l) at)
 
-  twice : (c : InputView) (m : ℕ) → m ≡ a → AreDifferent (map (λ label. label / a) (shown (alike_children a c 0 m))) → ⊥
-  twice c zero e h = omega (arith, e)
-  twice c (suc zero) e h = omega (arith, e)
-  twice c (suc (suc m)) e h =
-      let rest : List ℕ = behind_passive (more 1 a c end) ++ behind_active (alike_children a c 2 m) in
-      h.1.0 (Contains-map (λ label. label / a) ((behind_active c ++ []) ++ rest) a (Contains-append_right (behind_active c ++ []) rest a (Contains-here a ((behind_active c ++ []) ++ behind_active (alike_children a c 2 m)))))
+  -- behind a port of the first identifier, with the second one first
+  behind : (k : ℕ) → k < a → (c : InputView) × (rest : InputView) × IsTree p a (suc T) (pred p) (more 1 (1 * a + 0) c rest) × FitsAround input.passive input.active (k ∷ []) (more 1 (1 * a + 0) c rest)
+  behind k l =
+      let one : 0 * a + k ≡ k = omega arith in
+      let has : Has input.passive (k ∷ (1 * a + 0) ∷ others) = subst (λ z. Has input.passive (z ∷ (1 * a + 0) ∷ others)) one (beside k l) in
+      let (c, c_tree, c_fits) = filled (a * N) a p input.active input.passive T (1 * a + 0) sides (occurs k l (1 * a + 0) (Contains-later (1 * a + 0) (0 * a + k) ((1 * a + 0) ∷ others) (Contains-here (1 * a + 0) others))) in
+      let last : Has input.passive (((1 * a + 0) ∷ others) ++ (k ∷ [])) =
+      Has-Rearranged input.passive (Rearranged-sym (Rearranged-front ((1 * a + 0) ∷ others) k [])) (subst (λ labels. Has input.passive (k ∷ labels)) (sym (append-nil ((1 * a + 0) ∷ others))) has) in
+      let (rest, tree, fits) = filled_children p a T input.passive input.active others ((1 * a + 0) ∷ k ∷ []) (omega arith)
+      (λ y at. filled (a * N) a p input.active input.passive T y sides (occurs k l y (Contains-later y (0 * a + k) ((1 * a + 0) ∷ others) (Contains-later y (1 * a + 0) others at))))
+      (Has-Rearranged input.passive (Rearranged-sym (Rearranged-front others (1 * a + 0) (k ∷ []))) last) in
+      let few : length others ≡ r = length-labels_at a (count_from 2 r) (same_port 0 r) (length-count_from 2 r ∙ sym (first_ports a r 0 (omega arith)).0) ∙ (first_ports a r 0 (omega arith)).0 in
+      (c, rest, (omega arith, omega arith, c_tree, subst (λ m. IsTree p a (suc T) m rest) few tree), (c_fits, fits))
 
-  pub complete_limit : AreApart (identifiers a N complete) (λ label. label / a) (suc T) → ⊥
-  complete_limit apart =
-      let sides : AreSides (a * N) a 2 (identifiers a N complete).active (identifiers a N complete).passive = active_sides (identifiers a N complete) (identifiers a N complete) is_input in
+  children : (k m : ℕ) (seen : List ℕ) → k + m ≤ a → Rearranged (count_from k m ++ seen) (id_labels a 0) → (v : InputView) × IsTree a p (suc (suc T)) m v × FitsAround input.active input.passive seen v
+  children k zero seen l order =
+      (end, tt, Has-Rearranged input.active (Rearranged-sym order) (config-Has (a * N) input.active (id_labels a 0) is_problem.active (Contains-map (id_labels a) (count_from 0 N) 0 (Contains-count_from 0 N 0 (omega arith) (omega arith)))))
+  children k (suc m) seen l order =
+      let (c, b', tree, fits) = behind k (omega arith) in
+      let (rest, rest_tree, rest_fits) = children (suc k) m (k ∷ seen) (omega arith) (chained (Rearranged-front (count_from (suc k) m) k seen) order) in
+      (more 1 k (more 1 (1 * a + 0) c b') rest, (omega arith, omega arith, tree, rest_tree), (fits, rest_fits))
+
+  twice : (c b' d e rest : InputView) → AreDifferent (map (λ label. label / a) (shown (more 1 0 (more 1 (1 * a + 0) c b') (more 1 1 (more 1 (1 * a + 0) d e) rest)))) → ⊥
+  twice c b' d e rest h =
+      let x : ℕ = 1 * a + 0 in
+      let mine : List ℕ = behind_active c ++ behind_passive b' in
+      let last : List ℕ = (behind_active d ++ behind_passive e) ++ behind_active rest in
+      h.1.0 (Contains-map (λ label. label / a) (mine ++ (x ∷ last)) x (Contains-append_right mine (x ∷ last) x (Contains-here x last)))
+
+  pub limit : AreApart input (λ label. label / suc (suc b)) (suc T) → ⊥
+  limit apart =
       let start : 0 * a ≡ 0 = omega arith in
-      let occurs : OccursIn (identifiers a N complete).active a = (id_labels a 1, Contains-map (id_labels a) (count_from 0 N) 1 (Contains-count_from 0 N 1 (omega arith) (omega arith)), Contains-count_from (1 * a) a a (omega arith) (omega arith)) in
-      let (c, c_tree, c_fits) = filled (a * N) a 2 (identifiers a N complete).active (identifiers a N complete).passive T a sides occurs in
       let order : Rearranged (count_from 0 a ++ []) (id_labels a 0) = rw (append-nil (count_from 0 a), start) (Rearranged-refl (count_from 0 a)) in
-      twice c a refl (apart.active (alike_children a c 0 a) (tree c c_tree 0 a) (fits c c_fits 0 a [] (omega arith) order))
+      let second : Rearranged (count_from 1 (suc b) ++ (0 ∷ [])) (id_labels a 0) = chained (Rearranged-front (count_from 1 (suc b)) 0 []) order in
+      let third : Rearranged (count_from 2 b ++ (1 ∷ 0 ∷ [])) (id_labels a 0) = chained (Rearranged-front (count_from 2 b) 1 (0 ∷ [])) second in
+      let (c, b', tree, fits) = behind 0 (omega arith) in
+      let (d, e, tree', fits') = behind 1 (omega arith) in
+      let (rest, rest_tree, rest_fits) = children 2 b (1 ∷ 0 ∷ []) (omega arith) third in
+      twice c b' d e rest
+      (apart.active (more 1 0 (more 1 (1 * a + 0) c b') (more 1 1 (more 1 (1 * a + 0) d e) rest)) (omega arith, omega arith, tree, (omega arith, omega arith, tree', rest_tree)) (fits, (fits', rest_fits)))
+
+pub complete_limit : (a p N T : ℕ) → 2 ≤ a → a ≤ 6 → 2 ≤ p → p ≤ 6 → p ≤ N → AreApart (identifiers a p N (complete a p N)) (λ label. label / a) (suc T) → ⊥
+complete_limit zero p N T least most least' most' many apart = absurd (omega (arith, least))
+complete_limit (suc zero) p N T least most least' most' many apart = absurd (omega (arith, least))
+complete_limit (suc (suc b)) zero N T least most least' most' many apart = absurd (omega (arith, least'))
+complete_limit (suc (suc b)) (suc zero) N T least most least' most' many apart = absurd (omega (arith, least'))
+complete_limit (suc (suc b)) (suc (suc r)) N T least most least' most' many apart = limit b r N T most most' many apart

@@ -1,12 +1,12 @@
--- A graph that separates for some rounds separates for fewer.
-use Rattle.std.proofs.Common.{◌≡◌, ℕ, zero, suc, ◌+◌, ◌-◌, ◌/◌, ◌≤◌, List, [], ◌∷◌, ◌++◌, map, refl, sym, subst, arith, inl, inr}
+-- A hypergraph that separates for some rounds separates for fewer.
+use Rattle.std.proofs.Common.{◌≡◌, ℕ, zero, suc, ◌+◌, ◌-◌, ◌/◌, ◌≤◌, ◌<◌, List, [], ◌∷◌, ◌++◌, map, sym, subst, arith, inl, inr}
 use Rattle.std.specs.Prelude.{Contains}
 use Rattle.re_given.proofs.GrownInputs.{active_sides, grown_children, passive_sides}
-use Rattle.re_given.specs.Identifiers.{IdGraph, identifiers}
 use Rattle.re_given.specs.InputViews.{InputView}
 use Rattle.re_given.specs.Inputs.{IsInput}
 use Rattle.re_labels.proofs.Membership.{Contains-cases, Contains-here, Contains-later}
 use Rattle.re_local.proofs.IdentifierInputs.{IsInput-identifiers, identifiers_active, identifiers_passive, some_identifier}
+use Rattle.re_local.specs.Identifiers.{IdHypergraph, identifiers}
 use Rattle.re_local.specs.LocalAlgorithms.{AreDifferent, behind_active, behind_passive, shown}
 use Rattle.re_local.specs.Separating.{AreApart, Separates}
 use Rattle.re_problem.specs.Problems.{IsProblem, Problem}
@@ -32,7 +32,7 @@ part_map f none = none
 part_map f (left_out h) = left_out (part_map f h)
 part_map f (held h) = held (part_map f h)
 
-part_contains : {xs ys : List ℕ} (z : ℕ) → IsPart xs ys → Contains xs z → Contains ys z
+pub part_contains : {xs ys : List ℕ} (z : ℕ) → IsPart xs ys → Contains xs z → Contains ys z
 part_contains z none at = at
 part_contains z (left_out {x = x} {ys = ys} h) at = Contains-later z x ys (part_contains z h at)
 part_contains z (held {x = x} {xs = xs} {ys = ys} h) at = elim (Contains-cases z x xs at) [
@@ -80,13 +80,15 @@ AreApart-less : (input : Problem) (id : ℕ → ℕ) (less T : ℕ) → IsInput 
 AreApart-less input id zero T is apart = subst (AreApart input id) (omega arith) apart
 AreApart-less input id (suc less) T is apart = AreApart-less input id less T is (AreApart-fewer input id (less + T) is (subst (AreApart input id) (omega arith) apart))
 
-pub Separates-fewer : (a N n S T : ℕ) (graph : IdGraph) → 2 ≤ a → a ≤ 6 → T ≤ S → Separates a N n S graph → Separates a N n T graph
-Separates-fewer a N n S T graph least most l separates = record {
+pub Separates-fewer : (a p N n S T : ℕ) (hyper : IdHypergraph) → 2 ≤ a → a ≤ 6 → 2 ≤ p → p ≤ 6 → T ≤ S → Separates a p N n S hyper → Separates a p N n T hyper
+Separates-fewer a p N n S T hyper least most least' most' l separates = record {
   edges = separates.edges;
   joins = separates.joins;
   apart =
-      let is_problem : IsProblem (identifiers a N graph) = record { active = identifiers_active a N graph least most; passive = identifiers_passive a N graph } in
-      let is_input : IsInput (identifiers a N graph) (identifiers a N graph) = IsInput-identifiers (identifiers a N graph) N graph is_problem refl (some_identifier a N n graph (omega arith) separates.joins) separates.edges in
+      let input : Problem = identifiers a p N hyper in
+      let is_problem : IsProblem input = record { active = identifiers_active a p N hyper least most; passive = identifiers_passive a p N hyper least' most' } in
+      let some : 0 < N = some_identifier a p N n hyper (omega arith) (omega arith) separates.joins in
+      let is_input : IsInput input input = IsInput-identifiers input N hyper is_problem some separates.edges in
       let same : S ≡ S - T + T = omega arith in
-      AreApart-less (identifiers a N graph) (λ label. label / a) (S - T) T is_input (subst (AreApart (identifiers a N graph) (λ label. label / a)) same separates.apart);
+      AreApart-less input (λ label. label / a) (S - T) T is_input (subst (AreApart input (λ label. label / a)) same separates.apart);
 }

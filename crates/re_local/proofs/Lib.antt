@@ -8,4 +8,6 @@ pub mod LocalGiven
 pub mod MoreLocal
 pub mod NoRoom
 pub mod Sinkless
+pub mod Supports
 pub mod Towers
+pub mod UnavoidableIdentifiers

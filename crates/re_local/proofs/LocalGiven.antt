@@ -14,14 +14,14 @@ use Rattle.re_families.proofs.Whole.{alike_rise}
 use Rattle.re_given.proofs.GivenTables.{SolvableGiven-by}
 use Rattle.re_given.proofs.Relabelled.{IsTree-relabelled, backs-relabelled, relabelled, relabelled-known, relabelled-shift}
 use Rattle.re_given.specs.Given.{SolvableGiven, SolvesGivenBy, around_known}
-use Rattle.re_given.specs.Identifiers.{IdGraph, are_joined, id_labels, identifiers}
 use Rattle.re_given.specs.InputViews.{FitsAround, InputView, known}
 use Rattle.re_given.specs.Inputs.{IsInput}
 use Rattle.re_labels.proofs.Membership.{AllByRecursion-contains, AllByRecursion-from_contains, AllByRecursion-weaker, Contains-count_from, Contains-filter_cases, Contains-map, Contains-map_cases, count_from_range}
 use Rattle.re_labels.specs.Lists.{count_from}
 use Rattle.re_laws.proofs.Ports.{map-count}
 use Rattle.re_laws.specs.Algorithms.{at_port}
-use Rattle.re_local.specs.LocalAlgorithms.{AreDifferent, SolvableLabelled, SolvableLocal, SolvesApart, behind_active, behind_passive, labelled, named, shown}
+use Rattle.re_local.specs.Identifiers.{IdHypergraph, id_labels, identifiers}
+use Rattle.re_local.specs.LocalAlgorithms.{AreDifferent, SolvableLabelled, SolvableLocal, SolvesApart, behind_active, behind_passive, labelled, identified, shown}
 use Rattle.re_local.specs.Separating.{AreApart}
 use Rattle.re_problem.proofs.StepLaws.{map-map}
 use Rattle.re_problem.specs.Problems.{Problem}
@@ -101,7 +101,7 @@ alike_labels a x i (suc n) l =
     subst (λ start. map (λ label. label / a) (count_from start n) ≡ replicate n x) next (alike_labels a x (suc i) n (omega arith)) in
     rw (first, rest) refl
 
-named_active : (a p N : ℕ) → TakesTo (λ label. label / a) (labelled a p N).active (named a p N).active
+named_active : (a p N : ℕ) → TakesTo (λ label. label / a) (labelled a p N).active (identified a p N).active
 named_active a p N labels has =
     let (x, held, is) = Contains-map_cases (id_labels a) (count_from 0 N) (sorted labels) has in
     let start : x * a + 0 ≡ x * a = omega arith in
@@ -114,7 +114,7 @@ divided_below : (a N x : ℕ) → x < a * N → x / a < N
 divided_below zero N x l = absurd (let none : 0 * N ≡ 0 = omega arith in omega arith)
 divided_below (suc a) N x l = div_below x (suc a) N (omega arith) (rw (mul_comm N (suc a)) l)
 
-named_passive : (a p N : ℕ) → TakesTo (λ label. label / a) (labelled a p N).passive (named a p N).passive
+named_passive : (a p N : ℕ) → TakesTo (λ label. label / a) (labelled a p N).passive (identified a p N).passive
 named_passive a p N labels has =
     let is : IsConfig p (a * N) (sorted labels) = ((multisets_law p (a * N)).1 (sorted labels)).0 has in
     let count : length (map (λ label. label / a) labels) ≡ p = length-map labels (λ label. label / a) ∙ (sym (length-sorted labels) ∙ is.count) in
@@ -133,18 +133,18 @@ SolvableLabelled-local problem N T (f, solves) =
     let a : ℕ = problem.active.degree in
     let p : ℕ = problem.passive.degree in (
       λ k. f (relabelled (λ label. label / problem.active.degree) k),
-      SolvesApart-taken problem (labelled a p N) (named a p N) (λ label. label / a) (λ x. x) T f (named_active a p N) (named_passive a p N) solves,
+      SolvesApart-taken problem (labelled a p N) (identified a p N) (λ label. label / a) (λ x. x) T f (named_active a p N) (named_passive a p N) solves,
     )
 
 -- ---- fewer identifiers
-wider_active : (a p N wide : ℕ) → N ≤ wide → TakesTo (λ x. x) (named a p N).active (named a p wide).active
+wider_active : (a p N wide : ℕ) → N ≤ wide → TakesTo (λ x. x) (identified a p N).active (identified a p wide).active
 wider_active a p N wide l labels has =
     let (x, held, is) = Contains-map_cases (replicate a) (count_from 0 N) (sorted labels) has in
     let there : Contains (map (replicate a) (count_from 0 wide)) (sorted labels) =
     subst (Contains (map (replicate a) (count_from 0 wide))) is (Contains-map (replicate a) (count_from 0 wide) x (Contains-count_from 0 wide x (omega arith) (let m = (count_from_range 0 N x held).1 in omega arith))) in
     rw (map-id labels) there
 
-wider_passive : (a p N wide : ℕ) → N ≤ wide → TakesTo (λ x. x) (named a p N).passive (named a p wide).passive
+wider_passive : (a p N wide : ℕ) → N ≤ wide → TakesTo (λ x. x) (identified a p N).passive (identified a p wide).passive
 wider_passive a p N wide l labels has =
     let is : IsConfig p N (sorted labels) = ((multisets_law p N).1 (sorted labels)).0 has in
     let wider : IsConfig p wide (sorted labels) = record { count = is.count; below = AllByRecursion-weaker (λ x. x < N) (λ x. x < wide) (λ x i. omega arith) (sorted labels) is.below; ascends = is.ascends } in
@@ -155,15 +155,15 @@ SolvableLocal-fewer problem N wide T l (f, solves) =
     let a : ℕ = problem.active.degree in
     let p : ℕ = problem.passive.degree in (
       λ k. f (relabelled (λ x. x) k),
-      SolvesApart-taken problem (named a p N) (named a p wide) (λ x. x) (λ x. x) T f (wider_active a p N wide l) (wider_passive a p N wide l) solves,
+      SolvesApart-taken problem (identified a p N) (identified a p wide) (λ x. x) (λ x. x) T f (wider_active a p N wide l) (wider_passive a p N wide l) solves,
     )
 
--- ---- given the identifiers of a graph
-labelled_active : (a p N : ℕ) (graph : IdGraph) → TakesTo (λ label. label) (identifiers a N graph).active (labelled a p N).active
-labelled_active a p N graph labels has = rw (map-id labels) has
+-- ---- given the identifiers of a hypergraph
+labelled_active : (a p N : ℕ) (hyper : IdHypergraph) → TakesTo (λ label. label) (identifiers a p N hyper).active (labelled a p N).active
+labelled_active a p N hyper labels has = rw (map-id labels) has
 
-labelled_passive : (a N : ℕ) (graph : IdGraph) → TakesTo (λ label. label) (identifiers a N graph).passive (labelled a 2 N).passive
-labelled_passive a N graph labels has = rw (map-id labels) (Contains-filter_cases (are_joined a graph) (multisets 2 0 (a * N)) (sorted labels) has).0
+labelled_passive : (a p N : ℕ) (hyper : IdHypergraph) → TakesTo (λ label. label) (identifiers a p N hyper).passive (labelled a p N).passive
+labelled_passive a p N hyper labels has = rw (map-id labels) (Contains-filter_cases hyper (multisets p 0 (a * N)) (sorted labels) has).0
 
 SolvesGivenBy-apart : (problem input : Problem) (id : ℕ → ℕ) (T : ℕ) (f : InputView → List ℕ) → IsInput problem input → AreApart input id T → SolvesApart problem input id T f → SolvesGivenBy problem input T f
 SolvesGivenBy-apart problem input id T f is apart solves = record {
@@ -175,13 +175,12 @@ SolvesGivenBy-apart problem input id T f is apart solves = record {
       solves.passive v view fits (apart.passive v here fits);
 }
 
-pub SolvableGiven-labelled : (problem : Problem) (N T : ℕ) (graph : IdGraph) → IsInput problem (identifiers problem.active.degree N graph) → AreApart (identifiers problem.active.degree N graph) (λ label. label / problem.active.degree) T
-    → SolvableLabelled problem N T → SolvableGiven problem (identifiers problem.active.degree N graph) T
-SolvableGiven-labelled problem N T graph is apart (f, solves) =
+pub SolvableGiven-labelled : (problem : Problem) (N T : ℕ) (hyper : IdHypergraph) → let input : Problem = identifiers problem.active.degree problem.passive.degree N hyper in
+    IsInput problem input → AreApart input (λ label. label / problem.active.degree) T → SolvableLabelled problem N T → SolvableGiven problem input T
+SolvableGiven-labelled problem N T hyper is apart (f, solves) =
     let a : ℕ = problem.active.degree in
-    let input : Problem = identifiers a N graph in
-    let edges : 2 ≡ problem.passive.degree = is.passive_degree in
-    let here : SolvesApart problem (labelled a 2 N) (λ label. label / a) T f = subst (λ p. SolvesApart problem (labelled a p N) (λ label. label / a) T f) (sym edges) solves in
+    let p : ℕ = problem.passive.degree in
+    let input : Problem = identifiers a p N hyper in
     SolvableGiven-by problem input T (λ k. f (relabelled (λ label. label) k)) is
     (SolvesGivenBy-apart problem input (λ label. label / a) T (λ k. f (relabelled (λ label. label) k)) is apart
-    (SolvesApart-taken problem input (labelled a 2 N) (λ label. label) (λ label. label / a) T f (labelled_active a 2 N graph) (labelled_passive a N graph) here))
+    (SolvesApart-taken problem input (labelled a p N) (λ label. label) (λ label. label / a) T f (labelled_active a p N hyper) (labelled_passive a p N hyper) solves))

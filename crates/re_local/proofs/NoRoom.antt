@@ -15,7 +15,7 @@ use Rattle.re_labels.proofs.Membership.{AllByRecursion-contains, Contains-cases,
 use Rattle.re_labels.specs.Lists.{count_from}
 use Rattle.re_local.proofs.ColouredLocal.{all_alike}
 use Rattle.re_local.proofs.FewerRounds.{IsPart, held, left_out, none, part_different}
-use Rattle.re_local.specs.LocalAlgorithms.{AreDifferent, behind_active, behind_passive, named, shown}
+use Rattle.re_local.specs.LocalAlgorithms.{AreDifferent, behind_active, behind_passive, identified, shown}
 use Rattle.re_local.specs.Shown.{LinearRoomLaw, LogarithmicRoomLaw, NoRoomLaw, NodesSeenLaw, nodes_behind, nodes_seen}
 use Rattle.re_table.specs.Constraints.{Has}
 use Rattle.re_views.specs.Trees.{IsTree, IsView, end, leaf, more}
@@ -144,12 +144,12 @@ module _ (a p : ℕ) where
 
 -- ---- the identifiers that a tree shows
 module _ (a p N : ℕ) where
-  passive_below : (labels : List ℕ) → Has (named a p N).passive labels → (y : ℕ) → Contains labels y → y < N
+  passive_below : (labels : List ℕ) → Has (identified a p N).passive labels → (y : ℕ) → Contains labels y → y < N
   passive_below labels has y at =
       let is : IsConfig p N (sorted labels) = ((multisets_law p N).1 (sorted labels)).0 has in
       AllByRecursion-contains (λ y. y < N) (sorted labels) y is.below (Contains-Rearranged y (Rearranged-sorted labels) at)
 
-  active_below : (labels : List ℕ) → Has (named a p N).active labels → (y : ℕ) → Contains labels y → y < N
+  active_below : (labels : List ℕ) → Has (identified a p N).active labels → (y : ℕ) → Contains labels y → y < N
   active_below labels has y at =
       let (x, there, is) = Contains-map_cases (replicate a) (count_from 0 N) (sorted labels) has in
       let low = (count_from_range 0 N x there).1 in
@@ -158,7 +158,7 @@ module _ (a p N : ℕ) where
       omega (arith, low, same)
 
   mutual
-    low_active : (t n : ℕ) (seen : List ℕ) (x : InputView) → IsTree a p t n x → FitsAround (named a p N).active (named a p N).passive seen x
+    low_active : (t n : ℕ) (seen : List ℕ) (x : InputView) → IsTree a p t n x → FitsAround (identified a p N).active (identified a p N).passive seen x
         → (z : ℕ) → Contains (behind_active x) z → z < N
     low_active t n seen leaf tree fits z at = absurd (Contains-none z at)
     low_active t n seen end tree fits z at = absurd (Contains-none z at)
@@ -170,7 +170,7 @@ module _ (a p N : ℕ) where
           | inr there ↦ low_active (suc t) n (label ∷ seen) rest tree.3 fits.1 z there
         ]
 
-    low_passive : (t n : ℕ) (seen : List ℕ) (x : InputView) → IsTree p a t n x → FitsAround (named a p N).passive (named a p N).active seen x
+    low_passive : (t n : ℕ) (seen : List ℕ) (x : InputView) → IsTree p a t n x → FitsAround (identified a p N).passive (identified a p N).active seen x
         → (z : ℕ) → Contains (behind_passive x) z → z < N
     low_passive t n seen leaf tree fits z at = absurd (Contains-none z at)
     low_passive t n seen end tree fits z at = absurd (Contains-none z at)
@@ -179,7 +179,7 @@ module _ (a p N : ℕ) where
     low_passive (suc t) (suc n) seen (more back label branch rest) tree fits z at =
         let all : (y : ℕ) → Contains (label ∷ payloads rest ++ seen) y → y < N =
         passive_below (label ∷ payloads rest ++ seen)
-        (Has-around (named a p N).passive (named a p N).active p a t (suc n) seen (more back label branch rest) tree fits) in
+        (Has-around (identified a p N).passive (identified a p N).active p a t (suc n) seen (more back label branch rest) tree fits) in
         elim (Contains-append_cases (label ∷ behind_active branch) (behind_passive rest) z at) [
           | inl here ↦ elim (Contains-cases z label (behind_active branch) here) [
             | inl e ↦ subst (λ w. w < N) (sym e) (all label (Contains-here label (payloads rest ++ seen)))
@@ -189,13 +189,13 @@ module _ (a p N : ℕ) where
         ]
 
   -- a view of an active node shows no more nodes than there are identifiers, where they are different
-  room_active : (T : ℕ) (v : InputView) → 1 ≤ a → 1 ≤ p → IsView a p (suc T) v → Fits (named a p N).active (named a p N).passive v → AreDifferent (shown v)
+  room_active : (T : ℕ) (v : InputView) → 1 ≤ a → 1 ≤ p → IsView a p (suc T) v → Fits (identified a p N).active (identified a p N).passive v → AreDifferent (shown v)
       → nodes_seen a p T ≤ N
   room_active T leaf some some' view fits d = absurd view
   room_active T end some some' view fits d = let count = shown_nodes a p T end some some' view in omega (arith, count)
   room_active T (more back label branch rest) some some' view fits d =
       let v : InputView = more back label branch rest in
-      let around : Has (named a p N).active (payloads v ++ []) = Has-around (named a p N).active (named a p N).passive a p T a [] v view fits in
+      let around : Has (identified a p N).active (payloads v ++ []) = Has-around (identified a p N).active (identified a p N).passive a p T a [] v view fits in
       let own : label < N = active_below (payloads v ++ []) around label (Contains-here label (payloads rest ++ [])) in
       let few : length (shown v) ≤ N = few_different N (shown v) d (λ z at. elim (Contains-cases z label (behind_active v) at) [
         | inl e ↦ subst (λ w. w < N) (sym e) own
@@ -205,7 +205,7 @@ module _ (a p N : ℕ) where
       omega (arith, few, count)
 
   -- nor does one of a passive node
-  room_passive : (T : ℕ) (v : InputView) → 2 ≤ a → 2 ≤ p → IsView p a (suc (suc T)) v → Fits (named a p N).passive (named a p N).active v
+  room_passive : (T : ℕ) (v : InputView) → 2 ≤ a → 2 ≤ p → IsView p a (suc (suc T)) v → Fits (identified a p N).passive (identified a p N).active v
       → AreDifferent (behind_passive v) → nodes_seen a p T ≤ N
   room_passive T v two two' view fits d =
       let few : length (behind_passive v) ≤ N = few_different N (behind_passive v) d (low_passive (suc (suc T)) p [] v view fits) in

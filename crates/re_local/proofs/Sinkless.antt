@@ -4,7 +4,6 @@ use Rattle.std.specs.List.{AllByRecursion}
 use Rattle.re_config.specs.Orders.{placements}
 use Rattle.re_labels.specs.Sets.{set_of}
 use Rattle.re_given.proofs.Worked.{back_relaxed, turn, twice_is, two_steps}
-use Rattle.re_given.specs.Identifiers.{IdGraph}
 use Rattle.re_given.specs.Unavoidable.{reached}
 use Rattle.re_laws.proofs.SlowRounds.{Solvable-from_derived}
 use Rattle.re_laws.proofs.Worked.{relaxed_sinkless_not_solvable}
@@ -14,6 +13,7 @@ use Rattle.re_laws.specs.Chains.{IsLowerChain}
 use Rattle.re_local.proofs.Complete.{Separates-complete}
 use Rattle.re_local.proofs.LocalBounds.{fixed_point_local}
 use Rattle.re_local.proofs.LocalGiven.{SolvableLabelled-local}
+use Rattle.re_local.specs.Identifiers.{IdHypergraph}
 use Rattle.re_local.specs.LocalAlgorithms.{SolvableLocal}
 use Rattle.re_local.specs.Separating.{Separates, complete}
 use Rattle.re_problem.proofs.Examples.{IsProblem-relaxed_sinkless, relaxed_sinkless_twice}
@@ -34,10 +34,10 @@ twice_not_Zero holds =
 few : AllByRecursion (λ (problem : Problem). problem.labels ≤ 2) (relaxed_sinkless ∷ reached two_steps)
 few = (omega arith, (once_few, (subst (λ (problem : Problem). problem.labels ≤ 2) (sym relaxed_sinkless_twice) (omega arith), tt)))
 
-pub sinkless_local : (N T : ℕ) (graph : IdGraph) → Separates 3 N 2 T graph → SolvableLocal relaxed_sinkless N T → ⊥
-sinkless_local N T graph separates h =
-    fixed_point_local relaxed_sinkless relaxed_sinkless (derived_by 2 relaxed_sinkless) 0 1 2 N T turn graph IsProblem-relaxed_sinkless refl chain.IsLowerChain.done two_steps back_relaxed twice_not_Zero few separates
+pub sinkless_local : (N T : ℕ) (hyper : IdHypergraph) → Separates 3 2 N 2 T hyper → SolvableLocal relaxed_sinkless N T → ⊥
+sinkless_local N T hyper separates h =
+    fixed_point_local relaxed_sinkless relaxed_sinkless (derived_by 2 relaxed_sinkless) 0 1 2 N T turn hyper IsProblem-relaxed_sinkless chain.IsLowerChain.done two_steps back_relaxed twice_not_Zero few separates
     (SolvableLabelled-local relaxed_sinkless N T h)
 
 pub sinkless_at_once : (N : ℕ) → 8 < N → SolvableLocal relaxed_sinkless N 0 → ⊥
-sinkless_at_once N many = sinkless_local N 0 complete (Separates-complete 3 N 2 (omega arith) (omega arith) many)
+sinkless_at_once N many = sinkless_local N 0 (complete 3 2 N) (Separates-complete 3 2 N 2 (omega arith) (omega arith) (omega arith) (omega arith))

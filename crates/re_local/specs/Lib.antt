@@ -1,4 +1,5 @@
 pub mod Examples
+pub mod Identifiers
 pub mod Laws
 pub mod LocalAlgorithms
 pub mod Separating

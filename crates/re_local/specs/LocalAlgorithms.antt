@@ -2,7 +2,7 @@
 use Rattle.std.specs.Prelude.{ℕ, suc, ◌*◌, ◌/◌, List, [], ◌∷◌, ◌++◌, map, replicate, Contains}
 use Rattle.re_config.specs.Orders.{multisets}
 use Rattle.re_given.specs.Given.{around_known}
-use Rattle.re_given.specs.Identifiers.{id_labels}
+use Rattle.re_local.specs.Identifiers.{id_labels}
 use Rattle.re_given.specs.InputViews.{Fits, InputView, known}
 use Rattle.re_labels.specs.Lists.{count_from}
 use Rattle.re_problem.specs.Problems.{Problem}
@@ -43,8 +43,8 @@ pub record SolvesApart (problem input : Problem) (id : ℕ → ℕ) (T : ℕ) (a
       AreDifferent (map id (behind_passive v)) → Has problem.passive (around_known problem.passive.degree T algorithm v)
 
 -- each active node has an identifier below N, which stands on all its edges, and nothing is said of who is beside whom
-abbrev pub named : ℕ → ℕ → ℕ → Problem
-named a p N = record {
+abbrev pub identified : ℕ → ℕ → ℕ → Problem
+identified a p N = record {
   labels = N;
   active = record { degree = a; configs = map (replicate a) (count_from 0 N) };
   passive = record { degree = p; configs = multisets p 0 N };
@@ -61,7 +61,7 @@ labelled a p N = record {
 -- some local algorithm of T rounds, a function of the identifiers and port numbers that a node knows, solves the problem
 abbrev pub SolvableLocal : Problem → ℕ → ℕ → Type 0
 SolvableLocal problem N T =
-    (algorithm : InputView → List ℕ) × SolvesApart problem (named problem.active.degree problem.passive.degree N) (λ x. x) T algorithm
+    (algorithm : InputView → List ℕ) × SolvesApart problem (identified problem.active.degree problem.passive.degree N) (λ x. x) T algorithm
 
 -- also where nodes know, of each edge, which of its labels the identifier has there
 abbrev pub SolvableLabelled : Problem → ℕ → ℕ → Type 0

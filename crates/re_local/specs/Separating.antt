@@ -1,9 +1,12 @@
--- Graphs of identifiers on whose trees all identifiers that a node of so many rounds sees are different.
-use Rattle.std.specs.Prelude.{◌≡◌, ℕ, suc, ◌/◌, ◌<◌, true, ◌||◌, ◌==◌, not, map}
-use Rattle.re_given.specs.Identifiers.{IdGraph, JoinsAlike, identifiers}
+-- Hypergraphs of identifiers on whose trees all identifiers that a node of so many rounds sees are different.
+use Rattle.std.specs.Prelude.{ℕ, suc, ◌+◌, ◌*◌, ◌/◌, ◌<◌, map}
 use Rattle.re_given.specs.InputViews.{Fits, InputView}
+use Rattle.re_given.specs.Unavoidable.{colouring}
+use Rattle.re_local.specs.Identifiers.{IdHypergraph, JoinsAlike, identifiers}
 use Rattle.re_local.specs.LocalAlgorithms.{AreDifferent, behind_passive, shown}
+use Rattle.re_problem.specs.NamedProblems.{OccursIn}
 use Rattle.re_problem.specs.Problems.{Problem}
+use Rattle.re_table.specs.Constraints.{has_config}
 use Rattle.re_views.specs.Trees.{IsView}
 
 -- wherever the input labels fit, the active nodes that are shown have different identifiers
@@ -13,21 +16,17 @@ pub record AreApart (input : Problem) (id : ℕ → ℕ) (T : ℕ) : Type 0 wher
   pub passive : (v : InputView) → IsView input.passive.degree input.active.degree (suc (suc T)) v → Fits input.passive input.active v →
       AreDifferent (map id (behind_passive v))
 
--- an edge of the graph at the port of an identifier
-pub record HasEdge (a N : ℕ) (graph : IdGraph) (x i : ℕ) : Type 0 where
-  pub other : ℕ
-  pub port : ℕ
-  pub other_below : other < N
-  pub port_below : port < a
-  pub joined : (graph x i other port || graph other port x i) ≡ true
+-- each label of an identifier stands around some passive node
+abbrev pub HasAllEdges : ℕ → ℕ → ℕ → IdHypergraph → Type 0
+HasAllEdges a p N hyper = (x i : ℕ) → x < N → i < a → OccursIn (identifiers a p N hyper).passive (x * a + i)
 
--- a graph of N identifiers with a ports each, for lists below n and T rounds: each identifier has an edge at each port, the graph joins alike
--- ones, and its trees show different identifiers
-pub record Separates (a N n T : ℕ) (graph : IdGraph) : Type 0 where
-  pub edges : (x i : ℕ) → x < N → i < a → HasEdge a N graph x i
-  pub joins : JoinsAlike a N graph n
-  pub apart : AreApart (identifiers a N graph) (λ label. label / a) T
+-- a hypergraph of N identifiers with a ports each, for passive degree p, lists below n and T rounds: each label of an identifier stands around
+-- some passive node, the hypergraph joins alike ones, and its trees show different ones
+pub record Separates (a p N n T : ℕ) (hyper : IdHypergraph) : Type 0 where
+  pub edges : HasAllEdges a p N hyper
+  pub joins : JoinsAlike a p N hyper n
+  pub apart : AreApart (identifiers a p N hyper) (λ label. label / a) T
 
--- the graph that joins any two different identifiers, by all their ports
-abbrev pub complete : IdGraph
-complete x i y j = not (x == y)
+-- the hypergraph that joins any p different identifiers below N, by all their ports: those of a proper colouring in which each is a colour
+abbrev pub complete : ℕ → ℕ → ℕ → IdHypergraph
+complete a p N labels = has_config (colouring a p N).passive (map (λ label. label / a) labels)

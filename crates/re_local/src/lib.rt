@@ -1,8 +1,8 @@
-//! What lower bounds say of local algorithms, whose nodes have unique identifiers: laws alone, no code.
+//! Local algorithms, those with unique identifiers below N: what lower bounds say of them, and where the model ends. Laws alone, no code.
 #![tactic(auto)]
 
 ghost use Rattle.re_local.specs.Examples.{SinklessLocalLaw};
-ghost use Rattle.re_local.specs.Laws.{ColouredLocalLaw, CompleteLaw, CompleteLimitLaw, FewerIdentifiersLaw, FewerRoundsLaw, FixedPointLocalLaw, IdentifiersInputLaw, LabelledLaw, LocalGivenLaw, MoreRoundsLocalLaw, ShorterBoundLocalLaw};
+ghost use Rattle.re_local.specs.Laws.{ColouredLocalLaw, CompleteLaw, CompleteLimitLaw, FewerIdentifiersLaw, FewerRoundsLaw, FixedPointLocalLaw, IdentifiersInputLaw, IdentifiersLaw, LabelledLaw, LocalGivenLaw, MoreRoundsLocalLaw, ShorterBoundLocalLaw};
 ghost use Rattle.re_local.specs.Shown.{LinearRoomLaw, LogarithmicRoomLaw, NoRoomLaw, NodesSeenLaw};
 
 /// What a local algorithm solves is solved where the labels of identifiers are known too.
@@ -20,32 +20,37 @@ pub fn fewer_identifiers_law()
     ensures { FewerIdentifiersLaw }
 {}
 
-/// Where the trees of a graph of identifiers show different ones, a local algorithm solves a problem given the identifiers.
-pub fn local_given_law()
-    ensures { LocalGivenLaw }
+/// Identifiers are unavoidable for lists below n where, however they get such lists, those with some one list are joined by each p ports.
+pub fn identifiers_law()
+    ensures { IdentifiersLaw }
 {}
 
-/// Identifiers, of which there is one, are an input problem where passive nodes are edges, and each identifier has an edge at each port.
+/// Identifiers, of which there is one, are an input problem where each label of one stands around some passive node.
 pub fn identifiers_input_law()
     ensures { IdentifiersInputLaw }
 {}
 
-/// Lower steps that come back exclude a local algorithm of as many rounds as there is a graph of identifiers for.
+/// Where the trees of a hypergraph of identifiers show different ones, a local algorithm solves a problem given the identifiers.
+pub fn local_given_law()
+    ensures { LocalGivenLaw }
+{}
+
+/// Lower steps that come back exclude a local algorithm of as many rounds as there is a hypergraph of identifiers for.
 pub fn fixed_point_local_law()
     ensures { FixedPointLocalLaw }
 {}
 
-/// With one round less, lower steps exclude a local algorithm of as many rounds as there is a graph of identifiers for.
+/// With one round less, lower steps exclude a local algorithm of as many rounds as there is a hypergraph of identifiers for.
 pub fn shorter_bound_local_law()
     ensures { ShorterBoundLocalLaw }
 {}
 
-/// A graph of identifiers for some rounds is one for fewer.
+/// A hypergraph of identifiers for some rounds is one for fewer.
 pub fn fewer_rounds_law()
     ensures { FewerRoundsLaw }
 {}
 
-/// For 0 rounds the graph that joins all different identifiers will do, where there are more of them than lists.
+/// For 0 rounds the hypergraph that joins all different identifiers will do, where there are more than p - 1 of them for each list.
 pub fn complete_law()
     ensures { CompleteLaw }
 {}
@@ -55,7 +60,7 @@ pub fn complete_limit_law()
     ensures { CompleteLimitLaw }
 {}
 
-/// No local algorithm of as many rounds as there is a graph of identifiers for solves the relaxation of sinkless orientation (`I I O` / `I I`,
+/// No local algorithm of as many rounds as there is a hypergraph of identifiers for solves the relaxation of sinkless orientation (`I I O` / `I I`,
 /// `I O`); none of 0 rounds does with more than 8 identifiers.
 pub fn sinkless_local_law()
     ensures { SinklessLocalLaw }

@@ -9,8 +9,8 @@ use Rattle.re_given.proofs.AvoidedInputs.{Zero-from_given, halves, unavoidable_f
 use Rattle.re_given.proofs.ChainGiven.{SolvableGiven-rounds, exchanged_by-twice}
 use Rattle.re_given.proofs.ColouredPairs.{pairs_unavoidable}
 use Rattle.re_given.proofs.Colourings.{IsInput-colouring, colouring_unavoidable}
-use Rattle.re_given.proofs.FastGiven.{IsInput-derived}
 use Rattle.re_given.proofs.MoreGiven.{SolvableGiven-more}
+use Rattle.re_given.proofs.RelativeGiven.{IsInput-derived_by}
 use Rattle.re_given.proofs.Ungiven.{SolvableGiven-ungiven}
 use Rattle.re_given.specs.Given.{SolvableGiven}
 use Rattle.re_given.specs.Inputs.{IsInput, exchanged, exchanged_by}
@@ -25,10 +25,6 @@ use Rattle.re_problem.specs.Problems.{IsProblem, Problem}
 IsProblem-derived_by : (k : ℕ) (problem : Problem) → IsProblem problem → IsProblem (derived_by k problem)
 IsProblem-derived_by zero problem is = is
 IsProblem-derived_by (suc k) problem is = IsProblem-derived (derived_by k problem) (IsProblem-derived_by k problem is)
-
-IsInput-derived_by : (k : ℕ) (problem input : Problem) → IsInput problem input → IsInput (derived_by k problem) (exchanged_by k input)
-IsInput-derived_by zero problem input is = is
-IsInput-derived_by (suc k) problem input is = IsInput-derived (derived_by k problem) (exchanged_by k input) (IsInput-derived_by k problem input is)
 
 -- what is unavoidable for lists below a tower is so for those below a lower one
 pub unavoidable_lower : (input : Problem) (h k : ℕ) → h ≤ k → IsUnavoidable input (tower k) → IsUnavoidable input (tower h)

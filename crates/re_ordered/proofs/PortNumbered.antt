@@ -23,7 +23,7 @@ use Rattle.re_labels.specs.Lists.{count_from, same_list}
 use Rattle.re_laws.proofs.Ports.{map-count}
 use Rattle.re_laws.specs.Algorithms.{Solvable, answer, at_port}
 use Rattle.re_local.proofs.ColouredLocal.{different_Rearranged}
-use Rattle.re_local.specs.LocalAlgorithms.{AreDifferent, SolvableLocal, SolvesApart, behind_active, behind_passive, named, shown}
+use Rattle.re_local.specs.LocalAlgorithms.{AreDifferent, SolvableLocal, SolvesApart, behind_active, behind_passive, identified, shown}
 use Rattle.re_ordered.proofs.Arranged.{Everywhere, IsTree-places, IsTree-places_around, NamedActive, NamedPassive, everywhere_relabelled, given, given_around, given_back, given-known, given-relabelled, named_given, named_given_around, named_shift, ordered_given, ordered_given_around, relabelled_twice, shown_passive, shown_turns, size, size-known, size-relabelled, size_turns}
 use Rattle.re_ordered.proofs.Parts.{Pairwise, Part, held, none, pairwise_part, part_contains, part_empty, part_trans}
 use Rattle.re_ordered.proofs.Ramsey.{AlikeAll, BoundAll, ramsey_all}
@@ -84,25 +84,25 @@ none_of i = 0
 -- ---- labels below N fit
 module _ (a p N : ℕ) (a_some : 1 ≤ a) (p_some : 1 ≤ p) where
   mutual
-    fits_active : (t n m label : ℕ) (x : InputView) → IsTree a p t n x → NamedActive label x → Everywhere (λ y. y < N) x → label < N → n + m ≡ a → FitsAround (named a p N).active (named a p N).passive (replicate m label) x
+    fits_active : (t n m label : ℕ) (x : InputView) → IsTree a p t n x → NamedActive label x → Everywhere (λ y. y < N) x → label < N → n + m ≡ a → FitsAround (identified a p N).active (identified a p N).passive (replicate m label) x
     fits_active t n m label leaf is same low own count = tt
     fits_active zero n m label end is same low own count = absurd is
-    fits_active (suc t) zero m label end is same low own count = subst (λ k. Has (named a p N).active (replicate k label)) (all count) there
+    fits_active (suc t) zero m label end is same low own count = subst (λ k. Has (identified a p N).active (replicate k label)) (all count) there
       where
         all : 0 + m ≡ a → a ≡ m
         all e = omega (arith, e)
 
-        there : Has (named a p N).active (replicate a label)
+        there : Has (identified a p N).active (replicate a label)
         there = subst (Contains (map (replicate a) (count_from 0 N))) (sym (sorted_again (replicate a label) (alike_rise a label))) (Contains-map (replicate a) (count_from 0 N) label (Contains-count_from 0 N label (omega arith) (omega (arith, own))))
     fits_active (suc t) (suc n) m label end is same low own count = absurd is
     fits_active zero n m label (more back l branch rest) is same low own count = absurd is
     fits_active (suc t) zero m label (more back l branch rest) is same low own count = absurd is
     fits_active (suc t) (suc n) m label (more back l branch rest) is same low own count = (
       fits_passive t (pred p) (l ∷ []) branch is.2 same.1 low.1 (low.0, tt) (omega (arith, p_some)),
-      subst (λ k. FitsAround (named a p N).active (named a p N).passive (k ∷ replicate m label) rest) (sym same.0) (fits_active (suc t) n (suc m) label rest is.3 same.2 low.2 own (omega (arith, count))),
+      subst (λ k. FitsAround (identified a p N).active (identified a p N).passive (k ∷ replicate m label) rest) (sym same.0) (fits_active (suc t) n (suc m) label rest is.3 same.2 low.2 own (omega (arith, count))),
     )
 
-    fits_passive : (t n : ℕ) (seen : List ℕ) (x : InputView) → IsTree p a t n x → NamedPassive x → Everywhere (λ y. y < N) x → AllByRecursion (λ y. y < N) seen → n + length seen ≡ p → FitsAround (named a p N).passive (named a p N).active seen x
+    fits_passive : (t n : ℕ) (seen : List ℕ) (x : InputView) → IsTree p a t n x → NamedPassive x → Everywhere (λ y. y < N) x → AllByRecursion (λ y. y < N) seen → n + length seen ≡ p → FitsAround (identified a p N).passive (identified a p N).active seen x
     fits_passive t n seen leaf is same low below count = tt
     fits_passive zero n seen end is same low below count = absurd is
     fits_passive (suc t) zero seen end is same low below count = ((multisets_law p N).1 (sorted seen)).1 (IsConfig-sorted p N seen (all count) below)
@@ -155,7 +155,7 @@ module _ (problem : Problem) (T : ℕ) (is : IsProblem problem) where
   abbrev identifiers_needed : ℕ
   identifiers_needed = suc bound.bound
 
-  module _ (f : InputView → List ℕ) (solves : SolvesApart problem (named a p identifiers_needed) (λ x. x) T f) where
+  module _ (f : InputView → List ℕ) (solves : SolvesApart problem (identified a p identifiers_needed) (λ x. x) T f) where
     abbrev N : ℕ
     N = identifiers_needed
 
@@ -438,7 +438,7 @@ Solvable-local problem T is = (identifiers_needed problem T is, λ local. Solvab
 -- and one without them is a local one, which takes no notice of them
 pub SolvableLocal-unnoticed : (problem : Problem) (N T : ℕ) → Solvable problem T → SolvableLocal problem N T
 SolvableLocal-unnoticed problem N T (table, solved) =
-    let given : SolvesGivenBy problem (named problem.active.degree problem.passive.degree N) T (λ k. answer table (cut T (plain k))) = SolvesGivenBy-plain problem (named problem.active.degree problem.passive.degree N) T (answer table) solved.solves in
+    let given : SolvesGivenBy problem (identified problem.active.degree problem.passive.degree N) T (λ k. answer table (cut T (plain k))) = SolvesGivenBy-plain problem (identified problem.active.degree problem.passive.degree N) T (answer table) solved.solves in
     (λ k. answer table (cut T (plain k)), record { active = λ v view fits apart. given.active v view fits; passive = λ v view fits apart. given.passive v view fits })
 
 pub any_identifiers : (problem : Problem) (T : ℕ) → IsProblem problem → Solvable problem T ↔ ((N : ℕ) → SolvableLocal problem N T)

@@ -41,28 +41,28 @@ ColouredPairsGapLaw = (problem : Problem) (h T c : ℕ) → IsProblem problem �
     tower (T + h + 1) < c → SolvableGiven problem (colouring problem.active.degree 2 c) T ↔ Solvable problem T
 
 -- ---- unique identifiers
--- where passive nodes are edges: what a local algorithm of T rounds solves with so many identifiers takes at most T + 1 rounds without them
+-- what a local algorithm of T rounds solves with so many identifiers takes at most T + 1 rounds without them
 abbrev pub GapLaw : Type 0
-GapLaw = (problem : Problem) (h T N : ℕ) → IsProblem problem → problem.passive.degree ≡ 2 → problem.labels ≤ tower h →
+GapLaw = (problem : Problem) (h T N : ℕ) → IsProblem problem → problem.labels ≤ tower h →
     tower (T + h + 6) ≤ N → SolvableLocal problem N T → Solvable problem (T + 1)
 
 -- and T rounds, where T is even
 abbrev pub EvenGapLaw : Type 0
-EvenGapLaw = (problem : Problem) (h half N : ℕ) → IsProblem problem → problem.passive.degree ≡ 2 → problem.labels ≤ tower h →
+EvenGapLaw = (problem : Problem) (h half N : ℕ) → IsProblem problem → problem.labels ≤ tower h →
     tower (half + half + h + 6) ≤ N → SolvableLocal problem N (half + half) ↔ Solvable problem (half + half)
 
 -- so what T rounds solve with so many identifiers takes at most T + 1 rounds with any number of them
-abbrev pub ConstantRoundsLaw : Type 0
-ConstantRoundsLaw = (problem : Problem) (h T N more : ℕ) → IsProblem problem → problem.passive.degree ≡ 2 → problem.labels ≤ tower h →
+abbrev pub OneNumberLaw : Type 0
+OneNumberLaw = (problem : Problem) (h T N more : ℕ) → IsProblem problem → problem.labels ≤ tower h →
     tower (T + h + 6) ≤ N → SolvableLocal problem N T → SolvableLocal problem more (T + 1)
 
 -- what no number of rounds solves without identifiers no local algorithm of T rounds solves with so many: with identifiers below N it takes at
 -- least log* N - h - 6 rounds
 abbrev pub BeyondPortsLaw : Type 0
-BeyondPortsLaw = (problem : Problem) (h T N : ℕ) → IsProblem problem → problem.passive.degree ≡ 2 → problem.labels ≤ tower h →
+BeyondPortsLaw = (problem : Problem) (h T N : ℕ) → IsProblem problem → problem.labels ≤ tower h →
     tower (T + h + 6) ≤ N → ((S : ℕ) → Solvable problem S → ⊥) → SolvableLocal problem N T → ⊥
 
 -- so it is where some finite graph has no solution
 abbrev pub GraphGapLaw : Type 0
-GraphGapLaw = (problem : Problem) (graph : PortGraph) (h T N : ℕ) → IsProblem problem → problem.passive.degree ≡ 2 → problem.labels ≤ tower h →
+GraphGapLaw = (problem : Problem) (graph : PortGraph) (h T N : ℕ) → IsProblem problem → problem.labels ≤ tower h →
     tower (T + h + 6) ≤ N → IsGraphOf problem graph → ((labels : List (List ℕ)) → IsSolution problem graph labels → ⊥) → SolvableLocal problem N T → ⊥

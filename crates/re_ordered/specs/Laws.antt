@@ -8,12 +8,12 @@ use Rattle.re_separating.specs.Laws.{IsBeyondLocal}
 
 -- for each problem and number of rounds there is a number of identifiers such that what a local algorithm solves with so many, an algorithm
 -- solves with port numbers alone
-abbrev pub PortNumberedLaw : Type 0
-PortNumberedLaw = (problem : Problem) (T : ℕ) → IsProblem problem → (N : ℕ) × (SolvableLocal problem N T → Solvable problem T)
+abbrev pub IdentifiersNoUseLaw : Type 0
+IdentifiersNoUseLaw = (problem : Problem) (T : ℕ) → IsProblem problem → (N : ℕ) × (SolvableLocal problem N T → Solvable problem T)
 
 -- a local algorithm need take no notice of the identifiers
-abbrev pub UnnoticedLaw : Type 0
-UnnoticedLaw = (problem : Problem) (N T : ℕ) → Solvable problem T → SolvableLocal problem N T
+abbrev pub PortsAreEnoughLaw : Type 0
+PortsAreEnoughLaw = (problem : Problem) (N T : ℕ) → Solvable problem T → SolvableLocal problem N T
 
 -- so T rounds solve a problem with port numbers alone exactly where they do with different identifiers, however many of these there are
 abbrev pub AnyIdentifiersLaw : Type 0

@@ -1,18 +1,19 @@
 //! What unique identifiers help in a fixed number of rounds, or in fewer than log* N less a constant: nothing. Laws alone, no code.
 #![tactic(auto)]
 
-ghost use Rattle.re_ordered.specs.GapLaws.{BeyondPortsLaw, ColouredGapLaw, ColouredPairsGapLaw, ConstantRoundsLaw, EvenGapLaw, FewLabelsLaw, GapLaw, GraphGapLaw, TowerLaw, UnavoidableGapLaw, UnavoidableRoundsLaw};
-ghost use Rattle.re_ordered.specs.Laws.{AnyIdentifiersLaw, BeyondLocalLaw, NoSolutionLocalLaw, PortNumberedLaw, UnnoticedLaw};
+ghost use Rattle.re_ordered.specs.GapLaws.{BeyondPortsLaw, ColouredGapLaw, ColouredPairsGapLaw, OneNumberLaw, EvenGapLaw, FewLabelsLaw, GapLaw, GraphGapLaw, TowerLaw, UnavoidableGapLaw, UnavoidableRoundsLaw};
+ghost use Rattle.re_ordered.specs.Laws.{AnyIdentifiersLaw, BeyondLocalLaw, NoSolutionLocalLaw, IdentifiersNoUseLaw, PortsAreEnoughLaw};
 
 /// For each problem and number of rounds there is a number of identifiers such that what a local algorithm solves with so many, an algorithm
-/// solves with port numbers alone (by Ramsey's theorem, as Naor and Stockmeyer have it, and an order of the nodes of the tree that port numbers give).
-pub fn port_numbered_law()
-    ensures { PortNumberedLaw }
+/// solves with port numbers alone: by Ramsey's theorem only the order of identifiers matters (Naor and Stockmeyer), and port numbers give the tree
+/// such an order (Göös, Hirvonen and Suomela have one from ports with an orientation).
+pub fn identifiers_no_use_law()
+    ensures { IdentifiersNoUseLaw }
 {}
 
-/// A local algorithm need take no notice of the identifiers.
-pub fn unnoticed_law()
-    ensures { UnnoticedLaw }
+/// Port numbers are enough where they are: a local algorithm need take no notice of the identifiers.
+pub fn ports_are_enough_law()
+    ensures { PortsAreEnoughLaw }
 {}
 
 /// So T rounds solve a problem with port numbers alone exactly where they do with different identifiers, however many of these there are.
@@ -61,8 +62,10 @@ pub fn coloured_pairs_gap_law()
     ensures { ColouredPairsGapLaw }
 {}
 
-/// Where passive nodes are edges, and a problem has at most a tower of h twos of labels: what a local algorithm of T rounds solves with identifiers
-/// below N takes at most T + 1 rounds without them, if N is at least a tower of T + h + 6 twos, as where T is less than log* N - h - 6.
+/// The gap, where a problem has at most a tower of h twos of labels: what a local algorithm of T rounds solves with identifiers below N takes at most
+/// T + 1 rounds without them, if N is at least a tower of T + h + 6 twos, as where T is less than log* N - h - 6 (Chang and Pettie; Grunau, Rozhoň
+/// and Brandt, who show it for randomised algorithms too). Of the one round that it may lose nothing is lost where T is even, as in whole rounds of
+/// the graph of active nodes.
 pub fn gap_law()
     ensures { GapLaw }
 {}
@@ -73,8 +76,8 @@ pub fn even_gap_law()
 {}
 
 /// So what T rounds solve with one such number of identifiers takes at most T + 1 rounds with any number of them.
-pub fn constant_rounds_law()
-    ensures { ConstantRoundsLaw }
+pub fn one_number_law()
+    ensures { OneNumberLaw }
 {}
 
 /// And what no number of rounds solves without identifiers takes at least log* N - h - 6 rounds with them.

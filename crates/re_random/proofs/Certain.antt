@@ -8,7 +8,7 @@ use Rattle.re_given.specs.InputViews.{known}
 use Rattle.re_labels.proofs.Membership.{Contains-cases, Contains-flat_map_cases, Contains-here, Contains-later, Contains-map_cases, Contains-none, count_from_range}
 use Rattle.re_labels.specs.Lists.{count_from}
 use Rattle.re_local.proofs.LocalGiven.{FitsAround-taken}
-use Rattle.re_local.specs.LocalAlgorithms.{named}
+use Rattle.re_local.specs.LocalAlgorithms.{identified}
 use Rattle.re_random.proofs.Numbered.{numbered_active, numbered_passive, painted-relabelled}
 use Rattle.re_random.specs.Laws.{CertainLaw}
 use Rattle.re_random.specs.RandomAlgorithms.{painted, string_lists}
@@ -54,7 +54,7 @@ certain problem R T q algorithm some solves =
           (λ strings held.
           let has : Has problem.active (algorithm (known T (relabelled (slice_index strings) v))) =
           solves.active (relabelled (slice_index strings) v) (IsTree-relabelled (slice_index strings) a p (suc T) a v view)
-          (FitsAround-taken (slice_index strings) (named a p k).active (named a p k).passive (named a p R).active (named a p R).passive
+          (FitsAround-taken (slice_index strings) (identified a p k).active (identified a p k).passive (identified a p R).active (identified a p R).passive
           (numbered_active a p k R (slice_index strings) (strings_low R k strings some held))
           (numbered_passive a p k R (slice_index strings) (strings_low R k strings some held)) [] v fits) in
           rw (painted-relabelled strings v) (ap not (Has-has_config problem.active (algorithm (known T (relabelled (slice_index strings) v))) has)));
@@ -63,7 +63,7 @@ certain problem R T q algorithm some solves =
           (λ strings held.
           let has : Has problem.passive (around_known p T algorithm (relabelled (slice_index strings) v)) =
           solves.passive (relabelled (slice_index strings) v) (IsTree-relabelled (slice_index strings) p a (suc (suc T)) p v view)
-          (FitsAround-taken (slice_index strings) (named a p k).passive (named a p k).active (named a p R).passive (named a p R).active
+          (FitsAround-taken (slice_index strings) (identified a p k).passive (identified a p k).active (identified a p R).passive (identified a p R).active
           (numbered_passive a p k R (slice_index strings) (strings_low R k strings some held))
           (numbered_active a p k R (slice_index strings) (strings_low R k strings some held)) [] v fits) in
           rw (painted-relabelled strings v) (ap not (Has-has_config problem.passive (around_known p T algorithm (relabelled (slice_index strings) v)) has)));

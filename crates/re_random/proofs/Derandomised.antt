@@ -13,7 +13,7 @@ use Rattle.re_given.specs.InputViews.{InputView, known}
 use Rattle.re_labels.proofs.Membership.{AllByRecursion-contains, AllByRecursion-from_contains, Contains-filter, Contains-filter_cases, Contains-map, Contains-map_cases, any_found, any_true, length-map'}
 use Rattle.re_labels.proofs.Tests.{and-true, true-and}
 use Rattle.re_local.proofs.LocalGiven.{around_known-relabelled}
-use Rattle.re_local.specs.LocalAlgorithms.{AreDifferent, SolvableLocal, behind_passive, named, shown}
+use Rattle.re_local.specs.LocalAlgorithms.{AreDifferent, SolvableLocal, behind_passive, identified, shown}
 use Rattle.re_problem.proofs.Examples.{IsProblem-relaxed_sinkless}
 use Rattle.re_problem.proofs.FedLines.{unnot, unnot_true}
 use Rattle.re_problem.specs.Examples.{relaxed_sinkless}
@@ -75,10 +75,10 @@ module _ (problem : Problem) (N R T q : ℕ) (algorithm : InputView → List ℕ
 
   -- the views with different identifiers
   abbrev passes_active : InputView → Bool
-  passes_active v = fits_around (named a p N).active (named a p N).passive [] v && are_different (shown v)
+  passes_active v = fits_around (identified a p N).active (identified a p N).passive [] v && are_different (shown v)
 
   abbrev passes_passive : InputView → Bool
-  passes_passive v = fits_around (named a p N).passive (named a p N).active [] v && are_different (behind_passive v)
+  passes_passive v = fits_around (identified a p N).passive (identified a p N).active [] v && are_different (behind_passive v)
 
   abbrev active_views : List InputView
   active_views = filter passes_active (all_trees N a p (suc T) a)
@@ -92,17 +92,17 @@ module _ (problem : Problem) (N R T q : ℕ) (algorithm : InputView → List ℕ
   rare_active : (v : InputView) → Contains active_views v → q * tally R N (λ strings. one_if (active_event v strings)) < R ^ N
   rare_active v held =
       let (listed, passes) = Contains-filter_cases passes_active (all_trees N a p (suc T) a) v held in
-      let both = and-true (fits_around (named a p N).active (named a p N).passive [] v) (are_different (shown v)) passes in
+      let both = and-true (fits_around (identified a p N).active (identified a p N).passive [] v) (are_different (shown v)) passes in
       subst (λ c. q * c < R ^ N) (passing-strings R N (active_event v))
-      (fails.active v (all_trees-IsTree N a p (suc T) a v listed) (fits-FitsAround (named a p N).active (named a p N).passive [] v both.0)
+      (fails.active v (all_trees-IsTree N a p (suc T) a v listed) (fits-FitsAround (identified a p N).active (identified a p N).passive [] v both.0)
       (tells-AreDifferent (shown v) both.1))
 
   rare_passive : (v : InputView) → Contains passive_views v → q * tally R N (λ strings. one_if (passive_event v strings)) < R ^ N
   rare_passive v held =
       let (listed, passes) = Contains-filter_cases passes_passive (all_trees N p a (suc (suc T)) p) v held in
-      let both = and-true (fits_around (named a p N).passive (named a p N).active [] v) (are_different (behind_passive v)) passes in
+      let both = and-true (fits_around (identified a p N).passive (identified a p N).active [] v) (are_different (behind_passive v)) passes in
       subst (λ c. q * c < R ^ N) (passing-strings R N (passive_event v))
-      (fails.passive v (all_trees-IsTree N p a (suc (suc T)) p v listed) (fits-FitsAround (named a p N).passive (named a p N).active [] v both.0)
+      (fails.passive v (all_trees-IsTree N p a (suc (suc T)) p v listed) (fits-FitsAround (identified a p N).passive (identified a p N).active [] v both.0)
       (tells-AreDifferent (behind_passive v) both.1))
 
   all_rare : AllByRecursion (λ (event : List ℕ → Bool). q * tally R N (λ strings. one_if (event strings)) < R ^ N) events
@@ -134,8 +134,8 @@ module _ (problem : Problem) (N R T q : ℕ) (algorithm : InputView → List ℕ
       active = λ v view fits apart.
           let listed : Contains active_views v = Contains-filter passes_active (all_trees N a p (suc T) a) v
           (Contains-all_trees N a p (suc T) a v view (active_view_below a p N (suc T) a v view fits))
-          (true-and (fits_around (named a p N).active (named a p N).passive [] v) (are_different (shown v))
-          (FitsAround-fits (named a p N).active (named a p N).passive [] v fits)
+          (true-and (fits_around (identified a p N).active (identified a p N).passive [] v) (are_different (shown v))
+          (FitsAround-fits (identified a p N).active (identified a p N).passive [] v fits)
           (AreDifferent-tells (shown v) (subst AreDifferent (map-same-id (shown v)) apart))) in
           let event : active_event v strings ≡ false = AllByRecursion-contains (λ (event : List ℕ → Bool). event strings ≡ false) events (active_event v) none
           (Contains-append_left (map active_event active_views) (map passive_event passive_views) (active_event v)
@@ -146,8 +146,8 @@ module _ (problem : Problem) (N R T q : ℕ) (algorithm : InputView → List ℕ
       passive = λ v view fits apart.
           let listed : Contains passive_views v = Contains-filter passes_passive (all_trees N p a (suc (suc T)) p) v
           (Contains-all_trees N p a (suc (suc T)) p v view (passive_view_below a p N (suc (suc T)) p v view fits))
-          (true-and (fits_around (named a p N).passive (named a p N).active [] v) (are_different (behind_passive v))
-          (FitsAround-fits (named a p N).passive (named a p N).active [] v fits)
+          (true-and (fits_around (identified a p N).passive (identified a p N).active [] v) (are_different (behind_passive v))
+          (FitsAround-fits (identified a p N).passive (identified a p N).active [] v fits)
           (AreDifferent-tells (behind_passive v) (subst AreDifferent (map-same-id (behind_passive v)) apart))) in
           let event : passive_event v strings ≡ false = AllByRecursion-contains (λ (event : List ℕ → Bool). event strings ≡ false) events (passive_event v) none
           (Contains-append_right (map active_event active_views) (map passive_event passive_views) (passive_event v)
@@ -229,5 +229,5 @@ randomised_named problem d C l T is low low' small never N q R algorithm many en
         omega (arith, views, less, enough)
 
 pub sinkless_random : SinklessRandomLaw
-sinkless_random T = randomised relaxed_sinkless 3 (identifier_base 3 2) 989 T IsProblem-relaxed_sinkless (omega arith) (omega arith)
+sinkless_random T = randomised relaxed_sinkless 3 (identifier_base 3 2 2) 989 T IsProblem-relaxed_sinkless (omega arith) (omega arith)
     sinkless_bits (sinkless_unique T)

@@ -24,7 +24,8 @@ use Rattle.re_labels.proofs.Membership.{Contains-count_from, Contains-filter_cas
 use Rattle.re_labels.specs.Lists.{count_from}
 use Rattle.re_laws.proofs.Ports.{map-at_port, map-count}
 use Rattle.re_laws.specs.Algorithms.{at_port}
-use Rattle.re_local.specs.LocalAlgorithms.{behind_active, behind_passive, named}
+use Rattle.re_local.proofs.Complete.{none_behind}
+use Rattle.re_local.specs.LocalAlgorithms.{behind_active, behind_passive, identified}
 use Rattle.re_random.proofs.Certain.{never_below, strings_low}
 use Rattle.re_random.proofs.Drawn.{passing-strings, total-same}
 use Rattle.re_random.proofs.Numbered.{numbered_active, painted-relabelled}
@@ -63,14 +64,6 @@ payloads-relabelled image end = refl
 payloads-relabelled image (more back label branch rest) = ap (◌∷◌ (image label)) (payloads-relabelled image rest)
 
 -- ---- what an edge shows
-shallow : (d e n : ℕ) (x : InputView) → IsTree d e 1 n x → behind_active x ≡ []
-shallow d e n leaf tree = refl
-shallow d e n end tree = refl
-shallow d e zero (more back label branch rest) tree = absurd tree
-shallow d e (suc n) (more back label leaf rest) tree = shallow d e n rest tree.3
-shallow d e (suc n) (more back label end rest) tree = absurd tree.2
-shallow d e (suc n) (more back label (more back' label' branch' rest') rest) tree = absurd tree.2
-
 two_ends : (a k : ℕ) (v : InputView) → IsView 2 a 2 v → behind_passive v ≡ count_from 0 k → (k ≡ 2) × (payloads v ≡ 0 ∷ 1 ∷ [])
 two_ends a k leaf view order = absurd view
 two_ends a k end view order = absurd view
@@ -79,8 +72,8 @@ two_ends a k (more back x branch end) view order = absurd view.3
 two_ends a k (more back x branch (more back' y branch' leaf)) view order = absurd view.3.3
 two_ends a k (more back x branch (more back' y branch' (more back'' z branch'' rest))) view order = absurd view.3.3
 two_ends a k (more back x branch (more back' y branch' end)) view order =
-    let here : behind_active branch ≡ [] = shallow a 2 (pred a) branch view.2 in
-    let there : behind_active branch' ≡ [] = shallow a 2 (pred a) branch' view.3.2 in
+    let here : behind_active branch ≡ [] = none_behind a 2 (pred a) branch view.2 in
+    let there : behind_active branch' ≡ [] = none_behind a 2 (pred a) branch' view.3.2 in
     go (behind_active branch) (behind_active branch') here there order
   where
     go : (us ws : List ℕ) → us ≡ [] → ws ≡ [] → (x ∷ us) ++ ((y ∷ ws) ++ []) ≡ count_from 0 k → (k ≡ 2) × (x ∷ y ∷ [] ≡ 0 ∷ 1 ∷ [])
@@ -109,22 +102,22 @@ edge-IsView n = (omega arith, omega arith, IsTree-row (suc n) 2 n 0 (omega arith
 
 edge-order : (n : ℕ) → behind_passive (edge n) ≡ count_from 0 2
 edge-order n =
-    let here : behind_active (row n 0) ≡ [] = shallow (suc n) 2 n (row n 0) (IsTree-row (suc n) 2 n 0 (omega arith)) in
-    let there : behind_active (row n 1) ≡ [] = shallow (suc n) 2 n (row n 1) (IsTree-row (suc n) 2 n 1 (omega arith)) in
+    let here : behind_active (row n 0) ≡ [] = none_behind (suc n) 2 n (row n 0) (IsTree-row (suc n) 2 n 0 (omega arith)) in
+    let there : behind_active (row n 1) ≡ [] = none_behind (suc n) 2 n (row n 1) (IsTree-row (suc n) 2 n 1 (omega arith)) in
     rw (here, there) refl
 
-edge-fits : (n : ℕ) → Fits (named (suc n) 2 2).passive (named (suc n) 2 2).active (edge n)
+edge-fits : (n : ℕ) → Fits (identified (suc n) 2 2).passive (identified (suc n) 2 2).active (edge n)
 edge-fits n = (
-  FitsAround-list_view (named (suc n) 2 2).active (named (suc n) 2 2).passive (replicate n 0) (0 ∷ [])
-      (subst (Has (named (suc n) 2 2).active) (sym (one_more n 0)) (alike 0 (omega arith))),
+  FitsAround-list_view (identified (suc n) 2 2).active (identified (suc n) 2 2).passive (replicate n 0) (0 ∷ [])
+      (subst (Has (identified (suc n) 2 2).active) (sym (one_more n 0)) (alike 0 (omega arith))),
   (
-    FitsAround-list_view (named (suc n) 2 2).active (named (suc n) 2 2).passive (replicate n 1) (1 ∷ [])
-        (subst (Has (named (suc n) 2 2).active) (sym (one_more n 1)) (alike 1 (omega arith))),
+    FitsAround-list_view (identified (suc n) 2 2).active (identified (suc n) 2 2).passive (replicate n 1) (1 ∷ [])
+        (subst (Has (identified (suc n) 2 2).active) (sym (one_more n 1)) (alike 1 (omega arith))),
     ((multisets_law 2 2).1 (sorted (1 ∷ 0 ∷ []))).1 (IsConfig-sorted 2 2 (1 ∷ 0 ∷ []) refl (omega arith, (omega arith, tt))),
   ),
 )
   where
-    alike : (x : ℕ) → x < 2 → Has (named (suc n) 2 2).active (replicate (suc n) x)
+    alike : (x : ℕ) → x < 2 → Has (identified (suc n) 2 2).active (replicate (suc n) x)
     alike x l =
         subst (Contains (map (replicate (suc n)) (count_from 0 2))) (sym (sorted_again (replicate (suc n) x) (alike_rise (suc n) x)))
         (Contains-map (replicate (suc n)) (count_from 0 2) x (Contains-count_from 0 2 x (omega arith) (omega (arith, l))))
@@ -236,7 +229,7 @@ module _ (a c : ℕ) (least : 1 ≤ a) where
           ∙ (payloads-relabelled (slice_index strings) v ∙ ap (map (slice_index strings)) ends))
 
   -- a node has its own colour on all its edges
-  own_colour : (labels : List ℕ) → Has (named a 2 c).active labels → Has (colouring a 2 c).active labels
+  own_colour : (labels : List ℕ) → Has (identified a 2 c).active labels → Has (colouring a 2 c).active labels
   own_colour labels has =
       let (x, held, is) = Contains-map_cases (replicate a) (count_from 0 c) (sorted labels) has in
       let range = count_from_range 0 c x held in
@@ -270,7 +263,7 @@ drawn_colour (suc n) c q least most some = (forth, back)
       active = λ v k view fits order.
           never_below c k q (λ strings. not (has_config (colouring a 2 c).active (payloads (known 0 (painted strings v))))) some
           (λ strings held.
-          let root : Has (named a 2 k).active (payloads v) = Has-root (named a 2 k).active (named a 2 k).passive a 2 0 v view fits in
+          let root : Has (identified a 2 k).active (payloads v) = Has-root (identified a 2 k).active (identified a 2 k).passive a 2 0 v view fits in
           let own : Has (colouring a 2 c).active (map (slice_index strings) (payloads v)) =
           own_colour a c (omega arith) (map (slice_index strings) (payloads v))
           (numbered_active a 2 k c (slice_index strings) (strings_low c k strings some held) (payloads v) root) in

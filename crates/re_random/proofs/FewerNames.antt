@@ -11,7 +11,7 @@ use Rattle.re_given.specs.Given.{around_known}
 use Rattle.re_given.specs.InputViews.{FitsAround, InputView, known}
 use Rattle.re_labels.proofs.Membership.{AllByRecursion-weaker, Contains-count_from, Contains-map, Contains-map_cases, count_from_range}
 use Rattle.re_labels.specs.Lists.{count_from}
-use Rattle.re_local.specs.LocalAlgorithms.{named}
+use Rattle.re_local.specs.LocalAlgorithms.{identified}
 use Rattle.re_random.proofs.Drawn.{passing-strings, tally, tally-const, tally-same, total-same}
 use Rattle.re_random.proofs.Numbered.{active_view_below, passive_view_below}
 use Rattle.re_random.specs.Laws.{FewerNamesLaw}
@@ -85,14 +85,14 @@ fewer_at R N wide q event l sees rare =
     (rare_first R N (wide - N) q (λ strings. one_if (event strings)) (λ strings strings' same. ap one_if (sees strings strings' same)) parted)
 
 -- identifiers below N are so below wide
-wider_active : (a p N wide : ℕ) → N ≤ wide → (labels : List ℕ) → Has (named a p N).active labels → Has (named a p wide).active labels
+wider_active : (a p N wide : ℕ) → N ≤ wide → (labels : List ℕ) → Has (identified a p N).active labels → Has (identified a p wide).active labels
 wider_active a p N wide l labels has =
     let (x, held, is) = Contains-map_cases (replicate a) (count_from 0 N) (sorted labels) has in
     let range = count_from_range 0 N x held in
     subst (Contains (map (replicate a) (count_from 0 wide))) is
     (Contains-map (replicate a) (count_from 0 wide) x (Contains-count_from 0 wide x (omega arith) (let m = range.1 in omega (arith, l, m))))
 
-wider_passive : (a p N wide : ℕ) → N ≤ wide → (labels : List ℕ) → Has (named a p N).passive labels → Has (named a p wide).passive labels
+wider_passive : (a p N wide : ℕ) → N ≤ wide → (labels : List ℕ) → Has (identified a p N).passive labels → Has (identified a p wide).passive labels
 wider_passive a p N wide l labels has =
     let is : IsConfig p N (sorted labels) = ((multisets_law p N).1 (sorted labels)).0 has in
     ((multisets_law p wide).1 (sorted labels)).1
@@ -119,12 +119,12 @@ fewer_names problem N wide R T q algorithm l fails =
           fewer_at R N wide q (λ strings. not (has_config problem.active (algorithm (known T (with_strings R strings v))))) l
           (λ strings strings' same. ap (λ w. not (has_config problem.active (algorithm (known T w))))
           (with_strings-as R N strings strings' v same (active_view_below a p N (suc T) a v view fits)))
-          (fails.active v view (fits_wider (named a p N).active (named a p N).passive (named a p wide).active (named a p wide).passive
+          (fails.active v view (fits_wider (identified a p N).active (identified a p N).passive (identified a p wide).active (identified a p wide).passive
           (wider_active a p N wide l) (wider_passive a p N wide l) [] v fits) apart);
       passive = λ v view fits apart.
           fewer_at R N wide q (λ strings. not (has_config problem.passive (around_known p T algorithm (with_strings R strings v)))) l
           (λ strings strings' same. ap (λ w. not (has_config problem.passive (around_known p T algorithm w)))
           (with_strings-as R N strings strings' v same (passive_view_below a p N (suc (suc T)) p v view fits)))
-          (fails.passive v view (fits_wider (named a p N).passive (named a p N).active (named a p wide).passive (named a p wide).active
+          (fails.passive v view (fits_wider (identified a p N).passive (identified a p N).active (identified a p wide).passive (identified a p wide).active
           (wider_passive a p N wide l) (wider_active a p N wide l) [] v fits) apart);
     }

@@ -10,7 +10,7 @@ use Rattle.re_given.specs.InputViews.{Fits, InputView, known}
 use Rattle.re_labels.proofs.Membership.{Contains-here, Contains-later, count_from_range, length-count_from}
 use Rattle.re_labels.specs.Lists.{count_from}
 use Rattle.re_local.proofs.LocalGiven.{FitsAround-taken, around_known-relabelled, behind_passive-relabelled, shown-relabelled}
-use Rattle.re_local.specs.LocalAlgorithms.{AreDifferent, behind_passive, named, shown}
+use Rattle.re_local.specs.LocalAlgorithms.{AreDifferent, behind_passive, identified, shown}
 use Rattle.re_laws.specs.Algorithms.{at_port}
 use Rattle.re_problem.specs.Problems.{IsProblem, Problem}
 use Rattle.re_random.proofs.Certain.{never_below, strings_low}
@@ -126,13 +126,13 @@ some_below N (x ∷ ids) some below = let low = below.0 in omega (arith, low)
 
 -- with no identifiers there are no views
 pub no_names_active : (problem : Problem) (T : ℕ) → IsProblem problem → (v : InputView) → IsView problem.active.degree problem.passive.degree (suc T) v
-    → Fits (named problem.active.degree problem.passive.degree 0).active (named problem.active.degree problem.passive.degree 0).passive v → ⊥
+    → Fits (identified problem.active.degree problem.passive.degree 0).active (identified problem.active.degree problem.passive.degree 0).passive v → ⊥
 no_names_active problem T is v view fits =
     none_below (shown v) (some_shown problem.active.degree problem.passive.degree T problem.active.degree v (let l = is.active.least in omega (arith, l)) view)
     (shown_below 0 v (active_view_below problem.active.degree problem.passive.degree 0 (suc T) problem.active.degree v view fits))
 
 pub no_names_passive : (problem : Problem) (T : ℕ) → IsProblem problem → (v : InputView) → IsView problem.passive.degree problem.active.degree (suc (suc T)) v
-    → Fits (named problem.active.degree problem.passive.degree 0).passive (named problem.active.degree problem.passive.degree 0).active v → ⊥
+    → Fits (identified problem.active.degree problem.passive.degree 0).passive (identified problem.active.degree problem.passive.degree 0).active v → ⊥
 no_names_passive problem T is v view fits =
     none_below (behind_passive v)
     (some_behind problem.passive.degree problem.active.degree (suc T) problem.passive.degree v (let l = is.passive.least in omega (arith, l)) view)
@@ -173,7 +173,7 @@ module _ (problem : Problem) (N R T q : ℕ) (algorithm : InputView → List ℕ
       (λ strings. ap one_if (sees (map (slice_index strings) ids) strings (relabelled (number ids) v) (painted-numbers strings ids v labels))) in
       subst (λ c. q * c < R ^ N) same there
 
-  rare_active : (v : InputView) → IsView a p (suc T) v → Fits (named a p N).active (named a p N).passive v → AreDifferent (shown v)
+  rare_active : (v : InputView) → IsView a p (suc T) v → Fits (identified a p N).active (identified a p N).passive v → AreDifferent (shown v)
       → q * length (filter (active_event v) (string_lists R N)) < R ^ N
   rare_active v view fits apart =
       let some : 1 ≤ length (shown v) = some_shown a p T a v (let l = is.active.least in omega (arith, l)) view in
@@ -182,12 +182,12 @@ module _ (problem : Problem) (N R T q : ℕ) (algorithm : InputView → List ℕ
       (rare_at v (shown v) active_event (λ strings strings' w e. ap (λ w. not (has_config problem.active (algorithm (known T w)))) e) some apart
       (shown_below N v (active_view_below a p N (suc T) a v view fits)) (active_view_labels a p N (suc T) a v view fits)
       (fails.active (relabelled (number (shown v)) v) (length (shown v)) (IsTree-relabelled (number (shown v)) a p (suc T) a v view)
-      (FitsAround-taken (number (shown v)) (named a p N).active (named a p N).passive (named a p (length (shown v))).active
-      (named a p (length (shown v))).passive
+      (FitsAround-taken (number (shown v)) (identified a p N).active (identified a p N).passive (identified a p (length (shown v))).active
+      (identified a p (length (shown v))).passive
       (numbered_active a p N (length (shown v)) (number (shown v)) low) (numbered_passive a p N (length (shown v)) (number (shown v)) low) [] v fits)
       (shown-relabelled (number (shown v)) v ∙ numbers_all (shown v) apart)))
 
-  rare_passive : (v : InputView) → IsView p a (suc (suc T)) v → Fits (named a p N).passive (named a p N).active v → AreDifferent (behind_passive v)
+  rare_passive : (v : InputView) → IsView p a (suc (suc T)) v → Fits (identified a p N).passive (identified a p N).active v → AreDifferent (behind_passive v)
       → q * length (filter (passive_event v) (string_lists R N)) < R ^ N
   rare_passive v view fits apart =
       let some : 1 ≤ length (behind_passive v) = some_behind p a (suc T) p v (let l = is.passive.least in omega (arith, l)) view in
@@ -198,8 +198,8 @@ module _ (problem : Problem) (N R T q : ℕ) (algorithm : InputView → List ℕ
       (behind_passive_below N v (passive_view_below a p N (suc (suc T)) p v view fits)) (passive_view_labels a p N (suc (suc T)) p v view fits)
       (fails.passive (relabelled (number (behind_passive v)) v) (length (behind_passive v))
       (IsTree-relabelled (number (behind_passive v)) p a (suc (suc T)) p v view)
-      (FitsAround-taken (number (behind_passive v)) (named a p N).passive (named a p N).active (named a p (length (behind_passive v))).passive
-      (named a p (length (behind_passive v))).active
+      (FitsAround-taken (number (behind_passive v)) (identified a p N).passive (identified a p N).active (identified a p (length (behind_passive v))).passive
+      (identified a p (length (behind_passive v))).active
       (numbered_passive a p N (length (behind_passive v)) (number (behind_passive v)) low)
       (numbered_active a p N (length (behind_passive v)) (number (behind_passive v)) low) [] v fits)
       (behind_passive-relabelled (number (behind_passive v)) v ∙ numbers_all (behind_passive v) apart)))

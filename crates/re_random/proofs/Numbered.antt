@@ -18,7 +18,7 @@ use Rattle.re_labels.proofs.Membership.{AllByRecursion-contains, AllByRecursion-
 use Rattle.re_labels.specs.Lists.{count_from}
 use Rattle.re_local.proofs.ColouredLocal.{all_alike}
 use Rattle.re_local.proofs.LocalGiven.{TakesTo}
-use Rattle.re_local.specs.LocalAlgorithms.{AreDifferent, behind_active, behind_passive, named, shown}
+use Rattle.re_local.specs.LocalAlgorithms.{AreDifferent, behind_active, behind_passive, identified, shown}
 use Rattle.re_problem.proofs.StepLaws.{map-map}
 use Rattle.re_random.specs.RandomAlgorithms.{painted}
 use Rattle.re_table.specs.Constraints.{Constraint, Has}
@@ -38,7 +38,7 @@ HasLabels-weaker P Q weaker (more back label branch rest) h =
     (weaker label h.0, HasLabels-weaker P Q weaker branch h.1, HasLabels-weaker P Q weaker rest h.2)
 
 -- around an active node stands one identifier, which is below N
-pub one_identifier : (a p N : ℕ) (labels : List ℕ) → Has (named a p N).active labels → (z : ℕ) × (z < N) × ((y : ℕ) → Contains labels y → y ≡ z)
+pub one_identifier : (a p N : ℕ) (labels : List ℕ) → Has (identified a p N).active labels → (z : ℕ) × (z < N) × ((y : ℕ) → Contains labels y → y ≡ z)
 one_identifier a p N labels has =
     let (z, held, is) = Contains-map_cases (replicate a) (count_from 0 N) (sorted labels) has in
     let range = count_from_range 0 N z held in (
@@ -48,12 +48,12 @@ one_identifier a p N labels has =
           (subst (λ config. Contains config y) (sym is) (Contains-Rearranged y (Rearranged-sorted labels) at)),
     )
 
-passive_below : (a p N : ℕ) (labels : List ℕ) → Has (named a p N).passive labels → (y : ℕ) → Contains labels y → y < N
+passive_below : (a p N : ℕ) (labels : List ℕ) → Has (identified a p N).passive labels → (y : ℕ) → Contains labels y → y < N
 passive_below a p N labels has y at =
     let is : IsConfig p N (sorted labels) = ((multisets_law p N).1 (sorted labels)).0 has in
     AllByRecursion-contains (λ y. y < N) (sorted labels) y is.below (Contains-Rearranged y (Rearranged-sorted labels) at)
 
-active_below : (a p N : ℕ) (labels : List ℕ) → Has (named a p N).active labels → (y : ℕ) → Contains labels y → y < N
+active_below : (a p N : ℕ) (labels : List ℕ) → Has (identified a p N).active labels → (y : ℕ) → Contains labels y → y < N
 active_below a p N labels has y at = let (z, l, alike) = one_identifier a p N labels has in let e = alike y at in omega (arith, l, e)
 
 -- labels that fit are below what bounds those of both constraints
@@ -79,11 +79,11 @@ all_low l own other d e (suc t) (suc n) seen (more back label branch rest) low l
   all_low l own other d e (suc t) n (label ∷ seen) rest low low' tree.3 h.1,
 )
 
-pub active_view_below : (a p N t n : ℕ) (v : InputView) → IsTree a p t n v → Fits (named a p N).active (named a p N).passive v → AreBelow N v
-active_view_below a p N t n v tree fits = all_low N (named a p N).active (named a p N).passive a p t n [] v (active_below a p N) (passive_below a p N) tree fits
+pub active_view_below : (a p N t n : ℕ) (v : InputView) → IsTree a p t n v → Fits (identified a p N).active (identified a p N).passive v → AreBelow N v
+active_view_below a p N t n v tree fits = all_low N (identified a p N).active (identified a p N).passive a p t n [] v (active_below a p N) (passive_below a p N) tree fits
 
-pub passive_view_below : (a p N t n : ℕ) (v : InputView) → IsTree p a t n v → Fits (named a p N).passive (named a p N).active v → AreBelow N v
-passive_view_below a p N t n v tree fits = all_low N (named a p N).passive (named a p N).active p a t n [] v (passive_below a p N)
+pub passive_view_below : (a p N t n : ℕ) (v : InputView) → IsTree p a t n v → Fits (identified a p N).passive (identified a p N).active v → AreBelow N v
+passive_view_below a p N t n v tree fits = all_low N (identified a p N).passive (identified a p N).active p a t n [] v (passive_below a p N)
     (active_below a p N) tree fits
 
 split : {l : ℕ} (xs ys : List ℕ) (y : ℕ) → (Contains xs y → y < l) → (Contains ys y → y < l) → Contains (xs ++ ys) y → y < l
@@ -122,7 +122,7 @@ shown_below l (more back label branch rest) b =
 
 -- ---- all labels of a view with identifiers are those that it shows
 module _ (a p N : ℕ) where
-  around_one : (t n : ℕ) (seen : List ℕ) (v : InputView) → IsTree a p (suc t) n v → FitsAround (named a p N).active (named a p N).passive seen v
+  around_one : (t n : ℕ) (seen : List ℕ) (v : InputView) → IsTree a p (suc t) n v → FitsAround (identified a p N).active (identified a p N).passive seen v
       → (x y : ℕ) → Contains seen x → Contains seen y → x ≡ y
   around_one t n seen leaf tree h x y at at' = absurd tree
   around_one t n seen end tree h x y at at' = let (z, l, alike) = one_identifier a p N seen h in alike x at ∙ sym (alike y at')
@@ -132,7 +132,7 @@ module _ (a p N : ℕ) where
 
   mutual
     active_labels : (t n x : ℕ) (seen : List ℕ) (v : InputView) → Contains seen x → IsTree a p t n v
-        → FitsAround (named a p N).active (named a p N).passive seen v
+        → FitsAround (identified a p N).active (identified a p N).passive seen v
         → HasLabels (λ y. (y ≡ x) ⊎ Contains (behind_active v) y) v
     active_labels t n x seen leaf at tree h = tt
     active_labels t n x seen end at tree h = tt
@@ -148,7 +148,7 @@ module _ (a p N : ℕ) where
           (active_labels (suc t) n x (label ∷ seen) rest (Contains-later x label seen at) tree.3 h.1),
     )
 
-    passive_labels : (t n : ℕ) (seen : List ℕ) (v : InputView) → IsTree p a t n v → FitsAround (named a p N).passive (named a p N).active seen v
+    passive_labels : (t n : ℕ) (seen : List ℕ) (v : InputView) → IsTree p a t n v → FitsAround (identified a p N).passive (identified a p N).active seen v
         → HasLabels (λ y. Contains (behind_passive v) y) v
     passive_labels t n seen leaf tree h = tt
     passive_labels t n seen end tree h = tt
@@ -166,11 +166,11 @@ module _ (a p N : ℕ) where
           (passive_labels (suc t) n (label ∷ seen) rest tree.3 h.1),
     )
 
-  pub passive_view_labels : (t n : ℕ) (v : InputView) → IsTree p a t n v → Fits (named a p N).passive (named a p N).active v
+  pub passive_view_labels : (t n : ℕ) (v : InputView) → IsTree p a t n v → Fits (identified a p N).passive (identified a p N).active v
       → HasLabels (λ y. Contains (behind_passive v) y) v
   passive_view_labels t n v tree h = passive_labels t n [] v tree h
 
-  pub active_view_labels : (t n : ℕ) (v : InputView) → IsTree a p t n v → Fits (named a p N).active (named a p N).passive v
+  pub active_view_labels : (t n : ℕ) (v : InputView) → IsTree a p t n v → Fits (identified a p N).active (identified a p N).passive v
       → HasLabels (λ y. Contains (shown v) y) v
   active_view_labels t n leaf tree h = tt
   active_view_labels t n end tree h = tt
@@ -249,7 +249,7 @@ map-replicate : (f : ℕ → ℕ) (n x : ℕ) → map f (replicate n x) ≡ repl
 map-replicate f zero x = refl
 map-replicate f (suc n) x = ap (◌∷◌ (f x)) (map-replicate f n x)
 
-pub numbered_active : (a p N k : ℕ) (image : ℕ → ℕ) → ((x : ℕ) → image x < k) → TakesTo image (named a p N).active (named a p k).active
+pub numbered_active : (a p N k : ℕ) (image : ℕ → ℕ) → ((x : ℕ) → image x < k) → TakesTo image (identified a p N).active (identified a p k).active
 numbered_active a p N k image low labels has =
     let (x, held, is) = Contains-map_cases (replicate a) (count_from 0 N) (sorted labels) has in
     let same : sorted (map image labels) ≡ replicate a (image x) =
@@ -258,7 +258,7 @@ numbered_active a p N k image low labels has =
     (ap sorted (map-replicate image a x) ∙ sorted_again (replicate a (image x)) (alike_rise a (image x)))) in
     rw same (Contains-map (replicate a) (count_from 0 k) (image x) (Contains-count_from 0 k (image x) (omega arith) (let l = low x in omega (arith, l))))
 
-pub numbered_passive : (a p N k : ℕ) (image : ℕ → ℕ) → ((x : ℕ) → image x < k) → TakesTo image (named a p N).passive (named a p k).passive
+pub numbered_passive : (a p N k : ℕ) (image : ℕ → ℕ) → ((x : ℕ) → image x < k) → TakesTo image (identified a p N).passive (identified a p k).passive
 numbered_passive a p N k image low labels has =
     let is : IsConfig p N (sorted labels) = ((multisets_law p N).1 (sorted labels)).0 has in
     let count : length (map image labels) ≡ p = length-map labels image ∙ (sym (length-sorted labels) ∙ is.count) in

@@ -45,5 +45,5 @@ views_few d l T some =
     finish x y z w h e h' = omega (arith, h, e, h')
 
 -- the bits of the base for identifiers, for 3 ports and 2 labels
-pub sinkless_bits : identifier_base 3 2 ≤ 2 ^ 989
+pub sinkless_bits : identifier_base 3 2 2 ≤ 2 ^ 989
 sinkless_bits = omega arith

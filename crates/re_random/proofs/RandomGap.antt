@@ -59,14 +59,11 @@ few_views d m T low small large =
         omega (arith, l, square, cubes, h)
 
 pub named_gap : NamedGapLaw
-named_gap problem h N R T q algorithm is edge l many enough fails =
-    gap problem h T (tower (T + h + 6)) is edge l (omega arith)
-    (derandomised_named problem problem.active.degree (tower (T + h + 6)) R T q algorithm is (omega arith) low few
+named_gap problem h N R T q algorithm is l many enough fails =
+    gap problem h T (tower (T + h + 6)) is l (omega arith)
+    (derandomised_named problem 6 (tower (T + h + 6)) R T q algorithm is is.active.most is.passive.most few
     (fewer_names problem (tower (T + h + 6)) N R T q algorithm many fails))
   where
-    low : problem.passive.degree ≤ problem.active.degree
-    low = let least = is.active.least in omega (arith, least, edge)
-
     m : ℕ
     m = tower (T + h + 4)
 
@@ -89,16 +86,15 @@ named_gap problem h N R T q algorithm is edge l many enough fails =
     large : 4 ≤ m
     large = let four : tower 2 ≤ tower (T + h + 4) = tower-le 2 (T + h + 4) (omega arith) in omega (arith, four)
 
-    few : id_views problem.active.degree (tower (T + h + 6)) T ≤ q
+    few : id_views 6 (tower (T + h + 6)) T ≤ q
     few =
-        let views : 2 * (problem.active.degree * 2 ^ (2 ^ m)) ^ (problem.active.degree ^ (T + 2)) ≤ 2 ^ (2 ^ (2 ^ m)) =
-        few_views problem.active.degree m T is.active.most small large in
+        let views : 2 * (6 * 2 ^ (2 ^ m)) ^ (6 ^ (T + 2)) ≤ 2 ^ (2 ^ (2 ^ m)) = few_views 6 m T (omega arith) small large in
         let six : T + h + 6 ≡ suc (suc (T + h + 4)) = omega arith in
         let seven : T + h + 7 ≡ suc (suc (suc (T + h + 4))) = omega arith in
         let top : 2 ^ (2 ^ (2 ^ m)) ≤ q = subst (λ k. tower k ≤ q) seven enough in
-        subst (λ k. id_views problem.active.degree (tower k) T ≤ q) (sym six) (omega (arith, views, top))
+        subst (λ k. id_views 6 (tower k) T ≤ q) (sym six) (omega (arith, views, top))
 
 pub randomised_gap : RandomisedGapLaw
-randomised_gap problem h R T q algorithm is edge l enough fails =
-    named_gap problem h (tower (T + h + 6)) R T q (λ k. algorithm (with_images (λ label. label % R) k)) is edge l (omega arith) enough
+randomised_gap problem h R T q algorithm is l enough fails =
+    named_gap problem h (tower (T + h + 6)) R T q (λ k. algorithm (with_images (λ label. label % R) k)) is l (omega arith) enough
     (fails_named problem (tower (T + h + 6)) R T q algorithm is fails)

@@ -1,5 +1,5 @@
 -- Where random strings are of no use at all.
-use Rattle.std.specs.Prelude.{◌≡◌, ℕ, ◌+◌, ◌≤◌, List}
+use Rattle.std.specs.Prelude.{ℕ, ◌+◌, ◌≤◌, List}
 use Rattle.re_given.specs.InputViews.{InputView}
 use Rattle.re_laws.specs.Algorithms.{Solvable}
 use Rattle.re_local.specs.Towers.{tower}
@@ -13,10 +13,10 @@ abbrev pub RandomisedConstantLaw : Type 0
 RandomisedConstantLaw = (problem : Problem) (T : ℕ) → IsProblem problem →
     (q : ℕ) × ((R : ℕ) (algorithm : InputView → List ℕ) → FailsRarely problem R T q algorithm → Solvable problem T)
 
--- where passive nodes are edges, and the problem has at most a tower of h twos of labels: what a randomised algorithm of T rounds solves that
--- fails with a probability below 1 / q, where q is at least a tower of T + h + 7 twos, takes at most T + 1 rounds with port numbers alone
+-- where the problem has at most a tower of h twos of labels: what a randomised algorithm of T rounds solves that fails with a probability below
+-- 1 / q, where q is at least a tower of T + h + 7 twos, takes at most T + 1 rounds with port numbers alone
 abbrev pub RandomisedGapLaw : Type 0
-RandomisedGapLaw = (problem : Problem) (h R T q : ℕ) (algorithm : InputView → List ℕ) → IsProblem problem → problem.passive.degree ≡ 2 →
+RandomisedGapLaw = (problem : Problem) (h R T q : ℕ) (algorithm : InputView → List ℕ) → IsProblem problem →
     problem.labels ≤ tower h → tower (T + h + 7) ≤ q → FailsRarely problem R T q algorithm → Solvable problem (T + 1)
 
 -- ---- with identifiers too
@@ -26,7 +26,7 @@ abbrev pub NamedConstantLaw : Type 0
 NamedConstantLaw = (problem : Problem) (T : ℕ) → IsProblem problem →
     (N : ℕ) × (q : ℕ) × ((more R : ℕ) (algorithm : InputView → List ℕ) → N ≤ more → FailsRarelyNamed problem more R T q algorithm → Solvable problem T)
 
--- where passive nodes are edges a tower of T + h + 6 twos is enough for the one, and one of T + h + 7 for the other, with one round more
+-- a tower of T + h + 6 twos is enough for the one, and one of T + h + 7 for the other, with one round more
 abbrev pub NamedGapLaw : Type 0
-NamedGapLaw = (problem : Problem) (h N R T q : ℕ) (algorithm : InputView → List ℕ) → IsProblem problem → problem.passive.degree ≡ 2 →
+NamedGapLaw = (problem : Problem) (h N R T q : ℕ) (algorithm : InputView → List ℕ) → IsProblem problem →
     problem.labels ≤ tower h → tower (T + h + 6) ≤ N → tower (T + h + 7) ≤ q → FailsRarelyNamed problem N R T q algorithm → Solvable problem (T + 1)

@@ -2,7 +2,7 @@
 use Rattle.std.specs.Prelude.{ℕ, ◌↔◌, ◌+◌, ◌*◌, ◌/◌, ◌%◌, ◌^◌, ◌≤◌, List}
 use Rattle.re_given.specs.Given.{SolvesGivenBy}
 use Rattle.re_given.specs.InputViews.{InputView}
-use Rattle.re_local.specs.LocalAlgorithms.{SolvableLocal, SolvesApart, named}
+use Rattle.re_local.specs.LocalAlgorithms.{SolvableLocal, SolvesApart, identified}
 use Rattle.re_problem.specs.Examples.{relaxed_sinkless}
 use Rattle.re_problem.specs.Problems.{IsProblem, Problem}
 use Rattle.re_random.specs.NamedRandom.{FailsRarelyNamed, with_images}
@@ -12,7 +12,7 @@ use Rattle.re_separating.specs.Laws.{IsBeyondPower}
 -- an algorithm that solves a problem whatever the strings are, if there is one, fails with a probability below any 1 / q
 abbrev pub CertainLaw : Type 0
 CertainLaw = (problem : Problem) (R T q : ℕ) (algorithm : InputView → List ℕ) → 1 ≤ R →
-    SolvesGivenBy problem (named problem.active.degree problem.passive.degree R) T algorithm → FailsRarely problem R T q algorithm
+    SolvesGivenBy problem (identified problem.active.degree problem.passive.degree R) T algorithm → FailsRarely problem R T q algorithm
 
 -- at least the number of views of radius T + 1 and T + 2 with N identifiers, where no node has more than d ports: such a view has no more than
 -- d ^ (T + 2) edges, and at each of them one of d ports and one of N identifiers
@@ -28,8 +28,8 @@ DerandomisedLaw = (problem : Problem) (d N R T q : ℕ) (algorithm : InputView �
 -- no randomised algorithm of T rounds, with however many strings, fails with a probability below 1 / q at each node, where q is at least
 -- 2 ^ (D ^ (T + 1)): each of them fails at some node, for some port numbering, with a probability of at least 1 / q. So T rounds are enough for
 -- a probability of failure below 1 / q only where T + 1 > log_D (log_2 q)
-abbrev pub IsBeyondRandomised : Problem → ℕ → ℕ → Type 0
-IsBeyondRandomised problem D T = (q R : ℕ) (algorithm : InputView → List ℕ) → 2 ^ (D ^ (T + 1)) ≤ q → FailsRarely problem R T q algorithm → ⊥
+abbrev pub IsBeyondDoublePower : Problem → ℕ → ℕ → Type 0
+IsBeyondDoublePower problem D T = (q R : ℕ) (algorithm : InputView → List ℕ) → 2 ^ (D ^ (T + 1)) ≤ q → FailsRarely problem R T q algorithm → ⊥
 
 -- the base of the power in the exponent, for nodes of no more than d ports, and a base of no more than 2 ^ l for identifiers
 abbrev pub random_base : ℕ → ℕ → ℕ
@@ -38,11 +38,11 @@ random_base d l = 2 * d * d * (d + l)
 -- where no local algorithm of T rounds solves a problem with C ^ (T + 1) identifiers or more, no randomised one of T rounds fails rarely
 abbrev pub RandomisedLaw : Type 0
 RandomisedLaw = (problem : Problem) (d C l T : ℕ) → IsProblem problem → problem.active.degree ≤ d → problem.passive.degree ≤ d → C ≤ 2 ^ l →
-    IsBeyondPower problem C T → IsBeyondRandomised problem (random_base d l) T
+    IsBeyondPower problem C T → IsBeyondDoublePower problem (random_base d l) T
 
 -- so it is for the relaxation of sinkless orientation, for any number of rounds, where D is 17,856
 abbrev pub SinklessRandomLaw : Type 0
-SinklessRandomLaw = (T : ℕ) → IsBeyondRandomised relaxed_sinkless (random_base 3 989) T
+SinklessRandomLaw = (T : ℕ) → IsBeyondDoublePower relaxed_sinkless (random_base 3 989) T
 
 -- ---- with identifiers too
 -- a randomised algorithm without identifiers is one that takes no notice of them: it fails as rarely with different ones, however many these are
@@ -53,7 +53,7 @@ UnnoticedNamesLaw = (problem : Problem) (R T q : ℕ) (algorithm : InputView →
 -- a local algorithm that takes no notice of strings, if there is one, fails with a probability below any 1 / q
 abbrev pub CertainNamedLaw : Type 0
 CertainNamedLaw = (problem : Problem) (N R T q : ℕ) (algorithm : InputView → List ℕ) → 1 ≤ R →
-    SolvesApart problem (named problem.active.degree problem.passive.degree N) (λ x. x) T algorithm →
+    SolvesApart problem (identified problem.active.degree problem.passive.degree N) (λ x. x) T algorithm →
     FailsRarelyNamed problem N R T q (λ seen. algorithm (with_images (λ label. label / R) seen))
 
 -- a randomised algorithm with N identifiers that fails with a probability below 1 / q, with no more than q views with N identifiers, gives a

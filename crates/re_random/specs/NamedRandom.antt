@@ -2,7 +2,7 @@
 use Rattle.std.specs.Prelude.{ℕ, suc, ◌+◌, ◌*◌, ◌^◌, ◌<◌, not, List, length, filter, slice_index}
 use Rattle.re_given.specs.Given.{around_known}
 use Rattle.re_given.specs.InputViews.{Fits, InputView, known}
-use Rattle.re_local.specs.LocalAlgorithms.{AreDifferent, behind_passive, named, shown}
+use Rattle.re_local.specs.LocalAlgorithms.{AreDifferent, behind_passive, identified, shown}
 use Rattle.re_problem.specs.Problems.{Problem}
 use Rattle.re_random.specs.RandomAlgorithms.{string_lists}
 use Rattle.re_table.specs.Constraints.{has_config}
@@ -24,11 +24,11 @@ with_strings R strings = with_images (λ id. id * R + slice_index strings id)
 -- The algorithm is a function of the ports, identifiers and strings that a node knows.
 pub record FailsRarelyNamed (problem : Problem) (N R T q : ℕ) (algorithm : InputView → List ℕ) : Type 0 where
   pub active : (v : InputView) → IsView problem.active.degree problem.passive.degree (suc T) v →
-      Fits (named problem.active.degree problem.passive.degree N).active (named problem.active.degree problem.passive.degree N).passive v →
+      Fits (identified problem.active.degree problem.passive.degree N).active (identified problem.active.degree problem.passive.degree N).passive v →
       AreDifferent (shown v) →
       q * length (filter (λ strings. not (has_config problem.active (algorithm (known T (with_strings R strings v))))) (string_lists R N)) < R ^ N
   pub passive : (v : InputView) → IsView problem.passive.degree problem.active.degree (suc (suc T)) v →
-      Fits (named problem.active.degree problem.passive.degree N).passive (named problem.active.degree problem.passive.degree N).active v →
+      Fits (identified problem.active.degree problem.passive.degree N).passive (identified problem.active.degree problem.passive.degree N).active v →
       AreDifferent (behind_passive v) →
       q * length (filter (λ strings. not (has_config problem.passive (around_known problem.passive.degree T algorithm (with_strings R strings v))))
       (string_lists R N)) < R ^ N

@@ -3,7 +3,7 @@ use Rattle.std.specs.Prelude.{◌≡◌, ℕ, zero, suc, ◌*◌, ◌^◌, ◌<�
 use Rattle.re_given.specs.Given.{around_known}
 use Rattle.re_given.specs.InputViews.{Fits, InputView, known}
 use Rattle.re_labels.specs.Lists.{count_from}
-use Rattle.re_local.specs.LocalAlgorithms.{behind_passive, named, shown}
+use Rattle.re_local.specs.LocalAlgorithms.{behind_passive, identified, shown}
 use Rattle.re_problem.specs.Problems.{Problem}
 use Rattle.re_table.specs.Constraints.{has_config}
 use Rattle.re_views.specs.Trees.{IsView, end, leaf, more}
@@ -26,11 +26,11 @@ painted strings (more back number branch rest) = more back (slice_index strings 
 -- are still fewer than all. The algorithm is a function of the ports and strings that a node knows, and sees no numbers.
 pub record FailsRarely (problem : Problem) (R T q : ℕ) (algorithm : InputView → List ℕ) : Type 0 where
   pub active : (v : InputView) (k : ℕ) → IsView problem.active.degree problem.passive.degree (suc T) v →
-      Fits (named problem.active.degree problem.passive.degree k).active (named problem.active.degree problem.passive.degree k).passive v →
+      Fits (identified problem.active.degree problem.passive.degree k).active (identified problem.active.degree problem.passive.degree k).passive v →
       shown v ≡ count_from 0 k →
       q * length (filter (λ strings. not (has_config problem.active (algorithm (known T (painted strings v))))) (string_lists R k)) < R ^ k
   pub passive : (v : InputView) (k : ℕ) → IsView problem.passive.degree problem.active.degree (suc (suc T)) v →
-      Fits (named problem.active.degree problem.passive.degree k).passive (named problem.active.degree problem.passive.degree k).active v →
+      Fits (identified problem.active.degree problem.passive.degree k).passive (identified problem.active.degree problem.passive.degree k).active v →
       behind_passive v ≡ count_from 0 k →
       q * length (filter (λ strings. not (has_config problem.passive (around_known problem.passive.degree T algorithm (painted strings v)))) (string_lists R k))
       < R ^ k

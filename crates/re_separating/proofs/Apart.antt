@@ -1,30 +1,28 @@
--- On the trees of a graph from a hypergraph without short closed walks all identifiers near a node are different.
-use Rattle.std.proofs.Common.{◌≡◌, ℕ, zero, suc, pred, ◌+◌, ◌-◌, ◌*◌, ◌/◌, ◌%◌, ◌≤◌, ◌<◌, Bool, true, false, cond, leb, inl, inr, List, [], ◌∷◌, ◌++◌, map, refl, sym, ◌∙◌, ap, subst, arith}
+-- On the trees of a hypergraph of identifiers, from a hypergraph without short closed walks, all identifiers near a node are different.
+use Rattle.std.proofs.Common.{◌≡◌, ℕ, zero, suc, pred, ◌+◌, ◌-◌, ◌*◌, ◌/◌, ◌%◌, ◌^◌, ◌≤◌, ◌<◌, true, inl, inr, List, [], ◌∷◌, ◌++◌, map, get_or, refl, sym, ◌∙◌, ap, subst, arith}
 use Rattle.std.specs.Prelude.{Contains, ◌⊎◌}
-use Rattle.std.proofs.lemmas.Nat.{div-add-mod', div-mul-add, mod_below}
-use Rattle.re_config.proofs.Rearranging.{Contains-Rearranged, Rearranged-sym}
+use Rattle.std.proofs.lemmas.Nat.{div-add-mod', div-mul-add, mod-mul-add, mod_below, same_from_place}
+use Rattle.re_config.proofs.Rearranging.{Contains-Rearranged, Rearranged-map, Rearranged-sym}
 use Rattle.re_config.proofs.Sorting.{Rearranged-sorted}
 use Rattle.re_config.specs.Configs.{sorted}
 use Rattle.re_config.specs.Orders.{multisets}
+use Rattle.re_config.specs.Rearranging.{Rearranged, chained}
 use Rattle.re_given.proofs.Fitting.{Has-around}
-use Rattle.re_given.specs.Identifiers.{IdGraph, are_joined, id_labels, identifiers}
-use Rattle.re_given.specs.InputViews.{Fits, FitsAround, InputView, payloads}
-use Rattle.re_labels.proofs.Membership.{Contains-In, Contains-filter_cases, Contains-map_cases, Distinct, Distinct-count_from, In, In-Contains, In-append_cases, In-append_left, In-append_right, count_from_range}
-use Rattle.re_labels.proofs.Tests.{or-true}
+use Rattle.re_local.specs.Identifiers.{id_labels}
+use Rattle.re_given.specs.InputViews.{FitsAround, InputView, payloads}
+use Rattle.re_separating.proofs.Matched.{digit_below, digits, edge_labels, labels_at_ids, labels_cases, matched, matched_edge, places_within, points_different}
+use Rattle.re_separating.proofs.Pruned.{relabel}
+use Rattle.re_local.specs.Identifiers.{IdHypergraph, identifiers}
+use Rattle.re_labels.proofs.Membership.{Contains-In, Contains-filter_cases, Contains-map, Contains-map_cases, Distinct-count_from, In, In-Contains, In-append_cases, In-append_left, In-append_right, count_from_range}
 use Rattle.re_labels.specs.Lists.{count_from}
 use Rattle.re_local.proofs.ColouredLocal.{different_Rearranged}
+use Rattle.re_local.proofs.Complete.{different_distinct}
 use Rattle.re_local.specs.LocalAlgorithms.{AreDifferent, behind_active, behind_passive, shown}
 use Rattle.re_local.specs.Separating.{AreApart}
-use Rattle.re_separating.proofs.Matched.{matched, matched_edge, one_place, one_place_below, other_place, other_place_below, places, port_of, port_one, port_other}
-use Rattle.re_separating.proofs.Pruned.{renamed}
 use Rattle.re_separating.proofs.Walks.{joined, turned}
 use Rattle.re_separating.specs.Hypergraphs.{Hyper, IsHyper, IsSparse, On, Walk, one, step}
 use Rattle.re_table.specs.Constraints.{Has}
 use Rattle.re_views.specs.Trees.{IsTree, IsView, end, leaf, more}
-
-different_distinct : (xs : List ℕ) → Distinct xs → AreDifferent xs
-different_distinct [] d = tt
-different_distinct (x ∷ xs) d = (d.0, different_distinct xs d.1)
 
 different_across : (xs ys : List ℕ) → AreDifferent (xs ++ ys) → (y z : ℕ) → In y xs → In z ys → y ≡ z → ⊥
 different_across [] ys d y z i j same = i
@@ -46,65 +44,69 @@ different_labels a [] d = tt
 different_labels a (y ∷ ys) d =
     (λ at. let (z, held, same) = Contains-map_cases (λ label. label / a) ys (y / a) at in d.0 z (Contains-In z ys held) (sym same), different_labels a ys d.1)
 
-no_end : (d e t n : ℕ) → IsTree {E = ℕ} d e t (suc n) end → ⊥
-no_end d e zero n tree = tree
-no_end d e (suc t) n tree = tree
+names_relabelled : (a : ℕ) (name : ℕ → ℕ) (labels : List ℕ) → 1 ≤ a → map (λ u. u / a) (map (relabel a name) labels) ≡ map (λ u. name (u / a)) labels
+names_relabelled a name [] some = refl
+names_relabelled a name (u ∷ labels) some =
+    ap (λ x. x ∷ map (λ u. u / a) (map (relabel a name) labels)) (div-mul-add (name (u / a)) a (u % a) (mod_below u a (omega arith))) ∙ ap (λ l. name (u / a) ∷ l) (names_relabelled a name labels some)
 
-module _ (a g points N : ℕ) (hyper : Hyper ℕ) (name : ℕ → ℕ) (some : 1 ≤ a) (is_hyper : IsHyper (places a) points hyper) (sparse : IsSparse (places a) g hyper) where
-  abbrev graph : IdGraph
-  graph = renamed name (matched a hyper)
+module _ (a p g points_below N : ℕ) (hyper : Hyper ℕ) (name : ℕ → ℕ) (kept : IdHypergraph) (some : 1 ≤ a) (is_hyper : IsHyper (p * a ^ p) points_below hyper) (sparse : IsSparse (p * a ^ p) g hyper)
+    (from : (labels : List ℕ) → kept (sorted labels) ≡ true → matched a p hyper (sorted (map (relabel a name) labels)) ≡ true) where
+  -- the port at a place
+  abbrev port_of : ℕ → ℕ
+  port_of place = get_or (digits a p (place / p)) (place % p) 0
 
   -- ---- labels on edges of the hypergraph
   -- the edge has the identifier of the label at a place of its port
   record Stands (e u : ℕ) : Type 0 where
     there : e < hyper.edges
     place : ℕ
-    place_below : place < places a
+    place_below : place < p * a ^ p
     at : hyper.at e place ≡ name (u / a)
-    port : port_of a place ≡ u % a
+    port : port_of place ≡ u % a
 
-  stands_on : {e u : ℕ} → Stands e u → On (places a) hyper e (name (u / a))
+  stands_on : {e u : ℕ} → Stands e u → On (p * a ^ p) hyper e (name (u / a))
   stands_on s = (s.there, s.place, s.place_below, s.at)
 
   stands_same : {e u v : ℕ} → Stands e u → Stands e v → u / a ≡ v / a → u ≡ v
   stands_same {e} {u} {v} s t same =
       let place : s.place ≡ t.place = is_hyper.apart e s.place t.place s.there s.place_below t.place_below (s.at ∙ (ap name same ∙ sym t.at)) in
-      let port : u % a ≡ v % a = sym s.port ∙ (ap (port_of a) place ∙ t.port) in
+      let port : u % a ≡ v % a = sym s.port ∙ (ap port_of place ∙ t.port) in
       sym (div-add-mod' u a) ∙ (ap (λ x. x * a + u % a) same ∙ (ap (λ i. v / a * a + i) port ∙ div-add-mod' v a))
 
-  record Joined (u v : ℕ) : Type 0 where
+  -- the labels stand on one edge, and their identifiers are different
+  record Around (labels : List ℕ) : Type 0 where
     edge : ℕ
-    left : Stands edge u
-    right : Stands edge v
-    apart : name (u / a) ≡ name (v / a) → ⊥
+    stands : (u : ℕ) → In u labels → Stands edge u
+    apart : AreDifferent (map (λ u. name (u / a)) labels)
 
-  turned_labels : {u v : ℕ} → Joined u v → Joined v u
-  turned_labels two = record { edge = two.edge; left = two.right; right = two.left; apart = λ e. two.apart (sym e) }
-
-  joined_matched : (u v : ℕ) → graph (u / a) (u % a) (v / a) (v % a) ≡ true → Joined u v
-  joined_matched u v h =
-      let i : u % a < a = mod_below u a (omega arith) in
-      let j : v % a < a = mod_below v a (omega arith) in
-      let (e, el, left, right) = matched_edge a hyper (name (u / a)) (u % a) (name (v / a)) (v % a) h in
-      record {
-        edge = e;
-        left = record { there = el; place = one_place a (u % a) (v % a); place_below = one_place_below a (u % a) (v % a) i j; at = left; port = port_one a (u % a) (v % a) j };
-        right = record { there = el; place = other_place a (u % a) (v % a); place_below = other_place_below a (u % a) (v % a) i j; at = right; port = port_other a (u % a) (v % a) j };
-        apart = λ same.
-            let place : one_place a (u % a) (v % a) ≡ other_place a (u % a) (v % a) =
-            is_hyper.apart e (one_place a (u % a) (v % a)) (other_place a (u % a) (v % a)) el (one_place_below a (u % a) (v % a) i j) (other_place_below a (u % a) (v % a) i j) (left ∙ (same ∙ sym right)) in
-            omega (arith, place);
-      }
-
-  joined_labels : (u w : ℕ) → Has (identifiers a N graph).passive (w ∷ u ∷ []) → Joined u w
-  joined_labels u w has = go (leb w u) (Contains-filter_cases (are_joined a graph) (multisets 2 0 (a * N)) (sorted (w ∷ u ∷ [])) has).1
+  around : (labels : List ℕ) → Has (identifiers a p N kept).passive labels → Around labels
+  around labels has = go (matched_edge a p hyper (sorted (map (relabel a name) labels)) (from labels (Contains-filter_cases kept (multisets p 0 (a * N)) (sorted labels) has).1))
     where
-      go : (b : Bool) → are_joined a graph (cond b (w ∷ u ∷ []) (u ∷ w ∷ [])) ≡ true → Joined u w
-      go true h = elim (or-true (graph (w / a) (w % a) (u / a) (u % a)) (graph (u / a) (u % a) (w / a) (w % a)) h) [ inl e ↦ turned_labels (joined_matched w u e) | inr e ↦ joined_matched u w e ]
-      go false h = elim (or-true (graph (u / a) (u % a) (w / a) (w % a)) (graph (w / a) (w % a) (u / a) (u % a)) h) [ inl e ↦ joined_matched u w e | inr e ↦ turned_labels (joined_matched w u e) ]
+      go : (e : ℕ) × (e < hyper.edges) × (c : ℕ) × (c < a ^ p) × (sorted (edge_labels a p hyper e c) ≡ sorted (map (relabel a name) labels)) → Around labels
+      go (e, el, c, cl, same) = record {
+        edge = e;
+        stands = on_edge;
+        apart = subst AreDifferent (names_relabelled a name labels some)
+            (different_Rearranged (Rearranged-map (λ u. u / a) moved) (subst AreDifferent (sym (labels_at_ids a hyper e (c * p) p c some)) (points_different (p * a ^ p) points_below hyper e (c * p) p is_hyper el (places_within a p c cl))));
+      }
+        where
+          moved : Rearranged (edge_labels a p hyper e c) (map (relabel a name) labels)
+          moved = chained (Rearranged-sorted (edge_labels a p hyper e c)) (subst (λ l. Rearranged l (map (relabel a name) labels)) (sym same) (Rearranged-sym (Rearranged-sorted (map (relabel a name) labels))))
+
+          on_edge : (u : ℕ) → In u labels → Stands e u
+          on_edge u i =
+              let (j, jl, is) = labels_cases a hyper e (c * p) p c (relabel a name u) (Contains-Rearranged (relabel a name u) (Rearranged-sym moved) (Contains-map (relabel a name) labels u (In-Contains u labels i))) in
+              let (id, port) = same_from_place (name (u / a)) (u % a) (hyper.at e (c * p + j)) (get_or (digits a p c) j 0) a (mod_below u a (omega arith)) (digit_below a p c j some) is in
+              record {
+                there = el;
+                place = c * p + j;
+                place_below = (let within = places_within a p c cl in omega (arith, within, jl));
+                at = sym id;
+                port = rw (div-mul-add c p j jl, mod-mul-add c p j jl) (sym port);
+              }
 
   -- ---- labels around an active node
-  around_one : (labels : List ℕ) → Has (identifiers a N graph).active labels → (y z : ℕ) → In y labels → In z labels → y / a ≡ z / a
+  around_one : (labels : List ℕ) → Has (identifiers a p N kept).active labels → (y z : ℕ) → In y labels → In z labels → y / a ≡ z / a
   around_one labels has y z i j =
       let (x, held, is) = Contains-map_cases (id_labels a) (count_from 0 N) (sorted labels) has in
       let of_x : (u : ℕ) → In u labels → u / a ≡ x = λ u k.
@@ -113,21 +115,27 @@ module _ (a g points N : ℕ) (hyper : Hyper ℕ) (name : ℕ → ℕ) (some : 1
       ap (λ v. v / a) is_u ∙ div-mul-add x a (u - x * a) (omega arith) in
       of_x y i ∙ sym (of_x z j)
 
-  around_different : (labels : List ℕ) → Has (identifiers a N graph).active labels → AreDifferent labels
+  around_different : (labels : List ℕ) → Has (identifiers a p N kept).active labels → AreDifferent labels
   around_different labels has =
       let (x, held, is) = Contains-map_cases (id_labels a) (count_from 0 N) (sorted labels) has in
       different_Rearranged (Rearranged-sym (Rearranged-sorted labels)) (subst AreDifferent is (different_distinct (id_labels a x) (Distinct-count_from (x * a) a)))
 
   abbrev FitsActive : List ℕ → InputView → Type 0
-  FitsActive seen v = FitsAround (identifiers a N graph).active (identifiers a N graph).passive seen v
+  FitsActive seen v = FitsAround (identifiers a p N kept).active (identifiers a p N kept).passive seen v
 
-  beside : (t n : ℕ) (seen : List ℕ) (v : InputView) → IsTree a 2 t n v → FitsActive seen v → (y w : ℕ) → In y (payloads v) → In w seen → (y ≡ w → ⊥) × (y / a ≡ w / a)
+  abbrev FitsPassive : List ℕ → InputView → Type 0
+  FitsPassive seen v = FitsAround (identifiers a p N kept).passive (identifiers a p N kept).active seen v
+
+  beside : (t n : ℕ) (seen : List ℕ) (v : InputView) → IsTree a p t n v → FitsActive seen v → (y w : ℕ) → In y (payloads v) → In w seen → (y ≡ w → ⊥) × (y / a ≡ w / a)
   beside zero n seen leaf tree fits y w i j = absurd i
   beside zero n seen end tree fits y w i j = absurd tree
   beside zero n seen (more back u branch rest) tree fits y w i j = absurd tree
   beside (suc t) n seen v tree fits y w i j =
-      let has : Has (identifiers a N graph).active (payloads v ++ seen) = Has-around (identifiers a N graph).active (identifiers a N graph).passive a 2 t n seen v tree fits in
+      let has : Has (identifiers a p N kept).active (payloads v ++ seen) = Has-around (identifiers a p N kept).active (identifiers a p N kept).passive a p t n seen v tree fits in
       (different_across (payloads v) seen (around_different (payloads v ++ seen) has) y w i j, around_one (payloads v ++ seen) has y w (In-append_left y (payloads v) seen i) (In-append_right w (payloads v) seen j))
+
+  around_passive : (t n : ℕ) (seen : List ℕ) (c : InputView) → IsTree p a (suc t) n c → FitsPassive seen c → Around (payloads c ++ seen)
+  around_passive t n seen c tree fits = around (payloads c ++ seen) (Has-around (identifiers a p N kept).passive (identifiers a p N kept).active p a t n seen c tree fits)
 
   -- ---- what is behind an edge
   -- a walk of up to t steps from the identifier of u to that of z, along the edge of u first
@@ -136,102 +144,157 @@ module _ (a g points N : ℕ) (hyper : Hyper ℕ) (name : ℕ → ℕ) (some : 1
     last : ℕ
     steps : ℕ
     stands : Stands edge u
-    walk : Walk (places a) hyper steps edge last (name (u / a)) (name (z / a))
+    walk : Walk (p * a ^ p) hyper steps edge last (name (u / a)) (name (z / a))
     short : steps ≤ t
+
+  longer : {u t t' z : ℕ} → Reach u t z → t ≤ t' → Reach u t' z
+  longer r l = record { edge = r.edge; last = r.last; steps = r.steps; stands = r.stands; walk = r.walk; short = (let l' = r.short in omega arith) }
 
   no_return : {u t z : ℕ} → Reach u t z → t ≤ g → u / a ≡ z / a → ⊥
   no_return {u} {t} {z} r low same =
-      let long = sparse r.steps r.edge r.last (name (u / a)) (subst (Walk (places a) hyper r.steps r.edge r.last (name (u / a))) (ap name (sym same)) r.walk) in
+      let long = sparse r.steps r.edge r.last (name (u / a)) (subst (Walk (p * a ^ p) hyper r.steps r.edge r.last (name (u / a))) (ap name (sym same)) r.walk) in
       let l = r.short in
       omega arith
 
   no_meeting : {u v t t' y z : ℕ} → Reach u t y → Reach v t' z → (v ≡ u → ⊥) → v / a ≡ u / a → t + t' ≤ g → y / a ≡ z / a → ⊥
   no_meeting {u} {v} {t} {t'} {y} {z} r s away here low same =
-      let onward : Walk (places a) hyper s.steps s.edge s.last (name (u / a)) (name (y / a)) =
-      subst (λ q. Walk (places a) hyper s.steps s.edge s.last q (name (y / a))) (ap name here) (subst (Walk (places a) hyper s.steps s.edge s.last (name (v / a))) (ap name (sym same)) s.walk) in
+      let onward : Walk (p * a ^ p) hyper s.steps s.edge s.last (name (u / a)) (name (y / a)) =
+      subst (λ q. Walk (p * a ^ p) hyper s.steps s.edge s.last q (name (y / a))) (ap name here) (subst (Walk (p * a ^ p) hyper s.steps s.edge s.last (name (v / a))) (ap name (sym same)) s.walk) in
       let round = joined (turned r.walk) onward (λ e. away (stands_same (subst (λ f. Stands f v) (sym e) s.stands) r.stands here)) in
       let long = sparse (r.steps + s.steps) r.last s.last (name (y / a)) round in
       let l = r.short in
       let l' = s.short in
       omega arith
 
+  -- z is w, or is reached from the identifier of w by another of its ports
+  abbrev Near : ℕ → ℕ → ℕ → Type 0
+  Near w t z = (z ≡ w) ⊎ ((v : ℕ) × (v ≡ w → ⊥) × (v / a ≡ w / a) × Reach v t z)
+
+  -- from u along the edge of the passive node to w, and on
+  crossing : {e u w t z : ℕ} → Stands e u → Stands e w → (name (u / a) ≡ name (w / a) → ⊥) → Near w t z → Reach u (suc t) z
+  crossing {e} {u} {w} {t} {z} left right apart (inl is) = subst (Reach u (suc t)) (sym is) (record {
+    edge = e;
+    last = e;
+    steps = 1;
+    stands = left;
+    walk = one (stands_on left) (stands_on right) apart;
+    short = omega arith;
+  })
+  crossing {e} {u} {w} {t} {z} left right apart (inr (v, away, same, r)) = record {
+    edge = e;
+    last = r.last;
+    steps = suc r.steps;
+    stands = left;
+    walk = step (stands_on left) (stands_on right) apart (λ e'. away (stands_same r.stands (subst (λ f. Stands f w) e' right) same))
+        (subst (λ q. Walk (p * a ^ p) hyper r.steps r.edge r.last q (name (z / a))) (ap name same) r.walk);
+    short = (let l = r.short in omega arith);
+  }
+
+  -- each of ys is reached from one of the labels
   abbrev Behind : List ℕ → ℕ → List ℕ → Type 0
   Behind labels t ys = (z : ℕ) → In z ys → (u : ℕ) × In u labels × Reach u t z
 
-  crossing : (t n u w : ℕ) (c : InputView) → Joined u w → IsTree a 2 t n c → FitsActive (w ∷ []) c → t ≤ g → Differ a (behind_active c) × Behind (payloads c) t (behind_active c)
-      → Differ a (w ∷ behind_active c) × ((z : ℕ) → In z (w ∷ behind_active c) → Reach u (suc t) z)
-  crossing t n u w c two tree fits low (differ, behind) = ((here, differ), reached)
+  -- each of ys is one of the labels, or is reached from the identifier of one
+  abbrev Beyond : List ℕ → ℕ → List ℕ → Type 0
+  Beyond labels t ys = (z : ℕ) → In z ys → (w : ℕ) × In w labels × Near w t z
+
+  name_apart : (w : ℕ) (labels : List ℕ) → AreDifferent (map (λ u. name (u / a)) (w ∷ labels)) → (u : ℕ) → In u labels → name (w / a) ≡ name (u / a) → ⊥
+  name_apart w labels d u i same = d.0 (subst (Contains (map (λ u. name (u / a)) labels)) (sym same) (Contains-map (λ u. name (u / a)) labels u (In-Contains u labels i)))
+
+  -- from an active node through a passive one
+  through : (t n u : ℕ) (c : InputView) → IsTree p a (suc t) n c → FitsPassive (u ∷ []) c → Beyond (payloads c) t (behind_passive c) → (z : ℕ) → In z (behind_passive c) → Reach u (suc t) z
+  through t n u c tree fits beyond z at =
+      let (w, i, near) = beyond z at in
+      let all : Around (payloads c ++ (u ∷ [])) = around_passive t n (u ∷ []) c tree fits in
+      crossing (all.stands u (In-append_right u (payloads c) (u ∷ []) (inl refl))) (all.stands w (In-append_left w (payloads c) (u ∷ []) i))
+      (λ same. names_across (payloads c) all.apart w i (sym same)) near
     where
-      next : (v : ℕ) → In v (payloads c) → (v ≡ w → ⊥) × (v / a ≡ w / a)
-      next v i = beside t n (w ∷ []) c tree fits v w i (inl refl)
+      names_across : (ws : List ℕ) → AreDifferent (map (λ u. name (u / a)) (ws ++ (u ∷ []))) → (w : ℕ) → In w ws → name (w / a) ≡ name (u / a) → ⊥
+      names_across [] d w i same = i
+      names_across (w' ∷ ws) d w (inl e) same = name_apart w' (ws ++ (u ∷ [])) d u (In-append_right u ws (u ∷ []) (inl refl)) (ap (λ x. name (x / a)) (sym e) ∙ same)
+      names_across (w' ∷ ws) d w (inr i) same = names_across ws d.1 w i same
 
-      here : (z : ℕ) → In z (behind_active c) → w / a ≡ z / a → ⊥
-      here z at same = let (v, i, r) = behind z at in no_return r low ((next v i).1 ∙ same)
-
-      reached : (z : ℕ) → In z (w ∷ behind_active c) → Reach u (suc t) z
-      reached z (inl e) = subst (Reach u (suc t)) (sym e) (record {
-        edge = two.edge;
-        last = two.edge;
-        steps = 1;
-        stands = two.left;
-        walk = one (stands_on two.left) (stands_on two.right) two.apart;
-        short = omega arith;
-      })
-      reached z (inr at) =
-          let (v, i, r) = behind z at in
-          let (away, same) = next v i in
-          record {
-            edge = two.edge;
-            last = r.last;
-            steps = suc r.steps;
-            stands = two.left;
-            walk = step (stands_on two.left) (stands_on two.right) two.apart (λ e. away (stands_same r.stands (subst (λ f. Stands f w) e two.right) same))
-                (subst (λ q. Walk (places a) hyper r.steps r.edge r.last q (name (z / a))) (ap name same) r.walk);
-            short = let l = r.short in omega arith;
-          }
-
-  longer : {u t t' z : ℕ} → Reach u t z → t ≤ t' → Reach u t' z
-  longer r l = record { edge = r.edge; last = r.last; steps = r.steps; stands = r.stands; walk = r.walk; short = (let l' = r.short in omega arith) }
-
-  both : (t n u : ℕ) (seen ys : List ℕ) (rest : InputView) → IsTree a 2 (suc (suc t)) n rest → FitsActive (u ∷ seen) rest → 2 * suc (suc t) ≤ g
-      → Differ a ys × ((z : ℕ) → In z ys → Reach u (suc t) z) → Differ a (behind_active rest) × Behind (payloads rest) (suc (suc t)) (behind_active rest)
-      → Differ a ((ys ++ []) ++ behind_active rest) × Behind (u ∷ payloads rest) (suc (suc t)) ((ys ++ []) ++ behind_active rest)
-  both t n u seen ys rest tree fits low (differ, near) (differ', behind) = (
-    Differ-append a (ys ++ []) (behind_active rest) (Differ-append a ys [] differ tt (λ y z i none. absurd none)) differ' (λ y z i j. across y z (here y i) j),
-    λ z at. elim (In-append_cases z (ys ++ []) (behind_active rest) at) [
-      | inl i ↦ (u, inl refl, longer (near z (here z i)) (omega arith))
+  -- the children of an active node: those behind the first edge and those behind the rest
+  both_active : (t n u : ℕ) (seen ys : List ℕ) (rest : InputView) → IsTree a p (suc t) n rest → FitsActive (u ∷ seen) rest → 2 * suc t ≤ g
+      → Differ a ys → ((z : ℕ) → In z ys → Reach u (suc t) z) → Differ a (behind_active rest) × Behind (payloads rest) (suc t) (behind_active rest)
+      → Differ a (ys ++ behind_active rest) × Behind (u ∷ payloads rest) (suc t) (ys ++ behind_active rest)
+  both_active t n u seen ys rest tree fits low differ near (differ', behind) = (
+    Differ-append a ys (behind_active rest) differ differ' across,
+    λ z at. elim (In-append_cases z ys (behind_active rest) at) [
+      | inl i ↦ (u, inl refl, near z i)
       | inr j ↦ (let (v, k, s) = behind z j in (v, inr k, s))
     ],
   )
     where
-      here : (y : ℕ) → In y (ys ++ []) → In y ys
-      here y i = elim (In-append_cases y ys [] i) [ inl j ↦ j | inr none ↦ absurd none ]
-
       across : (y z : ℕ) → In y ys → In z (behind_active rest) → y / a ≡ z / a → ⊥
       across y z i j same =
           let (v, k, s) = behind z j in
-          let (away, one_node) = beside (suc (suc t)) n (u ∷ seen) rest tree fits v u k (inl refl) in
+          let (away, one_node) = beside (suc t) n (u ∷ seen) rest tree fits v u k (inl refl) in
           no_meeting (near y i) s away one_node (omega arith) same
 
-  children : (t n : ℕ) (seen : List ℕ) (v : InputView) → IsTree a 2 t n v → FitsActive seen v → 2 * t ≤ g → Differ a (behind_active v) × Behind (payloads v) t (behind_active v)
-  children t n seen leaf tree fits low = (tt, λ z none. absurd none)
-  children t n seen end tree fits low = (tt, λ z none. absurd none)
-  children zero n seen (more back u branch rest) tree fits low = absurd tree
-  children (suc t) zero seen (more back u branch rest) tree fits low = absurd tree
-  children (suc t) (suc n) seen (more back u leaf rest) tree fits low =
-      let (differ, behind) = children (suc t) n (u ∷ seen) rest tree.3 fits.1 low in
-      (differ, λ z at. let (v, i, r) = behind z at in (v, inr i, r))
-  children (suc t) (suc n) seen (more back u end rest) tree fits low = absurd (no_end 2 a t 0 tree.2)
-  children (suc zero) (suc n) seen (more back u (more back' w c rest') rest) tree fits low = absurd tree.2
-  children (suc (suc t)) (suc n) seen (more back u (more back' w c leaf) rest) tree fits low = absurd tree.2.3
-  children (suc (suc t)) (suc n) seen (more back u (more back' w c (more back'' w' c' rest')) rest) tree fits low = absurd tree.2.3
-  children (suc (suc t)) (suc n) seen (more back u (more back' w c end) rest) tree fits low =
-      let near = crossing t (pred a) u w c (joined_labels u w fits.0.1) tree.2.2 fits.0.0 (omega arith) (children t (pred a) (w ∷ []) c tree.2.2 fits.0.0 (omega arith)) in
-      let far = children (suc (suc t)) n (u ∷ seen) rest tree.3 fits.1 low in
-      both t n u seen (w ∷ behind_active c) rest tree.3 fits.1 low near far
+  -- the children of a passive node: those behind the first edge and those behind the rest
+  both_passive : (t n m w : ℕ) (seen : List ℕ) (b rest : InputView) → IsTree a p t n b → FitsActive (w ∷ []) b → IsTree p a (suc t) m rest → FitsPassive (w ∷ seen) rest → 2 * suc t ≤ g
+      → Differ a (behind_active b) × Behind (payloads b) t (behind_active b) → Differ a (behind_passive rest) × Beyond (payloads rest) t (behind_passive rest)
+      → Differ a ((w ∷ behind_active b) ++ behind_passive rest) × Beyond (w ∷ payloads rest) t ((w ∷ behind_active b) ++ behind_passive rest)
+  both_passive t n m w seen b rest tree fits tree' fits' low (differ, behind) (differ', beyond) = (
+    Differ-append a (w ∷ behind_active b) (behind_passive rest) (first, differ) differ' (λ y z i j. across y z (near y i) j),
+    λ z at. elim (In-append_cases z (w ∷ behind_active b) (behind_passive rest) at) [
+      | inl i ↦ (w, inl refl, near z i)
+      | inr j ↦ (let (v, k, s) = beyond z j in (v, inr k, s))
+    ],
+  )
+    where
+      next : (v : ℕ) → In v (payloads b) → (v ≡ w → ⊥) × (v / a ≡ w / a)
+      next v i = beside t n (w ∷ []) b tree fits v w i (inl refl)
+
+      first : (z : ℕ) → In z (behind_active b) → w / a ≡ z / a → ⊥
+      first z at same = let (v, i, r) = behind z at in no_return r (omega arith) ((next v i).1 ∙ same)
+
+      near : (z : ℕ) → In z (w ∷ behind_active b) → Near w t z
+      near z (inl e) = inl e
+      near z (inr at) = let (v, i, r) = behind z at in let (away, same) = next v i in inr (v, away, same, r)
+
+      all : Around (payloads rest ++ (w ∷ seen))
+      all = around_passive t m (w ∷ seen) rest tree' fits'
+
+      names_across : (ws : List ℕ) → AreDifferent (map (λ u. name (u / a)) (ws ++ (w ∷ seen))) → (v : ℕ) → In v ws → name (v / a) ≡ name (w / a) → ⊥
+      names_across [] d v i same = i
+      names_across (w' ∷ ws) d v (inl e) same = name_apart w' (ws ++ (w ∷ seen)) d w (In-append_right w ws (w ∷ seen) (inl refl)) (ap (λ x. name (x / a)) (sym e) ∙ same)
+      names_across (w' ∷ ws) d v (inr i) same = names_across ws d.1 v i same
+
+      over : (z : ℕ) → In z (behind_passive rest) → Reach w (suc t) z
+      over z j =
+          let (v, k, s) = beyond z j in
+          crossing (all.stands w (In-append_right w (payloads rest) (w ∷ seen) (inl refl))) (all.stands v (In-append_left v (payloads rest) (w ∷ seen) k)) (λ same. names_across (payloads rest) all.apart v k (sym same)) s
+
+      across : (y z : ℕ) → Near w t y → In z (behind_passive rest) → y / a ≡ z / a → ⊥
+      across y z (inl e) j same = no_return (over z j) (omega arith) (ap (λ x. x / a) (sym e) ∙ same)
+      across y z (inr (v, away, here, r)) j same = no_meeting r (over z j) (λ e. away (sym e)) (sym here) (omega arith) same
+
+  mutual
+    children : (t n : ℕ) (seen : List ℕ) (v : InputView) → IsTree a p t n v → FitsActive seen v → 2 * t ≤ g → Differ a (behind_active v) × Behind (payloads v) t (behind_active v)
+    children t n seen leaf tree fits low = (tt, λ z none. absurd none)
+    children t n seen end tree fits low = (tt, λ z none. absurd none)
+    children zero n seen (more back u branch rest) tree fits low = absurd tree
+    children (suc t) zero seen (more back u branch rest) tree fits low = absurd tree
+    children (suc zero) (suc n) seen (more back u leaf rest) tree fits low =
+        both_active zero n u seen [] rest tree.3 fits.1 low tt (λ z none. absurd none) (children (suc zero) n (u ∷ seen) rest tree.3 fits.1 low)
+    children (suc zero) (suc n) seen (more back u end rest) tree fits low = absurd tree.2
+    children (suc zero) (suc n) seen (more back u (more back' w b rest') rest) tree fits low = absurd tree.2
+    children (suc (suc t)) (suc n) seen (more back u branch rest) tree fits low =
+        let inner = crossed t (pred p) (u ∷ []) branch tree.2 fits.0 (omega arith) in
+        let outer = children (suc (suc t)) n (u ∷ seen) rest tree.3 fits.1 low in
+        both_active (suc t) n u seen (behind_passive branch) rest tree.3 fits.1 low inner.0 (λ z at. longer (through t (pred p) u branch tree.2 fits.0 inner.1 z at) (omega arith)) outer
+
+    crossed : (t n : ℕ) (seen : List ℕ) (c : InputView) → IsTree p a (suc t) n c → FitsPassive seen c → 2 * suc t ≤ g → Differ a (behind_passive c) × Beyond (payloads c) t (behind_passive c)
+    crossed t n seen leaf tree fits low = (tt, λ z none. absurd none)
+    crossed t n seen end tree fits low = (tt, λ z none. absurd none)
+    crossed t zero seen (more back w b rest) tree fits low = absurd tree
+    crossed t (suc n) seen (more back w b rest) tree fits low =
+        both_passive t (pred a) n w seen b rest tree.2 fits.0 tree.3 fits.1 low (children t (pred a) (w ∷ []) b tree.2 fits.0 (omega arith)) (crossed t n (w ∷ seen) rest tree.3 fits.1 low)
 
   -- ---- whole views
-  apart_active : (T : ℕ) → 2 * suc T ≤ g → (v : InputView) → IsView a 2 (suc T) v → Fits (identifiers a N graph).active (identifiers a N graph).passive v → AreDifferent (map (λ label. label / a) (shown v))
+  apart_active : (T : ℕ) → 2 * suc T ≤ g → (v : InputView) → IsView a p (suc T) v → FitsActive [] v → AreDifferent (map (λ label. label / a) (shown v))
   apart_active T low leaf view fits = tt
   apart_active T low end view fits = tt
   apart_active T low (more back u branch rest) view fits = different_labels a (u ∷ behind_active v) (first, all.0)
@@ -245,43 +308,12 @@ module _ (a g points N : ℕ) (hyper : Hyper ℕ) (name : ℕ → ℕ) (some : 1
       first : (z : ℕ) → In z (behind_active v) → u / a ≡ z / a → ⊥
       first z at same =
           let (y, i, r) = all.1 z at in
-          let has : Has (identifiers a N graph).active (payloads v ++ []) = Has-around (identifiers a N graph).active (identifiers a N graph).passive a 2 T a [] v view fits in
+          let has : Has (identifiers a p N kept).active (payloads v ++ []) = Has-around (identifiers a p N kept).active (identifiers a p N kept).passive a p T a [] v view fits in
           let one_node : y / a ≡ u / a = around_one (payloads v ++ []) has y u (In-append_left y (payloads v) [] i) (In-append_left u (payloads v) [] (inl refl)) in
           no_return r (omega arith) (one_node ∙ same)
 
-  apart_passive : (T : ℕ) → 2 * suc (suc T) ≤ g → (v : InputView) → IsView 2 a (suc (suc T)) v → Fits (identifiers a N graph).passive (identifiers a N graph).active v → AreDifferent (map (λ label. label / a) (behind_passive v))
-  apart_passive T low leaf view fits = absurd view
-  apart_passive T low end view fits = absurd view
-  apart_passive T low (more back u b leaf) view fits = absurd view.3
-  apart_passive T low (more back u b end) view fits = absurd view.3
-  apart_passive T low (more back u b (more back' w c leaf)) view fits = absurd view.3.3
-  apart_passive T low (more back u b (more back' w c (more back'' x branch rest))) view fits = absurd view.3.3
-  apart_passive T low (more back u b (more back' w c end)) view fits =
-      different_labels a ((u ∷ behind_active b) ++ ((w ∷ behind_active c) ++ []))
-      (Differ-append a (u ∷ behind_active b) ((w ∷ behind_active c) ++ []) left.0 (Differ-append a (w ∷ behind_active c) [] right.0 tt (λ y z i none. absurd none)) (λ y z i j. across y z i (In-append_cases z (w ∷ behind_active c) [] j)))
-    where
-      two : Joined u w
-      two = joined_labels u w fits.1.1
-
-      of_b : Differ a (behind_active b) × Behind (payloads b) (suc T) (behind_active b)
-      of_b = children (suc T) (pred a) (u ∷ []) b view.2 fits.0 (omega arith)
-
-      of_c : Differ a (behind_active c) × Behind (payloads c) (suc T) (behind_active c)
-      of_c = children (suc T) (pred a) (w ∷ []) c view.3.2 fits.1.0 (omega arith)
-
-      left : Differ a (u ∷ behind_active b) × ((z : ℕ) → In z (u ∷ behind_active b) → Reach w (suc (suc T)) z)
-      left = crossing (suc T) (pred a) w u b (turned_labels two) view.2 fits.0 (omega arith) of_b
-
-      right : Differ a (w ∷ behind_active c) × ((z : ℕ) → In z (w ∷ behind_active c) → Reach u (suc (suc T)) z)
-      right = crossing (suc T) (pred a) u w c two view.3.2 fits.1.0 (omega arith) of_c
-
-      across : (y z : ℕ) → In y (u ∷ behind_active b) → In z (w ∷ behind_active c) ⊎ In z [] → y / a ≡ z / a → ⊥
-      across y z i (inr none) same = absurd none
-      across y z i (inl (inl e)) same = no_return (left.1 y i) (omega arith) (sym (same ∙ ap (λ x. x / a) e))
-      across y z i (inl (inr at)) same =
-          let (v, k, s) = of_c.1 z at in
-          let (away, one_node) = beside (suc T) (pred a) (w ∷ []) c view.3.2 fits.1.0 v w k (inl refl) in
-          no_meeting (left.1 y i) s away one_node (omega arith) same
-
-  pub AreApart-matched : (T : ℕ) → 2 * suc (suc T) ≤ g → AreApart (identifiers a N graph) (λ label. label / a) T
-  AreApart-matched T low = record { active = apart_active T (omega arith); passive = apart_passive T low }
+  pub AreApart-matched : (T : ℕ) → 2 * suc (suc T) ≤ g → AreApart (identifiers a p N kept) (λ label. label / a) T
+  AreApart-matched T low = record {
+    active = λ v view fits. apart_active T (omega arith) v view fits;
+    passive = λ v view fits. different_labels a (behind_passive v) (crossed (suc T) p [] v view fits low).0;
+  }

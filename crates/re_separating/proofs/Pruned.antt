@@ -1,44 +1,57 @@
--- Identifiers that lack an edge at a port are left out, one after another. Those that stay have an edge at each port.
-use Rattle.std.proofs.Common.{◌≡◌, ℕ, zero, suc, ◌+◌, ◌≤◌, ◌<◌, Bool, true, false, cond, eqb, ◌||◌, inl, inr, refl, sym, ◌∙◌, ap, subst, arith, eq-or-lt_of_le}
-use Rattle.std.specs.Prelude.{◌⊎◌}
+-- Identifiers of which a label stands around no passive node are left out, one after another. Of those that stay each label does.
+use Rattle.std.proofs.Common.{◌≡◌, ℕ, zero, suc, ◌+◌, ◌*◌, ◌/◌, ◌%◌, ◌≤◌, ◌<◌, Bool, true, false, cond, eqb, inl, inr, List, [], ◌∷◌, map, length, refl, sym, ◌∙◌, ap, subst, arith, eq-or-lt_of_le}
+use Rattle.std.specs.List.{AllByRecursion, list_any}
+use Rattle.std.specs.Prelude.{◌⊎◌, Contains}
 use Rattle.std.proofs.lemmas.Bool.Decides.{eqb_tells}
-use Rattle.re_given.specs.Identifiers.{IdGraph}
-use Rattle.re_labels.proofs.Tests.{eqb-apart, eqb-same, or-left, or-right}
-use Rattle.re_local.specs.Separating.{HasEdge}
+use Rattle.std.proofs.lemmas.List.{length-map}
+use Rattle.std.proofs.lemmas.Nat.{div-add-mod', div-mul-add, mod-mul-add, mod_below}
+use Rattle.re_config.proofs.Rearranging.{Contains-Rearranged}
+use Rattle.re_config.proofs.Sorting.{Rearranged-sorted, sorted_map}
+use Rattle.re_config.specs.Configs.{sorted}
+use Rattle.re_local.proofs.UnavoidableIdentifiers.{first_ports, joined_there, label_there, labels_at_below, length-labels_at, same_port}
+use Rattle.re_local.specs.Identifiers.{IdHypergraph, identifiers, labels_at}
+use Rattle.re_local.specs.Separating.{HasAllEdges}
+use Rattle.re_labels.proofs.Membership.{Contains-here, Contains-later, any_found, any_true}
+use Rattle.re_labels.proofs.Tests.{eqb-apart, eqb-same, eqb-true}
+use Rattle.re_problem.specs.NamedProblems.{OccursIn}
+use Rattle.re_table.specs.Constraints.{Constraint, Has}
 
--- two identifiers of one colour that the graph joins by these ports
-pub record IsJoined (N : ℕ) (graph : IdGraph) (colour : ℕ → ℕ) (shade i j : ℕ) : Type 0 where
-  pub one : ℕ
-  pub other : ℕ
-  pub one_below : one < N
-  pub other_below : other < N
-  pub one_shade : colour one ≡ shade
-  pub other_shade : colour other ≡ shade
-  pub joined : graph one i other j ≡ true
+-- identifiers of one colour, one for each of these ports, that the hypergraph joins by these ports
+pub record AreJoined (a N : ℕ) (hyper : IdHypergraph) (colour : ℕ → ℕ) (shade : ℕ) (ports : List ℕ) : Type 0 where
+  pub ids : List ℕ
+  pub count : length ids ≡ length ports
+  pub below : AllByRecursion (λ x. x < N) ids
+  pub shades : AllByRecursion (λ x. colour x ≡ shade) ids
+  pub joined : hyper (sorted (labels_at a ids ports)) ≡ true
 
--- no edge joins, from a port to the same port, two identifiers that have the colour m + port
-abbrev pub IsGood : ℕ → ℕ → IdGraph → ℕ → (ℕ → ℕ) → Type 0
-IsGood a N graph m colour = (i : ℕ) → i < a → (x y : ℕ) → x < N → y < N → colour x ≡ m + i → colour y ≡ m + i → graph x i y i ≡ true → ⊥
+-- no identifiers that all have the colour m + port are joined, all by that port
+abbrev pub IsGood : ℕ → ℕ → ℕ → IdHypergraph → ℕ → (ℕ → ℕ) → Type 0
+IsGood a p N hyper m colour = (i : ℕ) → i < a → (ids : List ℕ) → length ids ≡ p → AllByRecursion (λ x. x < N) ids → AllByRecursion (λ x. colour x ≡ m + i) ids → hyper (sorted (labels_at a ids (same_port i p))) ≡ true → ⊥
 
--- however identifiers get m colours, and as many more for ports as long as that is good, among those of one of the m colours the graph has an
--- edge for each two ports
-abbrev pub JoinsWithin : ℕ → ℕ → IdGraph → ℕ → Type 0
-JoinsWithin a N graph m =
-    (colour : ℕ → ℕ) → ((x : ℕ) → x < N → colour x < m + a) → IsGood a N graph m colour →
-    (shade : ℕ) × (shade < m) × ((i j : ℕ) → i < a → j < a → IsJoined N graph colour shade i j)
+-- however identifiers get m colours, and as many more for ports as long as that is good, those of one of the m colours are joined by each p ports
+abbrev pub JoinsWithin : ℕ → ℕ → ℕ → IdHypergraph → ℕ → Type 0
+JoinsWithin a p N hyper m =
+    (colour : ℕ → ℕ) → ((x : ℕ) → x < N → colour x < m + a) → IsGood a p N hyper m colour →
+    (shade : ℕ) × (shade < m) × ((ports : List ℕ) → length ports ≡ p → AllByRecursion (λ i. i < a) ports → AreJoined a N hyper colour shade ports)
 
--- the graph of identifiers under other names
-abbrev pub renamed : (ℕ → ℕ) → IdGraph → IdGraph
-renamed name graph x i y j = graph (name x) i (name y) j
+-- the label of the identifier's other name
+abbrev pub relabel : ℕ → (ℕ → ℕ) → ℕ → ℕ
+relabel a name u = name (u / a) * a + u % a
 
-pub record Pruned (a N : ℕ) (graph : IdGraph) (m : ℕ) : Type 0 where
+-- the hypergraph of identifiers under other names
+abbrev pub renamed : ℕ → (ℕ → ℕ) → IdHypergraph → IdHypergraph
+renamed a name hyper labels = hyper (sorted (map (relabel a name) labels))
+
+pub record Pruned (a p N : ℕ) (hyper : IdHypergraph) (m : ℕ) : Type 0 where
   pub count : ℕ
   pub up_to : count ≤ N
   pub name : ℕ → ℕ
-  pub edges : (x i : ℕ) → x < count → i < a → HasEdge a count (renamed name graph) x i
-  pub joins : JoinsWithin a count (renamed name graph) m
+  pub kept : IdHypergraph
+  pub from : (labels : List ℕ) → kept (sorted labels) ≡ true → hyper (sorted (map (relabel a name) labels)) ≡ true
+  pub edges : HasAllEdges a p count kept
+  pub joins : JoinsWithin a p count kept m
 
--- ---- which identifiers lack an edge
+-- ---- which labels stand around a passive node
 search_below : (P Q : ℕ → Type 0) → ((x : ℕ) → P x ⊎ Q x) → (n : ℕ) → ((x : ℕ) × (x < n) × P x) ⊎ ((x : ℕ) → x < n → Q x)
 search_below P Q each zero = inr (λ x l. absurd (omega arith))
 search_below P Q each (suc n) = elim (each n) [
@@ -49,29 +62,31 @@ search_below P Q each (suc n) = elim (each n) [
   ]
 ]
 
-abbrev Lacks : ℕ → ℕ → IdGraph → ℕ → ℕ → Type 0
-Lacks a N graph x i = (y : ℕ) → y < N → (j : ℕ) → j < a → (graph x i y j || graph y j x i) ≡ true → ⊥
+abbrev Lacks : Constraint → ℕ → Type 0
+Lacks constraint label = OccursIn constraint label → ⊥
 
-has_or_lacks : (a N : ℕ) (graph : IdGraph) (x i : ℕ) → HasEdge a N graph x i ⊎ Lacks a N graph x i
-has_or_lacks a N graph x i = elim (search_below (λ y. (j : ℕ) × (j < a) × ((graph x i y j || graph y j x i) ≡ true)) (λ y. (j : ℕ) → j < a → (graph x i y j || graph y j x i) ≡ true → ⊥)
-    (λ y. search_below (λ j. (graph x i y j || graph y j x i) ≡ true) (λ j. (graph x i y j || graph y j x i) ≡ true → ⊥) (λ j. tell (graph x i y j || graph y j x i)) a) N) [
-      | inl f ↦ inl (record { other = f.0; port = f.2.0; other_below = f.1; port_below = f.2.1; joined = f.2.2 })
-      | inr none ↦ inr none
-    ]
+occurs_or_lacks : (constraint : Constraint) (label : ℕ) → OccursIn constraint label ⊎ Lacks constraint label
+occurs_or_lacks constraint label = tell (list_any (λ config. list_any (eqb label) config) constraint.configs) refl
   where
-    tell : (b : Bool) → (b ≡ true) ⊎ (b ≡ true → ⊥)
-    tell true = inl refl
-    tell false = inr (λ e. absurd (cc))
+    tell : (b : Bool) → b ≡ list_any (λ config. list_any (eqb label) config) constraint.configs → OccursIn constraint label ⊎ Lacks constraint label
+    tell true e =
+        let (config, held, some) = any_found (λ config. list_any (eqb label) config) constraint.configs (sym e) in
+        let (u, at, same) = any_found (eqb label) config some in
+        inl (config, held, subst (Contains config) (sym (eqb-true label u same)) at)
+    tell false e = inr (λ (config, held, at).
+        let found : list_any (λ config. list_any (eqb label) config) constraint.configs ≡ true = any_true (λ config. list_any (eqb label) config) constraint.configs config held (any_true (eqb label) config label at (eqb-same label)) in
+        absurd (cc))
 
-all_or_lacks : (a N : ℕ) (graph : IdGraph) → ((x : ℕ) × (x < N) × (i : ℕ) × (i < a) × Lacks a N graph x i) ⊎ ((x i : ℕ) → x < N → i < a → HasEdge a N graph x i)
-all_or_lacks a N graph = elim (search_below (λ x. (i : ℕ) × (i < a) × Lacks a N graph x i) (λ x. (i : ℕ) → i < a → HasEdge a N graph x i)
-    (λ x. search_below (λ i. Lacks a N graph x i) (λ i. HasEdge a N graph x i) (λ i. elim (has_or_lacks a N graph x i) [ inl e ↦ inr e | inr l ↦ inl l ]) a) N) [
+all_or_lacks : (a p N : ℕ) (hyper : IdHypergraph) → ((x : ℕ) × (x < N) × (i : ℕ) × (i < a) × Lacks (identifiers a p N hyper).passive (x * a + i)) ⊎ HasAllEdges a p N hyper
+all_or_lacks a p N hyper = elim (search_below (λ x. (i : ℕ) × (i < a) × Lacks (identifiers a p N hyper).passive (x * a + i)) (λ x. (i : ℕ) → i < a → OccursIn (identifiers a p N hyper).passive (x * a + i))
+    (λ x. search_below (λ i. Lacks (identifiers a p N hyper).passive (x * a + i)) (λ i. OccursIn (identifiers a p N hyper).passive (x * a + i))
+    (λ i. elim (occurs_or_lacks (identifiers a p N hyper).passive (x * a + i)) [ inl e ↦ inr e | inr l ↦ inl l ]) a) N) [
       | inl f ↦ inl (f.0, f.1, f.2.0, f.2.1, f.2.2)
       | inr all ↦ inr (λ x i xl il. all x xl i il)
     ]
 
 -- ---- one identifier less: the last one takes the name of the one left out
-module _ (a M m x i : ℕ) (graph : IdGraph) (x_below : x < suc M) (i_below : i < a) (lacks : Lacks a (suc M) graph x i) where
+module _ (a p M m x i : ℕ) (hyper : IdHypergraph) (x_below : x < suc M) (i_below : i < a) (lacks : Lacks (identifiers a p (suc M) hyper).passive (x * a + i)) where
   abbrev old : ℕ → ℕ
   old y = cond (eqb y x) M y
 
@@ -100,13 +115,38 @@ module _ (a M m x i : ℕ) (graph : IdGraph) (x_below : x < suc M) (i_below : i 
   at_other : (colour : ℕ → ℕ) (y : ℕ) → (y ≡ x → ⊥) → whole colour y ≡ colour (new y)
   at_other colour y away = ap (λ b. cond b (m + i) (colour (new y))) (eqb-apart y x away)
 
-  same_edge : (y p z q : ℕ) → (y ≡ x → ⊥) → (z ≡ x → ⊥) → graph y p z q ≡ renamed old graph (new y) p (new z) q
-  same_edge y p z q away away' = ap (λ u. graph u p z q) (sym (old_new y away)) ∙ ap (λ v. graph (old (new y)) p v q) (sym (old_new z away'))
+  abbrev Away : List ℕ → Type 0
+  Away ids = AllByRecursion (λ y. y ≡ x → ⊥) ids
 
-  joins_less : JoinsWithin a (suc M) graph m → JoinsWithin a M (renamed old graph) m
+  renamed_labels : (ids ports : List ℕ) → Away ids → AllByRecursion (λ j. j < a) ports → map (relabel a old) (labels_at a (map new ids) ports) ≡ labels_at a ids ports
+  renamed_labels [] ports away low = refl
+  renamed_labels (y ∷ ids) [] away low = refl
+  renamed_labels (y ∷ ids) (j ∷ ports) away low =
+      let here : relabel a old (new y * a + j) ≡ y * a + j =
+      ap (λ z. old z * a + (new y * a + j) % a) (div-mul-add (new y) a j low.0) ∙ (ap (λ k. old (new y) * a + k) (mod-mul-add (new y) a j low.0) ∙ ap (λ z. z * a + j) (old_new y away.0)) in
+      ap (λ u. u ∷ map (relabel a old) (labels_at a (map new ids) ports)) here ∙ ap (λ l. (y * a + j) ∷ l) (renamed_labels ids ports away.1 low.1)
+
+  -- what is joined stays joined under new names
+  same_joined : (ids ports : List ℕ) → Away ids → AllByRecursion (λ j. j < a) ports → hyper (sorted (labels_at a ids ports)) ≡ renamed a old hyper (sorted (labels_at a (map new ids) ports))
+  same_joined ids ports away low =
+      ap hyper (sym (sorted_map (relabel a old) (labels_at a (map new ids) ports) ∙ ap sorted (renamed_labels ids ports away low)))
+
+  news_below : (ids : List ℕ) → AllByRecursion (λ y. y < suc M) ids → Away ids → AllByRecursion (λ y. y < M) (map new ids)
+  news_below [] below away = tt
+  news_below (y ∷ ids) below away = (new_below y below.0 away.0, news_below ids below.1 away.1)
+
+  news_shade : (colour : ℕ → ℕ) (shade : ℕ) (ids : List ℕ) → AllByRecursion (λ y. whole colour y ≡ shade) ids → Away ids → AllByRecursion (λ y. colour y ≡ shade) (map new ids)
+  news_shade colour shade [] shades away = tt
+  news_shade colour shade (y ∷ ids) shades away = (sym (at_other colour y away.0) ∙ shades.0, news_shade colour shade ids shades.1 away.1)
+
+  all_away : (colour : ℕ → ℕ) (shade : ℕ) (ids : List ℕ) → ((y : ℕ) → Contains ids y → whole colour y ≡ shade → y ≡ x → ⊥) → AllByRecursion (λ y. whole colour y ≡ shade) ids → Away ids
+  all_away colour shade [] each shades = tt
+  all_away colour shade (y ∷ ids) each shades = (each y (Contains-here y ids) shades.0, all_away colour shade ids (λ z at. each z (Contains-later z y ids at)) shades.1)
+
+  joins_less : JoinsWithin a p (suc M) hyper m → JoinsWithin a p M (renamed a old hyper) m
   joins_less joins colour below good =
       let (shade, low, each) = joins (whole colour) whole_below whole_good in
-      (shade, low, λ p q pl ql. back shade low p q (each p q pl ql))
+      (shade, low, λ ports count small. back shade low ports small (each ports count small))
     where
       whole_below : (y : ℕ) → y < suc M → whole colour y < m + a
       whole_below y l = elim (eqb_tells y x) [
@@ -114,52 +154,63 @@ module _ (a M m x i : ℕ) (graph : IdGraph) (x_below : x < suc M) (i_below : i 
         | inr away ↦ subst (λ c. c < m + a) (sym (at_other colour y away.1)) (below (new y) (new_below y l away.1))
       ]
 
-      whole_good : IsGood a (suc M) graph m (whole colour)
-      whole_good p pl y z yl zl ys zs edge = elim (eqb_tells y x) [
-        | inl e ↦
-            (let same : m + i ≡ m + p = sym (at_left colour y e.1) ∙ ys in
-            let port : p ≡ i = omega arith in
-            lacks z zl p pl (or-left (graph x i z p) (graph z p x i) (subst (λ u. graph u i z p ≡ true) e.1 (subst (λ k. graph y k z p ≡ true) port edge))))
-        | inr away ↦ elim (eqb_tells z x) [
-          | inl e ↦
-              (let same : m + i ≡ m + p = sym (at_left colour z e.1) ∙ zs in
-              let port : p ≡ i = omega arith in
-              lacks y yl p pl (or-right (graph x i y p) (graph y p x i) (subst (λ v. graph y p v i ≡ true) e.1 (subst (λ k. graph y p z k ≡ true) port edge))))
-          | inr away' ↦ good p pl (new y) (new z) (new_below y yl away.1) (new_below z zl away'.1) (sym (at_other colour y away.1) ∙ ys) (sym (at_other colour z away'.1) ∙ zs) (sym (same_edge y p z p away.1 away'.1) ∙ edge)
-        ]
-      ]
+      whole_good : IsGood a p (suc M) hyper m (whole colour)
+      whole_good q ql ids count ids_below shades joined =
+          let ports : List ℕ = same_port q p in
+          let small : AllByRecursion (λ j. j < a) ports = (first_ports a p q ql).1 in
+          let ports_count : length ports ≡ p = (first_ports a p q ql).0 in
+          let away : Away ids = all_away colour (m + q) ids (λ y at is e. clash y at is e ports_count small) shades in
+          good q ql (map new ids) (length-map ids new ∙ count) (news_below ids ids_below away) (news_shade colour (m + q) ids shades away) (sym (same_joined ids ports away small) ∙ joined)
+        where
+          clash : (y : ℕ) → Contains ids y → whole colour y ≡ m + q → y ≡ x → length (same_port q p) ≡ p → AllByRecursion (λ j. j < a) (same_port q p) → ⊥
+          clash y at is e ports_count small =
+              let same : m + i ≡ m + q = sym (at_left colour y e) ∙ is in
+              let port : q ≡ i = omega arith in
+              let labels : List ℕ = labels_at a ids (same_port q p) in
+              let there : Contains labels (y * a + q) = subst (λ k. Contains (labels_at a ids (same_port q k)) (y * a + q)) count (label_there a y q ids at) in
+              let has : Has (identifiers a p (suc M) hyper).passive labels = joined_there a p (suc M) hyper labels (length-labels_at a ids (same_port q p) (count ∙ sym ports_count) ∙ ports_count) (labels_at_below a (suc M) ids (same_port q p) ids_below small) joined in
+              lacks (sorted labels, has, Contains-Rearranged (x * a + i) (Rearranged-sorted labels) (subst (λ z. Contains labels (z * a + i)) e (subst (λ k. Contains labels (y * a + k)) port there)))
 
-      not_left : (shade y : ℕ) → shade < m → whole colour y ≡ shade → y ≡ x → ⊥
-      not_left shade y low is e = let same : m + i ≡ shade = sym (at_left colour y e) ∙ is in omega arith
-
-      back : (shade : ℕ) → shade < m → (p q : ℕ) → IsJoined (suc M) graph (whole colour) shade p q → IsJoined M (renamed old graph) colour shade p q
-      back shade low p q two =
-          let away : two.one ≡ x → ⊥ = not_left shade two.one low two.one_shade in
-          let away' : two.other ≡ x → ⊥ = not_left shade two.other low two.other_shade in
+      back : (shade : ℕ) → shade < m → (ports : List ℕ) → AllByRecursion (λ j. j < a) ports → AreJoined a (suc M) hyper (whole colour) shade ports → AreJoined a M (renamed a old hyper) colour shade ports
+      back shade low ports small all =
+          let away : Away all.ids = all_away colour shade all.ids (λ y at is e. let same : m + i ≡ shade = sym (at_left colour y e) ∙ is in omega (arith, same, low)) all.shades in
           record {
-            one = new two.one;
-            other = new two.other;
-            one_below = new_below two.one two.one_below away;
-            other_below = new_below two.other two.other_below away';
-            one_shade = sym (at_other colour two.one away) ∙ two.one_shade;
-            other_shade = sym (at_other colour two.other away') ∙ two.other_shade;
-            joined = sym (same_edge two.one p two.other q away away') ∙ two.joined;
+            ids = map new all.ids;
+            count = length-map all.ids new ∙ all.count;
+            below = news_below all.ids all.below away;
+            shades = news_shade colour shade all.ids all.shades away;
+            joined = sym (same_joined all.ids ports away small) ∙ all.joined;
           }
 
 -- ---- one after another
-pub pruned : (a N m : ℕ) (graph : IdGraph) → JoinsWithin a N graph m → Pruned a N graph m
-pruned a zero m graph joins = record { count = 0; up_to = omega arith; name = λ x. x; edges = λ x i l il. absurd (omega arith); joins = joins }
-pruned a (suc M) m graph joins = elim (all_or_lacks a (suc M) graph) [
+relabel_same : (a : ℕ) (labels : List ℕ) → map (relabel a (λ x. x)) labels ≡ labels
+relabel_same a [] = refl
+relabel_same a (u ∷ labels) = ap (λ v. v ∷ map (relabel a (λ x. x)) labels) (div-add-mod' u a) ∙ ap (λ l. u ∷ l) (relabel_same a labels)
+
+relabel_twice : (a : ℕ) (one two : ℕ → ℕ) (labels : List ℕ) → 1 ≤ a → map (relabel a one) (map (relabel a two) labels) ≡ map (relabel a (λ y. one (two y))) labels
+relabel_twice a one two [] some = refl
+relabel_twice a one two (u ∷ labels) some =
+    let i : u % a < a = mod_below u a (omega arith) in
+    let here : relabel a one (relabel a two u) ≡ relabel a (λ y. one (two y)) u =
+    ap (λ z. one z * a + (two (u / a) * a + u % a) % a) (div-mul-add (two (u / a)) a (u % a) i) ∙ ap (λ k. one (two (u / a)) * a + k) (mod-mul-add (two (u / a)) a (u % a) i) in
+    ap (λ v. v ∷ map (relabel a one) (map (relabel a two) labels)) here ∙ ap (λ l. relabel a (λ y. one (two y)) u ∷ l) (relabel_twice a one two labels some)
+
+pub pruned : (a p N m : ℕ) (hyper : IdHypergraph) → 1 ≤ a → JoinsWithin a p N hyper m → Pruned a p N hyper m
+pruned a p zero m hyper some joins = record { count = 0; up_to = omega arith; name = λ x. x; kept = hyper; from = λ labels h. subst (λ l. hyper (sorted l) ≡ true) (sym (relabel_same a labels)) h; edges = λ x i l il. absurd (omega arith); joins = joins }
+pruned a p (suc M) m hyper some joins = elim (all_or_lacks a p (suc M) hyper) [
   | inl f ↦
-      (let x : ℕ = f.0 in
-      let before : Pruned a M (renamed (old a M m x f.2 graph f.1 f.3 f.4) graph) m =
-      pruned a M m (renamed (old a M m x f.2 graph f.1 f.3 f.4) graph) (joins_less a M m x f.2 graph f.1 f.3 f.4 joins) in
+      (let before : Pruned a p M (renamed a (old a p M m f.0 f.2 hyper f.1 f.3 f.4) hyper) m =
+      pruned a p M m (renamed a (old a p M m f.0 f.2 hyper f.1 f.3 f.4) hyper) some (joins_less a p M m f.0 f.2 hyper f.1 f.3 f.4 joins) in
       record {
         count = before.count;
         up_to = (let l = before.up_to in omega (arith, l));
-        name = λ y. old a M m x f.2 graph f.1 f.3 f.4 (before.name y);
+        name = λ y. old a p M m f.0 f.2 hyper f.1 f.3 f.4 (before.name y);
+        kept = before.kept;
+        from = λ labels h.
+            subst (λ l. hyper l ≡ true) (sorted_map (relabel a (old a p M m f.0 f.2 hyper f.1 f.3 f.4)) (map (relabel a before.name) labels) ∙ ap sorted (relabel_twice a (old a p M m f.0 f.2 hyper f.1 f.3 f.4) before.name labels some))
+            (before.from labels h);
         edges = before.edges;
         joins = before.joins;
       })
-  | inr all ↦ record { count = suc M; up_to = omega arith; name = λ x. x; edges = all; joins = joins }
+  | inr all ↦ record { count = suc M; up_to = omega arith; name = λ x. x; kept = hyper; from = λ labels h. subst (λ l. hyper (sorted l) ≡ true) (sym (relabel_same a labels)) h; edges = all; joins = joins }
 ]

@@ -1,4 +1,4 @@
--- For any number of rounds some graph of identifiers separates, which is not large.
+-- For any passive degree and number of rounds some hypergraph of identifiers separates, which is not large.
 use Rattle.std.proofs.Common.{ℕ, suc, ◌+◌, ◌*◌, ◌^◌, ◌≤◌, subst, arith}
 use Rattle.std.proofs.Math.Nat.{one-le-pow, pow-le-pow_right}
 use Rattle.re_local.proofs.LocalGiven.{SolvableLabelled-local, SolvableLocal-fewer}
@@ -8,9 +8,9 @@ use Rattle.re_problem.specs.Examples.{relaxed_sinkless}
 use Rattle.re_problem.specs.Problems.{Problem}
 use Rattle.re_local.proofs.Towers.{power_of}
 use Rattle.re_separating.proofs.Apart.{AreApart-matched}
-use Rattle.re_separating.proofs.Matched.{JoinsAlike-within, matched, matched_joins, places}
-use Rattle.re_separating.proofs.Pruned.{Pruned, pruned, renamed}
-use Rattle.re_separating.specs.Hypergraphs.{base}
+use Rattle.re_separating.proofs.Matched.{JoinsAlike-within, matched, matched_joins}
+use Rattle.re_separating.proofs.Pruned.{Pruned, pruned}
+use Rattle.re_separating.specs.Hypergraphs.{hypergraph_base}
 use Rattle.re_separating.specs.Laws.{IsBeyondPower, SeparatingLaw, SinklessUniqueLaw}
 use Rattle.re_separating.proofs.Sparse.{sparse_hyper}
 
@@ -20,21 +20,21 @@ few_enough b T some =
     let longer : b ^ (2 * suc (suc T) + 1) ≤ b ^ (5 * (T + 1)) = pow-le-pow_right some (omega arith) in
     subst (λ z. b ^ (2 * suc (suc T) + 1) ≤ z) (power_of b 5 (T + 1)) longer
 
-pub some_base : (r m : ℕ) → 1 ≤ base r m
+pub some_base : (r m : ℕ) → 1 ≤ hypergraph_base r m
 some_base r m = one-le-pow (r + 3) (3 * (r + 1) * (m + 1)) (omega arith)
 
 pub separating : SeparatingLaw
-separating a n T some =
-    let (points, hyper, few, is_hyper, sparse, uncolourable) = sparse_hyper (places a) (n ^ a + a) (2 * suc (suc T)) in
-    let part : Pruned a points (matched a hyper) (n ^ a) = pruned a points (n ^ a) (matched a hyper) (matched_joins a points (n ^ a) hyper some is_hyper uncolourable) in
-    let enough = few_enough (base (places a) (n ^ a + a)) T (some_base (places a) (n ^ a + a)) in (
+separating a p n T some more =
+    let (points, hyper, few, is_hyper, sparse, uncolourable) = sparse_hyper (p * a ^ p) (n ^ a + a) (2 * suc (suc T)) in
+    let part : Pruned a p points (matched a p hyper) (n ^ a) = pruned a p points (n ^ a) (matched a p hyper) some (matched_joins a p points (n ^ a) hyper some more is_hyper uncolourable) in
+    let enough = few_enough (hypergraph_base (p * a ^ p) (n ^ a + a)) T (some_base (p * a ^ p) (n ^ a + a)) in (
       part.count,
-      renamed part.name (matched a hyper),
+      part.kept,
       (let less = part.up_to in omega (arith, less, few, enough)),
       record {
         edges = part.edges;
-        joins = JoinsAlike-within a part.count n (renamed part.name (matched a hyper)) some part.joins;
-        apart = AreApart-matched a (2 * suc (suc T)) points part.count hyper part.name some is_hyper sparse T (omega arith);
+        joins = JoinsAlike-within a p part.count n part.kept some more part.joins;
+        apart = AreApart-matched a p (2 * suc (suc T)) points part.count hyper part.name part.kept some is_hyper sparse part.from T (omega arith);
       },
     )
 
@@ -44,5 +44,5 @@ IsBeyondPower-labelled problem C N T few never more l solves = never (SolvableLa
 
 pub sinkless_unique : SinklessUniqueLaw
 sinkless_unique T more l solves =
-    let (N, graph, few, separates) = separating 3 2 T (omega arith) in
-    sinkless_local N T graph separates (SolvableLocal-fewer relaxed_sinkless N more T (omega (arith, few, l)) solves)
+    let (N, hyper, few, separates) = separating 3 2 2 T (omega arith) (omega arith) in
+    sinkless_local N T hyper separates (SolvableLocal-fewer relaxed_sinkless N more T (omega (arith, few, l)) solves)

@@ -10,7 +10,7 @@ use Rattle.re_separating.proofs.Balls.{many_edges}
 use Rattle.re_separating.proofs.Counting.{all_at, average, count, count-le, count_some, one_if, total, total-const, total-le, total-swap}
 use Rattle.re_separating.proofs.Sets.{number_below, number_of, set, set_number}
 use Rattle.re_separating.proofs.Stages.{Stage, begin, full, more, over}
-use Rattle.re_separating.specs.Hypergraphs.{IsUncolourable, SparseLaw, base}
+use Rattle.re_separating.specs.Hypergraphs.{IsUncolourable, SparseLaw, hypergraph_base}
 
 -- ---- powers
 -- (c + 1)^n is at least c^n + n c^(n - 1)
@@ -107,7 +107,7 @@ some_points r m g = grown (third r m g) (some_third r m g)
     grown u l = omega (arith, l)
 
 -- the base of the power is as large as what is needed
-base_enough : (r m : ℕ) → 3 * (r + 1) * (m + 1) * suc (most_edges r m * r) ≤ base r m
+base_enough : (r m : ℕ) → 3 * (r + 1) * (m + 1) * suc (most_edges r m * r) ≤ hypergraph_base r m
 unfolding most_edges share
 base_enough r m =
     let x : ℕ = 3 * (r + 1) * (m + 1) in
@@ -129,7 +129,7 @@ base_enough r m =
         let wider : (2 * r + 1) * (x * y) ≤ x * (x * y) = mul-le-mul_right (x * y) wide in
         omega (arith, twice, unit, wider)
 
-points_within : (r m g : ℕ) → points_of r m g ≤ base r m ^ (g + 1)
+points_within : (r m g : ℕ) → points_of r m g ≤ hypergraph_base r m ^ (g + 1)
 unfolding points_of third
 points_within r m g =
     let one_power : points_of r m g ≤ (3 * (r + 1) * (m + 1) * suc (most_edges r m * r)) ^ (g + 1) =

@@ -33,10 +33,10 @@ IsUncolourable r n m hyper =
     (edge : ℕ) × (shade : ℕ) × (edge < hyper.edges) × ((place : ℕ) → place < r → colour (hyper.at edge place) ≡ shade)
 
 -- the base of the power of points that are enough
-abbrev pub base : ℕ → ℕ → ℕ
-base r m = (3 * (r + 1) * (m + 1)) ^ (r + 3)
+abbrev pub hypergraph_base : ℕ → ℕ → ℕ
+hypergraph_base r m = (3 * (r + 1) * (m + 1)) ^ (r + 3)
 
 -- for all r, m and g there is a hypergraph of r places an edge, without closed walks of up to g steps, that m colours don't colour properly; its
 -- points are no more than the power g + 1 of a number that r and m alone tell
 abbrev pub SparseLaw : Type 0
-SparseLaw = (r m g : ℕ) → (n : ℕ) × (hyper : Hyper ℕ) × (n ≤ base r m ^ (g + 1)) × IsHyper r n hyper × IsSparse r g hyper × IsUncolourable r n m hyper
+SparseLaw = (r m g : ℕ) → (n : ℕ) × (hyper : Hyper ℕ) × (n ≤ hypergraph_base r m ^ (g + 1)) × IsHyper r n hyper × IsSparse r g hyper × IsUncolourable r n m hyper

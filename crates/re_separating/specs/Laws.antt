@@ -1,21 +1,22 @@
--- Graphs of identifiers that separate, for any number of rounds and not much larger than they have to be, and what follows for algorithms with
+-- Hypergraphs of identifiers that separate, for any number of rounds and not much larger than they have to be, and what follows for algorithms with
 -- unique identifiers.
 use Rattle.std.specs.Prelude.{ℕ, ◌+◌, ◌*◌, ◌^◌, ◌≤◌}
-use Rattle.re_given.specs.Identifiers.{IdGraph}
+use Rattle.re_local.specs.Identifiers.{IdHypergraph}
 use Rattle.re_local.specs.LocalAlgorithms.{SolvableLocal}
 use Rattle.re_local.specs.Separating.{Separates}
 use Rattle.re_problem.specs.Examples.{relaxed_sinkless}
 use Rattle.re_problem.specs.Problems.{Problem}
-use Rattle.re_separating.specs.Hypergraphs.{base}
+use Rattle.re_separating.specs.Hypergraphs.{hypergraph_base}
 
--- the base of the power of identifiers that are enough for so many ports and labels
-abbrev pub identifier_base : ℕ → ℕ → ℕ
-identifier_base a n = base (2 * (a * a)) (n ^ a + a) ^ 5
+-- the base of the power of identifiers that are enough for so many ports, passive degree and labels
+abbrev pub identifier_base : ℕ → ℕ → ℕ → ℕ
+identifier_base a p n = hypergraph_base (p * a ^ p) (n ^ a + a) ^ 5
 
--- for each number of ports, of labels and of rounds some graph of identifiers joins alike ones and shows different ones on its trees; its
--- identifiers are no more than the power T + 1 of a number that ports and labels alone tell
+-- for each number of ports, passive degree, number of labels and of rounds some hypergraph of identifiers joins alike ones and shows different
+-- ones on its trees; its identifiers are no more than the power T + 1 of a number that ports, degree and labels alone tell
 abbrev pub SeparatingLaw : Type 0
-SeparatingLaw = (a n T : ℕ) → 1 ≤ a → (N : ℕ) × (graph : IdGraph) × (N ≤ identifier_base a n ^ (T + 1)) × Separates a N n T graph
+SeparatingLaw = (a p n T : ℕ) → 1 ≤ a → 1 ≤ p →
+    (N : ℕ) × (hyper : IdHypergraph) × (N ≤ identifier_base a p n ^ (T + 1)) × Separates a p N n T hyper
 
 -- from some number N of identifiers on, no local algorithm of T rounds solves the problem
 abbrev pub IsBeyondLocal : Problem → ℕ → Type 0
@@ -27,4 +28,4 @@ IsBeyondPower problem C T = (N : ℕ) → C ^ (T + 1) ≤ N → SolvableLocal pr
 
 -- so it is for the relaxation of sinkless orientation, for any number of rounds
 abbrev pub SinklessUniqueLaw : Type 0
-SinklessUniqueLaw = (T : ℕ) → IsBeyondPower relaxed_sinkless (identifier_base 3 2) T
+SinklessUniqueLaw = (T : ℕ) → IsBeyondPower relaxed_sinkless (identifier_base 3 2 2) T

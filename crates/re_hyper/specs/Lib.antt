@@ -1,3 +1,0 @@
-pub mod HyperIdentifiers
-pub mod HyperSeparating
-pub mod Laws

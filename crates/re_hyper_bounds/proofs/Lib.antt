@@ -1,4 +1,0 @@
-pub mod FewHyper
-pub mod HyperClasses
-pub mod HyperGap
-pub mod HyperMeaning

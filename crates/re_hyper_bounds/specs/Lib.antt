@@ -1,2 +1,0 @@
-pub mod HyperBounds
-pub mod HyperGaps

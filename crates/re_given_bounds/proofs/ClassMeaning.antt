@@ -1,5 +1,5 @@
 -- What certificates say of the class of a problem.
-use Rattle.std.proofs.Common.{◌≡◌, ℕ, ◌+◌, ◌≤◌, List, [], ◌∷◌, length, subst, arith}
+use Rattle.std.proofs.Common.{ℕ, ◌+◌, ◌≤◌, List, [], ◌∷◌, length, subst, arith}
 use Rattle.std.specs.List.{AllByRecursion}
 use Rattle.re_cert.specs.Bounds.{next_problems}
 use Rattle.re_cert.specs.declared.certificate.Kind.TheVariants.{Fixed, Lower, Upper}

@@ -22,6 +22,7 @@ use Rattle.re_given.specs.Given.{SolvableGiven, ZeroGiven}
 use Rattle.re_given.specs.Inputs.{IsInput, exchanged_by}
 use Rattle.re_given.specs.Unavoidable.{IsUnavoidable, colouring, reached}
 use Rattle.re_given_bounds.specs.GivenBounds.{BesideLaw, ColouredBoundLaw, EndsGiven, EvenBoundLaw, FixedBoundLaw, HasFewLabels, IsOver, IsValidGiven, MeansBeside, MeansGiven, OddBoundLaw, UpperBoundLaw, ValidGivenLaw}
+use Rattle.re_given_bounds.specs.LocalBounds.{WholeLowerBoundLaw}
 use Rattle.re_given_bounds.proofs.BoundChains.{behind-last, lower_between, lower_to}
 use Rattle.re_items.specs.Steps.{is_nil}
 use Rattle.re_labels.proofs.Tests.{and-true}
@@ -35,6 +36,8 @@ use Rattle.re_problem.specs.Zero.{Zero}
 use Rattle.re_problem.specs.Steps.{IsRelaxed}
 use Rattle.re_config.specs.Configs.{image_at}
 use Rattle.re_check.specs.declared.verdict.Verdict.TheVariants.{Accepted}
+use Rattle.re_separating.proofs.WholeBound.{whole_bound}
+use Rattle.re_separating.specs.Laws.{IsBeyondPower, virtual_base}
 
 -- ---- chains of problems with few labels
 abbrev AreFew : ℕ → List Problem → Type 0
@@ -188,6 +191,13 @@ module _ (bound : Bound) (over : IsOver bound) where
       let same : exchanged_by (length bound.steps) input ≡ input = ap (λ m. exchanged_by m input) even ∙ exchanged_by-twice half input in
       lower_bound_unavoidable over.first.problem is_input (to_last lower steps) (last_not_zero lower ends) (subst (λ i. IsUnavoidable i (length (last_problem bound).names)) (sym same) unavoidable) T few solvable
 
+  pub whole_bound_at : (n T : ℕ) → bound.kind ≡ Lower → bound_fault bound ≡ None → length (last_problem bound).names ≤ n → T ≤ length bound.steps
+      → IsBeyondPower (unnamed bound.first) (virtual_base bound.first.active.degree bound.first.passive.degree n) T
+  whole_bound_at n T e none labels few =
+      let (steps, ends) = no_faults none in
+      let lower : is_lower bound.kind ≡ true = ap is_lower e in
+      whole_bound (unnamed bound.first) (unnamed (last_problem bound)) (length bound.steps) n T over.first.problem (to_last lower steps) (last_not_zero lower ends) labels few
+
   pub odd_bound : (c half T : ℕ) → bound.first.passive.degree ≡ 2 → bound.kind ≡ Lower → bound_fault bound ≡ None → length bound.steps ≡ suc (half + half) → 2 ^ length (last_problem bound).names < c
       → T ≤ length bound.steps → SolvableGiven (unnamed bound.first) (colouring bound.first.active.degree 2 c) T → ⊥
   odd_bound c half T edges e none odd many few solvable =
@@ -225,6 +235,11 @@ pub even_bound_means : EvenBoundLaw
 even_bound_means bound input half T over is_input accepted even unavoidable few solvable =
     let (none, kind) = accepted_kind Lower bound.kind (length bound.steps) (bound_fault bound) accepted in
     even_bound bound over input half T is_input kind none even unavoidable few solvable
+
+pub whole_lower_bound : WholeLowerBoundLaw
+whole_lower_bound bound n T over accepted labels few =
+    let (none, kind) = accepted_kind Lower bound.kind (length bound.steps) (bound_fault bound) accepted in
+    whole_bound_at bound over n T kind none labels few
 
 pub odd_bound_means : OddBoundLaw
 odd_bound_means bound c half T over edges accepted odd many few solvable =

@@ -1,18 +1,18 @@
 -- What certificates of bounds say of local algorithms, whose nodes have unique identifiers.
-use Rattle.std.specs.Prelude.{◌≡◌, ℕ, ◌<◌, ◌≤◌, true}
+use Rattle.std.specs.Prelude.{◌≡◌, ℕ, ◌<◌, ◌≤◌, true, length}
 use Rattle.std.specs.List.{AllByRecursion}
-use Rattle.re_cert.specs.Bounds.{Bound, is_bound, next_problems}
+use Rattle.re_cert.specs.Bounds.{Bound, is_bound, last_problem, next_problems}
 use Rattle.re_cert.specs.declared.certificate.Kind.TheVariants.{Fixed, Lower, Upper}
 use Rattle.re_check.specs.Verdicts.{verdict_of}
 use Rattle.re_check.specs.declared.verdict.Verdict.{Verdict}
 use Rattle.re_check.specs.declared.verdict.Verdict.TheVariants.{Accepted, Refused}
-use Rattle.re_given_bounds.specs.GivenBounds.{HasFewLabels}
+use Rattle.re_given_bounds.specs.GivenBounds.{HasFewLabels, IsOver}
 use Rattle.re_local.specs.Identifiers.{IdHypergraph}
 use Rattle.re_local.specs.LocalAlgorithms.{SolvableLabelled}
 use Rattle.re_local.specs.Separating.{Separates}
 use Rattle.re_problem.specs.NamedProblems.{IsNamedProblem, unnamed}
 use Rattle.re_problem.specs.Problems.{Problem}
-use Rattle.re_separating.specs.Laws.{IsBeyondLocal, IsBeyondPower, identifier_base}
+use Rattle.re_separating.specs.Laws.{IsBeyondLocal, IsBeyondPower, identifier_base, virtual_base}
 
 -- what a verdict says of local algorithms of T rounds with N identifiers: after a lower bound of more than T steps none solves the first
 -- problem, nor after a fixed point
@@ -54,3 +54,10 @@ abbrev pub LogarithmicBoundLaw : Type 0
 LogarithmicBoundLaw = (bound : Bound) (n : ℕ) → is_bound bound ≡ true → IsNamedProblem bound.first →
     AllByRecursion IsNamedProblem (next_problems bound.steps) → HasFewLabels n bound →
     MeansLogarithmic (verdict_of bound) (unnamed bound.first) (identifier_base bound.first.active.degree bound.first.passive.degree n)
+
+-- what is accepted as a lower bound of k steps excludes local algorithms of T rounds also where T is k, with so many identifiers, where its last
+-- problem has no more than n labels
+abbrev pub WholeLowerBoundLaw : Type 0
+WholeLowerBoundLaw = (bound : Bound) (n T : ℕ) → IsOver bound → verdict_of bound ≡ Accepted Lower (length bound.steps) →
+    length (last_problem bound).names ≤ n → T ≤ length bound.steps →
+    IsBeyondPower (unnamed bound.first) (virtual_base bound.first.active.degree bound.first.passive.degree n) T

@@ -7,7 +7,7 @@ ghost use Rattle.re_given_bounds.specs.FewColoursBounds.{UpperBoundLocalLaw};
 ghost use Rattle.re_given_bounds.specs.GivenBounds.{BesideLaw, ColouredBoundLaw, EvenBoundLaw, FixedBoundLaw, OddBoundLaw, UpperBoundLaw, ValidGivenLaw};
 ghost use Rattle.re_given_bounds.specs.OnlyUnavoidable.{OnlyUnavoidableLaw};
 ghost use Rattle.re_given_bounds.specs.RandomBounds.{NamedBoundLaw, RandomisedBoundLaw};
-ghost use Rattle.re_given_bounds.specs.LocalBounds.{LocalBoundLaw, LogarithmicBoundLaw, UniqueIdentifiersLaw};
+ghost use Rattle.re_given_bounds.specs.LocalBounds.{LocalBoundLaw, LogarithmicBoundLaw, UniqueIdentifiersLaw, WholeLowerBoundLaw};
 
 /// A bound that is valid given an input problem of its first problem says what bounds of its kind say, given the input problem.
 pub fn valid_given_law()
@@ -107,4 +107,10 @@ pub fn no_two_classes_law()
 /// An input problem helps no problem of n labels in 0 rounds exactly where it is unavoidable for lists of n labels.
 pub fn only_unavoidable_law()
     ensures { OnlyUnavoidableLaw }
+{}
+
+/// An accepted lower bound of k steps excludes local algorithms of as many rounds too, with `virtual_base a p n ^ (T + 1)` identifiers or more, where
+/// its last problem has no more than n labels.
+pub fn whole_lower_bound_law()
+    ensures { WholeLowerBoundLaw }
 {}

@@ -11,3 +11,6 @@ pub mod Sinkless
 pub mod Supports
 pub mod Towers
 pub mod UnavoidableIdentifiers
+pub mod VirtualGiven
+pub mod VirtualLabels
+pub mod VirtualUnavoided

@@ -165,7 +165,7 @@ labelled_active a p N hyper labels has = rw (map-id labels) has
 labelled_passive : (a p N : ℕ) (hyper : IdHypergraph) → TakesTo (λ label. label) (identifiers a p N hyper).passive (labelled a p N).passive
 labelled_passive a p N hyper labels has = rw (map-id labels) (Contains-filter_cases hyper (multisets p 0 (a * N)) (sorted labels) has).0
 
-SolvesGivenBy-apart : (problem input : Problem) (id : ℕ → ℕ) (T : ℕ) (f : InputView → List ℕ) → IsInput problem input → AreApart input id T → SolvesApart problem input id T f → SolvesGivenBy problem input T f
+pub SolvesGivenBy-apart : (problem input : Problem) (id : ℕ → ℕ) (T : ℕ) (f : InputView → List ℕ) → IsInput problem input → AreApart input id T → SolvesApart problem input id T f → SolvesGivenBy problem input T f
 SolvesGivenBy-apart problem input id T f is apart solves = record {
   active = λ v view fits.
       let here : IsView input.active.degree input.passive.degree (suc T) v = rw (is.active_degree, is.passive_degree) view in

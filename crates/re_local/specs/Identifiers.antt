@@ -1,5 +1,5 @@
 -- Identifiers as an input problem, on trees in which a hypergraph says who may stand around a passive node.
-use Rattle.std.specs.Prelude.{◌≡◌, ℕ, ◌+◌, ◌*◌, ◌<◌, Bool, true, List, [], ◌∷◌, length, map, filter}
+use Rattle.std.specs.Prelude.{◌≡◌, ℕ, ◌+◌, ◌*◌, ◌/◌, ◌<◌, nat_lt, Bool, true, ◌&&◌, ◌==◌, List, [], ◌∷◌, length, map, filter}
 use Rattle.std.specs.List.{AllByRecursion}
 use Rattle.re_config.specs.Configs.{sorted}
 use Rattle.re_config.specs.Orders.{multisets}
@@ -26,6 +26,21 @@ identifiers a p N hyper = record {
   labels = a * N;
   active = record { degree = a; configs = map (id_labels a) (count_from 0 N) };
   passive = record { degree = p; configs = filter hyper (multisets p 0 (a * N)) };
+}
+
+-- whether these are ascending labels of one identifier of M ports
+abbrev pub are_of_one : ℕ → List ℕ → Bool
+are_of_one M [] = true
+are_of_one M (u ∷ []) = true
+are_of_one M (u ∷ v ∷ labels) = nat_lt u v && u / M == v / M && are_of_one M (v ∷ labels)
+
+-- an active node has one of N identifiers of M ports, and the labels of a different ones of these stand at its ports in any order; around a
+-- passive node stand p labels that the hypergraph joins
+abbrev pub virtual_identifiers : ℕ → ℕ → ℕ → ℕ → IdHypergraph → Problem
+virtual_identifiers a M p N hyper = record {
+  labels = M * N;
+  active = record { degree = a; configs = filter (are_of_one M) (multisets a 0 (M * N)) };
+  passive = record { degree = p; configs = filter hyper (multisets p 0 (M * N)) };
 }
 
 -- identifiers with this list, one for each of these ports, that the hypergraph joins by these ports

@@ -2,10 +2,10 @@
 use Rattle.std.specs.Prelude.{ℕ, ◌+◌, ◌-◌, ◌*◌, ◌/◌, ◌^◌, ◌≤◌, ◌<◌, ◌∷◌}
 use Rattle.std.specs.List.{AllByRecursion}
 use Rattle.re_given.specs.Given.{SolvableGiven}
-use Rattle.re_given.specs.Inputs.{IsInput}
+use Rattle.re_given.specs.Inputs.{IsInput, exchanged}
 use Rattle.re_given.specs.Unavoidable.{IsUnavoidable, colouring, reached}
 use Rattle.re_laws.specs.Chains.{IsLowerChain}
-use Rattle.re_local.specs.Identifiers.{IdHypergraph, JoinsAlike, identifiers}
+use Rattle.re_local.specs.Identifiers.{IdHypergraph, JoinsAlike, identifiers, virtual_identifiers}
 use Rattle.re_local.specs.LocalAlgorithms.{SolvableLabelled, SolvableLocal}
 use Rattle.re_local.specs.Separating.{AreApart, HasAllEdges, Separates, complete}
 use Rattle.re_problem.specs.Problems.{IsProblem, Problem}
@@ -44,6 +44,24 @@ abbrev pub LocalGivenLaw : Type 0
 LocalGivenLaw = (problem : Problem) (N T : ℕ) (hyper : IdHypergraph) →
     let input : Problem = identifiers problem.active.degree problem.passive.degree N hyper in
     IsInput problem input → AreApart input (λ label. label / problem.active.degree) T → SolvableLabelled problem N T → SolvableGiven problem input T
+
+-- identifiers, of which there is one, are an input problem where they have ports enough and each label of one stands around some passive node
+abbrev pub VirtualInputLaw : Type 0
+VirtualInputLaw = (problem : Problem) (M N : ℕ) (hyper : IdHypergraph) → IsProblem problem → problem.active.degree ≤ M → 0 < N →
+    HasAllEdges M problem.passive.degree N hyper →
+    IsInput problem (virtual_identifiers problem.active.degree M problem.passive.degree N hyper)
+
+-- where their trees show different ones, a local algorithm solves a problem given them
+abbrev pub VirtualGivenLaw : Type 0
+VirtualGivenLaw = (problem : Problem) (M N T : ℕ) (hyper : IdHypergraph) →
+    let input : Problem = virtual_identifiers problem.active.degree M problem.passive.degree N hyper in
+    IsInput problem input → AreApart input (λ label. label / M) T → SolvableLocal problem N T → SolvableGiven problem input T
+
+-- with their sides exchanged they are unavoidable for lists below n, where they have more than (a - 1) 2^n ports, and however each port of
+-- each gets a set of labels below n, those with some one list of sets are joined by each p ports
+abbrev pub VirtualUnavoidableLaw : Type 0
+VirtualUnavoidableLaw = (a M p N n : ℕ) (hyper : IdHypergraph) → 1 ≤ a → 1 ≤ p → (a - 1) * 2 ^ n < M → JoinsAlike M p N hyper (2 ^ n) →
+    IsUnavoidable (exchanged (virtual_identifiers a M p N hyper)) n
 
 -- where the last problem of lower steps goes back to an earlier one, and isn't zero, no local algorithm of T rounds solves the first one, if
 -- there is a hypergraph for T rounds and lists below n, and no problem from that earlier one on has more than n labels

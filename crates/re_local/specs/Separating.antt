@@ -2,7 +2,7 @@
 use Rattle.std.specs.Prelude.{ℕ, suc, ◌+◌, ◌*◌, ◌/◌, ◌<◌, map}
 use Rattle.re_given.specs.InputViews.{Fits, InputView}
 use Rattle.re_given.specs.Unavoidable.{colouring}
-use Rattle.re_local.specs.Identifiers.{IdHypergraph, JoinsAlike, identifiers}
+use Rattle.re_local.specs.Identifiers.{IdHypergraph, JoinsAlike, identifiers, virtual_identifiers}
 use Rattle.re_local.specs.LocalAlgorithms.{AreDifferent, behind_passive, shown}
 use Rattle.re_problem.specs.NamedProblems.{OccursIn}
 use Rattle.re_problem.specs.Problems.{Problem}
@@ -26,6 +26,13 @@ pub record Separates (a p N n T : ℕ) (hyper : IdHypergraph) : Type 0 where
   pub edges : HasAllEdges a p N hyper
   pub joins : JoinsAlike a p N hyper n
   pub apart : AreApart (identifiers a p N hyper) (λ label. label / a) T
+
+-- a hypergraph of N identifiers of M ports, for nodes that use a of these, passive degree p, lists below n and T rounds: each label of an
+-- identifier stands around some passive node, the hypergraph joins alike ones, and its trees show different ones
+pub record VirtualSeparates (a M p N n T : ℕ) (hyper : IdHypergraph) : Type 0 where
+  pub edges : HasAllEdges M p N hyper
+  pub joins : JoinsAlike M p N hyper n
+  pub apart : AreApart (virtual_identifiers a M p N hyper) (λ label. label / M) T
 
 -- the hypergraph that joins any p different identifiers below N, by all their ports: those of a proper colouring in which each is a colour
 abbrev pub complete : ℕ → ℕ → ℕ → IdHypergraph

@@ -2,7 +2,7 @@
 #![tactic(auto)]
 
 ghost use Rattle.re_local.specs.Examples.{SinklessLocalLaw};
-ghost use Rattle.re_local.specs.Laws.{ColouredLocalLaw, CompleteLaw, CompleteLimitLaw, FewerIdentifiersLaw, FewerRoundsLaw, FixedPointLocalLaw, IdentifiersInputLaw, IdentifiersLaw, LabelledLaw, LocalGivenLaw, MoreRoundsLocalLaw, ShorterBoundLocalLaw};
+ghost use Rattle.re_local.specs.Laws.{ColouredLocalLaw, CompleteLaw, CompleteLimitLaw, FewerIdentifiersLaw, FewerRoundsLaw, FixedPointLocalLaw, IdentifiersInputLaw, IdentifiersLaw, LabelledLaw, LocalGivenLaw, MoreRoundsLocalLaw, ShorterBoundLocalLaw, VirtualGivenLaw, VirtualInputLaw, VirtualUnavoidableLaw};
 ghost use Rattle.re_local.specs.Shown.{LinearRoomLaw, LogarithmicRoomLaw, NoRoomLaw, NodesSeenLaw};
 
 /// What a local algorithm solves is solved where the labels of identifiers are known too.
@@ -90,4 +90,19 @@ pub fn logarithmic_room_law()
 /// And from N rounds on, also where q = 1.
 pub fn linear_room_law()
     ensures { LinearRoomLaw }
+{}
+
+/// Identifiers, of which there is one, are an input problem where they have ports enough, and each label of one stands around some passive node.
+pub fn virtual_input_law()
+    ensures { VirtualInputLaw }
+{}
+
+/// Where the trees of a hypergraph of such identifiers show different ones, a local algorithm solves a problem given them.
+pub fn virtual_given_law()
+    ensures { VirtualGivenLaw }
+{}
+
+/// With their sides exchanged they are unavoidable for lists below n, where they have more than (a - 1) 2^n ports and alike ones are joined.
+pub fn virtual_unavoidable_law()
+    ensures { VirtualUnavoidableLaw }
 {}

@@ -61,13 +61,6 @@ unavoidable_gap problem input h T is is_input l unavoidable solvable = rw add-on
         (unavoidable_rounds problem input h (suc T) is is_input l (at_even input (suc T) half (tower (suc T + h)) e high)).0
         (SolvableGiven-more problem input T is_input solvable)
 
--- an even number of rounds
-pub even_rounds : (problem input : Problem) (h T half : ℕ) → IsProblem problem → IsInput problem input → problem.labels ≤ tower h → T ≡ half + half
-    → IsUnavoidable input (tower (T + h + 1)) → SolvableGiven problem input T → Solvable problem T
-even_rounds problem input h T half is is_input l e unavoidable =
-    let lower : IsUnavoidable input (tower (T + h)) = unavoidable_lower input (T + h) (T + h + 1) (omega arith) unavoidable in
-    (unavoidable_rounds problem input h T is is_input l (at_even input T half (tower (T + h)) e lower)).0
-
 -- ---- colourings
 pub coloured_gap : ColouredGapLaw
 coloured_gap problem h T c is l enough many solvable =

@@ -41,20 +41,15 @@ ColouredPairsGapLaw = (problem : Problem) (h T c : ℕ) → IsProblem problem �
     tower (T + h + 1) < c → SolvableGiven problem (colouring problem.active.degree 2 c) T ↔ Solvable problem T
 
 -- ---- unique identifiers
--- what a local algorithm of T rounds solves with so many identifiers takes at most T + 1 rounds without them
+-- with so many identifiers a local algorithm of T rounds solves what T rounds solve without them, and no more
 abbrev pub GapLaw : Type 0
-GapLaw = (problem : Problem) (h T N : ℕ) → IsProblem problem → problem.labels ≤ tower h →
-    tower (T + h + 6) ≤ N → SolvableLocal problem N T → Solvable problem (T + 1)
+GapLaw = (problem : Problem) (h T N : ℕ) → IsProblem problem → problem.labels ≤ tower h → tower (T + h + 6) ≤ N →
+    SolvableLocal problem N T ↔ Solvable problem T
 
--- and T rounds, where T is even
-abbrev pub EvenGapLaw : Type 0
-EvenGapLaw = (problem : Problem) (h half N : ℕ) → IsProblem problem → problem.labels ≤ tower h →
-    tower (half + half + h + 6) ≤ N → SolvableLocal problem N (half + half) ↔ Solvable problem (half + half)
-
--- so what T rounds solve with so many identifiers takes at most T + 1 rounds with any number of them
+-- so what T rounds solve with so many identifiers they solve with any number of them
 abbrev pub OneNumberLaw : Type 0
-OneNumberLaw = (problem : Problem) (h T N more : ℕ) → IsProblem problem → problem.labels ≤ tower h →
-    tower (T + h + 6) ≤ N → SolvableLocal problem N T → SolvableLocal problem more (T + 1)
+OneNumberLaw = (problem : Problem) (h T N more : ℕ) → IsProblem problem → problem.labels ≤ tower h → tower (T + h + 6) ≤ N →
+    SolvableLocal problem N T → SolvableLocal problem more T
 
 -- what no number of rounds solves without identifiers no local algorithm of T rounds solves with so many: with identifiers below N it takes at
 -- least log* N - h - 6 rounds

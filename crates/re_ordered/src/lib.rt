@@ -1,7 +1,7 @@
 //! What unique identifiers help in a fixed number of rounds, or in fewer than log* N less a constant: nothing. Laws alone, no code.
 #![tactic(auto)]
 
-ghost use Rattle.re_ordered.specs.GapLaws.{BeyondPortsLaw, ColouredGapLaw, ColouredPairsGapLaw, OneNumberLaw, EvenGapLaw, FewLabelsLaw, GapLaw, GraphGapLaw, TowerLaw, UnavoidableGapLaw, UnavoidableRoundsLaw};
+ghost use Rattle.re_ordered.specs.GapLaws.{BeyondPortsLaw, ColouredGapLaw, ColouredPairsGapLaw, OneNumberLaw, FewLabelsLaw, GapLaw, GraphGapLaw, TowerLaw, UnavoidableGapLaw, UnavoidableRoundsLaw};
 ghost use Rattle.re_ordered.specs.Laws.{AnyIdentifiersLaw, BeyondLocalLaw, NoSolutionLocalLaw, IdentifiersNoUseLaw, PortsAreEnoughLaw};
 
 /// For each problem and number of rounds there is a number of identifiers such that what a local algorithm solves with so many, an algorithm
@@ -62,20 +62,14 @@ pub fn coloured_pairs_gap_law()
     ensures { ColouredPairsGapLaw }
 {}
 
-/// The gap, where a problem has at most a tower of h twos of labels: what a local algorithm of T rounds solves with identifiers below N takes at most
-/// T + 1 rounds without them, if N is at least a tower of T + h + 6 twos, as where T is less than log* N - h - 6 (Chang and Pettie; Grunau, Rozhoň
-/// and Brandt, who show it for randomised algorithms too). Of the one round that it may lose nothing is lost where T is even, as in whole rounds of
-/// the graph of active nodes.
+/// The gap, where a problem has at most a tower of h twos of labels: with identifiers below N a local algorithm of T rounds solves what T rounds solve
+/// without them, and no more, if N is at least a tower of T + h + 6 twos, as where T is less than log* N - h - 6 (Chang and Pettie; Grunau, Rozhoň
+/// and Brandt, who show it for randomised algorithms too).
 pub fn gap_law()
     ensures { GapLaw }
 {}
 
-/// And T rounds, where T is even: so few rounds solve exactly what ports solve.
-pub fn even_gap_law()
-    ensures { EvenGapLaw }
-{}
-
-/// So what T rounds solve with one such number of identifiers takes at most T + 1 rounds with any number of them.
+/// So what T rounds solve with one such number of identifiers they solve with any number of them.
 pub fn one_number_law()
     ensures { OneNumberLaw }
 {}

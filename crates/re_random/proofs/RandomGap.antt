@@ -1,5 +1,5 @@
 -- Few rounds solve no more with random strings, and failures that are rare enough, than with port numbers alone.
-use Rattle.std.proofs.Common.{◌≡◌, ℕ, suc, ◌+◌, ◌*◌, ◌^◌, ◌≤◌, sym, subst, arith}
+use Rattle.std.proofs.Common.{◌≡◌, ℕ, suc, ◌+◌, ◌*◌, ◌^◌, ◌≤◌, sym, subst, arith, ◌%◌}
 use Rattle.std.proofs.Math.Nat.{mul-le-mul_right, pow-le-pow_right, pow-succ'}
 use Rattle.std.proofs.lemmas.Nat.{pow-add}
 use Rattle.re_local.proofs.Towers.{above, below_power, cube_below, power_below, tower-le}
@@ -12,7 +12,6 @@ use Rattle.re_random.proofs.NamedViews.{fails_named}
 use Rattle.re_random.specs.GapLaws.{NamedConstantLaw, NamedGapLaw, RandomisedConstantLaw, RandomisedGapLaw}
 use Rattle.re_random.specs.Laws.{id_views}
 use Rattle.re_random.specs.NamedRandom.{with_images}
-use Rattle.std.proofs.Common.{◌%◌}
 
 pub randomised_constant : RandomisedConstantLaw
 randomised_constant problem T is =
@@ -60,7 +59,7 @@ few_views d m T low small large =
 
 pub named_gap : NamedGapLaw
 named_gap problem h N R T q algorithm is l many enough fails =
-    gap problem h T (tower (T + h + 6)) is l (omega arith)
+    (gap problem h T (tower (T + h + 6)) is l (omega arith)).0
     (derandomised_named problem 6 (tower (T + h + 6)) R T q algorithm is is.active.most is.passive.most few
     (fewer_names problem (tower (T + h + 6)) N R T q algorithm many fails))
   where

@@ -74,7 +74,7 @@ pub fn randomised_constant_law()
     ensures { RandomisedConstantLaw }
 {}
 
-/// A tower of T and a constant of twos is such a number, with one round more (Grunau, Rozhoň and Brandt): below log* of the inverse of the
+/// A tower of T and a constant of twos is such a number (Grunau, Rozhoň and Brandt): below log* of the inverse of the
 /// probability of failure, less a constant, randomness is of no use.
 pub fn randomised_gap_law()
     ensures { RandomisedGapLaw }

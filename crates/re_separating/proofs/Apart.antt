@@ -1,4 +1,5 @@
--- On the trees of a hypergraph of identifiers, from a hypergraph without short closed walks, all identifiers near a node are different.
+-- On the trees of a hypergraph of identifiers, from a hypergraph without short closed walks, all identifiers near a node are different, where
+-- different labels of one identifier stand around each active node.
 use Rattle.std.proofs.Common.{◌≡◌, ℕ, zero, suc, pred, ◌+◌, ◌-◌, ◌*◌, ◌/◌, ◌%◌, ◌^◌, ◌≤◌, ◌<◌, true, inl, inr, List, [], ◌∷◌, ◌++◌, map, get_or, refl, sym, ◌∙◌, ap, subst, arith}
 use Rattle.std.specs.Prelude.{Contains, ◌⊎◌}
 use Rattle.std.proofs.lemmas.Nat.{div-add-mod', div-mul-add, mod-mul-add, mod_below, same_from_place}
@@ -8,11 +9,10 @@ use Rattle.re_config.specs.Configs.{sorted}
 use Rattle.re_config.specs.Orders.{multisets}
 use Rattle.re_config.specs.Rearranging.{Rearranged, chained}
 use Rattle.re_given.proofs.Fitting.{Has-around}
-use Rattle.re_local.specs.Identifiers.{id_labels}
+use Rattle.re_local.specs.Identifiers.{id_labels, IdHypergraph, identifiers}
 use Rattle.re_given.specs.InputViews.{FitsAround, InputView, payloads}
 use Rattle.re_separating.proofs.Matched.{digit_below, digits, edge_labels, labels_at_ids, labels_cases, matched, matched_edge, places_within, points_different}
 use Rattle.re_separating.proofs.Pruned.{relabel}
-use Rattle.re_local.specs.Identifiers.{IdHypergraph, identifiers}
 use Rattle.re_labels.proofs.Membership.{Contains-In, Contains-filter_cases, Contains-map, Contains-map_cases, Distinct-count_from, In, In-Contains, In-append_cases, In-append_left, In-append_right, count_from_range}
 use Rattle.re_labels.specs.Lists.{count_from}
 use Rattle.re_local.proofs.ColouredLocal.{different_Rearranged}
@@ -21,7 +21,7 @@ use Rattle.re_local.specs.LocalAlgorithms.{AreDifferent, behind_active, behind_p
 use Rattle.re_local.specs.Separating.{AreApart}
 use Rattle.re_separating.proofs.Walks.{joined, turned}
 use Rattle.re_separating.specs.Hypergraphs.{Hyper, IsHyper, IsSparse, On, Walk, one, step}
-use Rattle.re_table.specs.Constraints.{Has}
+use Rattle.re_table.specs.Constraints.{Constraint, Has}
 use Rattle.re_views.specs.Trees.{IsTree, IsView, end, leaf, more}
 
 different_across : (xs ys : List ℕ) → AreDifferent (xs ++ ys) → (y z : ℕ) → In y xs → In z ys → y ≡ z → ⊥
@@ -50,7 +50,8 @@ names_relabelled a name (u ∷ labels) some =
     ap (λ x. x ∷ map (λ u. u / a) (map (relabel a name) labels)) (div-mul-add (name (u / a)) a (u % a) (mod_below u a (omega arith))) ∙ ap (λ l. name (u / a) ∷ l) (names_relabelled a name labels some)
 
 module _ (a p g points_below N : ℕ) (hyper : Hyper ℕ) (name : ℕ → ℕ) (kept : IdHypergraph) (some : 1 ≤ a) (is_hyper : IsHyper (p * a ^ p) points_below hyper) (sparse : IsSparse (p * a ^ p) g hyper)
-    (from : (labels : List ℕ) → kept (sorted labels) ≡ true → matched a p hyper (sorted (map (relabel a name) labels)) ≡ true) where
+    (from : (labels : List ℕ) → kept (sorted labels) ≡ true → matched a p hyper (sorted (map (relabel a name) labels)) ≡ true)
+    (own : Constraint) (around_one : (labels : List ℕ) → Has own labels → (y z : ℕ) → In y labels → In z labels → y / a ≡ z / a) (around_different : (labels : List ℕ) → Has own labels → AreDifferent labels) where
   -- the port at a place
   abbrev port_of : ℕ → ℕ
   port_of place = get_or (digits a p (place / p)) (place % p) 0
@@ -105,37 +106,23 @@ module _ (a p g points_below N : ℕ) (hyper : Hyper ℕ) (name : ℕ → ℕ) (
                 port = rw (div-mul-add c p j jl, mod-mul-add c p j jl) (sym port);
               }
 
-  -- ---- labels around an active node
-  around_one : (labels : List ℕ) → Has (identifiers a p N kept).active labels → (y z : ℕ) → In y labels → In z labels → y / a ≡ z / a
-  around_one labels has y z i j =
-      let (x, held, is) = Contains-map_cases (id_labels a) (count_from 0 N) (sorted labels) has in
-      let of_x : (u : ℕ) → In u labels → u / a ≡ x = λ u k.
-      let (low, high) = count_from_range (x * a) a u (subst (λ config. Contains config u) (sym is) (Contains-Rearranged u (Rearranged-sorted labels) (In-Contains u labels k))) in
-      let is_u : u ≡ x * a + (u - x * a) = omega arith in
-      ap (λ v. v / a) is_u ∙ div-mul-add x a (u - x * a) (omega arith) in
-      of_x y i ∙ sym (of_x z j)
-
-  around_different : (labels : List ℕ) → Has (identifiers a p N kept).active labels → AreDifferent labels
-  around_different labels has =
-      let (x, held, is) = Contains-map_cases (id_labels a) (count_from 0 N) (sorted labels) has in
-      different_Rearranged (Rearranged-sym (Rearranged-sorted labels)) (subst AreDifferent is (different_distinct (id_labels a x) (Distinct-count_from (x * a) a)))
-
+  -- ---- labels around a node
   abbrev FitsActive : List ℕ → InputView → Type 0
-  FitsActive seen v = FitsAround (identifiers a p N kept).active (identifiers a p N kept).passive seen v
+  FitsActive seen v = FitsAround own (identifiers a p N kept).passive seen v
 
   abbrev FitsPassive : List ℕ → InputView → Type 0
-  FitsPassive seen v = FitsAround (identifiers a p N kept).passive (identifiers a p N kept).active seen v
+  FitsPassive seen v = FitsAround (identifiers a p N kept).passive own seen v
 
-  beside : (t n : ℕ) (seen : List ℕ) (v : InputView) → IsTree a p t n v → FitsActive seen v → (y w : ℕ) → In y (payloads v) → In w seen → (y ≡ w → ⊥) × (y / a ≡ w / a)
+  beside : (t n : ℕ) (seen : List ℕ) (v : InputView) → IsTree own.degree p t n v → FitsActive seen v → (y w : ℕ) → In y (payloads v) → In w seen → (y ≡ w → ⊥) × (y / a ≡ w / a)
   beside zero n seen leaf tree fits y w i j = absurd i
   beside zero n seen end tree fits y w i j = absurd tree
   beside zero n seen (more back u branch rest) tree fits y w i j = absurd tree
   beside (suc t) n seen v tree fits y w i j =
-      let has : Has (identifiers a p N kept).active (payloads v ++ seen) = Has-around (identifiers a p N kept).active (identifiers a p N kept).passive a p t n seen v tree fits in
+      let has : Has own (payloads v ++ seen) = Has-around own (identifiers a p N kept).passive own.degree p t n seen v tree fits in
       (different_across (payloads v) seen (around_different (payloads v ++ seen) has) y w i j, around_one (payloads v ++ seen) has y w (In-append_left y (payloads v) seen i) (In-append_right w (payloads v) seen j))
 
-  around_passive : (t n : ℕ) (seen : List ℕ) (c : InputView) → IsTree p a (suc t) n c → FitsPassive seen c → Around (payloads c ++ seen)
-  around_passive t n seen c tree fits = around (payloads c ++ seen) (Has-around (identifiers a p N kept).passive (identifiers a p N kept).active p a t n seen c tree fits)
+  around_passive : (t n : ℕ) (seen : List ℕ) (c : InputView) → IsTree p own.degree (suc t) n c → FitsPassive seen c → Around (payloads c ++ seen)
+  around_passive t n seen c tree fits = around (payloads c ++ seen) (Has-around (identifiers a p N kept).passive own p own.degree t n seen c tree fits)
 
   -- ---- what is behind an edge
   -- a walk of up to t steps from the identifier of u to that of z, along the edge of u first
@@ -202,7 +189,7 @@ module _ (a p g points_below N : ℕ) (hyper : Hyper ℕ) (name : ℕ → ℕ) (
   name_apart w labels d u i same = d.0 (subst (Contains (map (λ u. name (u / a)) labels)) (sym same) (Contains-map (λ u. name (u / a)) labels u (In-Contains u labels i)))
 
   -- from an active node through a passive one
-  through : (t n u : ℕ) (c : InputView) → IsTree p a (suc t) n c → FitsPassive (u ∷ []) c → Beyond (payloads c) t (behind_passive c) → (z : ℕ) → In z (behind_passive c) → Reach u (suc t) z
+  through : (t n u : ℕ) (c : InputView) → IsTree p own.degree (suc t) n c → FitsPassive (u ∷ []) c → Beyond (payloads c) t (behind_passive c) → (z : ℕ) → In z (behind_passive c) → Reach u (suc t) z
   through t n u c tree fits beyond z at =
       let (w, i, near) = beyond z at in
       let all : Around (payloads c ++ (u ∷ [])) = around_passive t n (u ∷ []) c tree fits in
@@ -215,7 +202,7 @@ module _ (a p g points_below N : ℕ) (hyper : Hyper ℕ) (name : ℕ → ℕ) (
       names_across (w' ∷ ws) d w (inr i) same = names_across ws d.1 w i same
 
   -- the children of an active node: those behind the first edge and those behind the rest
-  both_active : (t n u : ℕ) (seen ys : List ℕ) (rest : InputView) → IsTree a p (suc t) n rest → FitsActive (u ∷ seen) rest → 2 * suc t ≤ g
+  both_active : (t n u : ℕ) (seen ys : List ℕ) (rest : InputView) → IsTree own.degree p (suc t) n rest → FitsActive (u ∷ seen) rest → 2 * suc t ≤ g
       → Differ a ys → ((z : ℕ) → In z ys → Reach u (suc t) z) → Differ a (behind_active rest) × Behind (payloads rest) (suc t) (behind_active rest)
       → Differ a (ys ++ behind_active rest) × Behind (u ∷ payloads rest) (suc t) (ys ++ behind_active rest)
   both_active t n u seen ys rest tree fits low differ near (differ', behind) = (
@@ -233,7 +220,7 @@ module _ (a p g points_below N : ℕ) (hyper : Hyper ℕ) (name : ℕ → ℕ) (
           no_meeting (near y i) s away one_node (omega arith) same
 
   -- the children of a passive node: those behind the first edge and those behind the rest
-  both_passive : (t n m w : ℕ) (seen : List ℕ) (b rest : InputView) → IsTree a p t n b → FitsActive (w ∷ []) b → IsTree p a (suc t) m rest → FitsPassive (w ∷ seen) rest → 2 * suc t ≤ g
+  both_passive : (t n m w : ℕ) (seen : List ℕ) (b rest : InputView) → IsTree own.degree p t n b → FitsActive (w ∷ []) b → IsTree p own.degree (suc t) m rest → FitsPassive (w ∷ seen) rest → 2 * suc t ≤ g
       → Differ a (behind_active b) × Behind (payloads b) t (behind_active b) → Differ a (behind_passive rest) × Beyond (payloads rest) t (behind_passive rest)
       → Differ a ((w ∷ behind_active b) ++ behind_passive rest) × Beyond (w ∷ payloads rest) t ((w ∷ behind_active b) ++ behind_passive rest)
   both_passive t n m w seen b rest tree fits tree' fits' low (differ, behind) (differ', beyond) = (
@@ -272,7 +259,7 @@ module _ (a p g points_below N : ℕ) (hyper : Hyper ℕ) (name : ℕ → ℕ) (
       across y z (inr (v, away, here, r)) j same = no_meeting r (over z j) (λ e. away (sym e)) (sym here) (omega arith) same
 
   mutual
-    children : (t n : ℕ) (seen : List ℕ) (v : InputView) → IsTree a p t n v → FitsActive seen v → 2 * t ≤ g → Differ a (behind_active v) × Behind (payloads v) t (behind_active v)
+    children : (t n : ℕ) (seen : List ℕ) (v : InputView) → IsTree own.degree p t n v → FitsActive seen v → 2 * t ≤ g → Differ a (behind_active v) × Behind (payloads v) t (behind_active v)
     children t n seen leaf tree fits low = (tt, λ z none. absurd none)
     children t n seen end tree fits low = (tt, λ z none. absurd none)
     children zero n seen (more back u branch rest) tree fits low = absurd tree
@@ -286,15 +273,15 @@ module _ (a p g points_below N : ℕ) (hyper : Hyper ℕ) (name : ℕ → ℕ) (
         let outer = children (suc (suc t)) n (u ∷ seen) rest tree.3 fits.1 low in
         both_active (suc t) n u seen (behind_passive branch) rest tree.3 fits.1 low inner.0 (λ z at. longer (through t (pred p) u branch tree.2 fits.0 inner.1 z at) (omega arith)) outer
 
-    crossed : (t n : ℕ) (seen : List ℕ) (c : InputView) → IsTree p a (suc t) n c → FitsPassive seen c → 2 * suc t ≤ g → Differ a (behind_passive c) × Beyond (payloads c) t (behind_passive c)
+    crossed : (t n : ℕ) (seen : List ℕ) (c : InputView) → IsTree p own.degree (suc t) n c → FitsPassive seen c → 2 * suc t ≤ g → Differ a (behind_passive c) × Beyond (payloads c) t (behind_passive c)
     crossed t n seen leaf tree fits low = (tt, λ z none. absurd none)
     crossed t n seen end tree fits low = (tt, λ z none. absurd none)
     crossed t zero seen (more back w b rest) tree fits low = absurd tree
     crossed t (suc n) seen (more back w b rest) tree fits low =
-        both_passive t (pred a) n w seen b rest tree.2 fits.0 tree.3 fits.1 low (children t (pred a) (w ∷ []) b tree.2 fits.0 (omega arith)) (crossed t n (w ∷ seen) rest tree.3 fits.1 low)
+        both_passive t (pred own.degree) n w seen b rest tree.2 fits.0 tree.3 fits.1 low (children t (pred own.degree) (w ∷ []) b tree.2 fits.0 (omega arith)) (crossed t n (w ∷ seen) rest tree.3 fits.1 low)
 
   -- ---- whole views
-  apart_active : (T : ℕ) → 2 * suc T ≤ g → (v : InputView) → IsView a p (suc T) v → FitsActive [] v → AreDifferent (map (λ label. label / a) (shown v))
+  apart_active : (T : ℕ) → 2 * suc T ≤ g → (v : InputView) → IsView own.degree p (suc T) v → FitsActive [] v → AreDifferent (map (λ label. label / a) (shown v))
   apart_active T low leaf view fits = tt
   apart_active T low end view fits = tt
   apart_active T low (more back u branch rest) view fits = different_labels a (u ∷ behind_active v) (first, all.0)
@@ -303,17 +290,32 @@ module _ (a p g points_below N : ℕ) (hyper : Hyper ℕ) (name : ℕ → ℕ) (
       v = more back u branch rest
 
       all : Differ a (behind_active v) × Behind (payloads v) (suc T) (behind_active v)
-      all = children (suc T) a [] v view fits low
+      all = children (suc T) own.degree [] v view fits low
 
       first : (z : ℕ) → In z (behind_active v) → u / a ≡ z / a → ⊥
       first z at same =
           let (y, i, r) = all.1 z at in
-          let has : Has (identifiers a p N kept).active (payloads v ++ []) = Has-around (identifiers a p N kept).active (identifiers a p N kept).passive a p T a [] v view fits in
+          let has : Has own (payloads v ++ []) = Has-around own (identifiers a p N kept).passive own.degree p T own.degree [] v view fits in
           let one_node : y / a ≡ u / a = around_one (payloads v ++ []) has y u (In-append_left y (payloads v) [] i) (In-append_left u (payloads v) [] (inl refl)) in
           no_return r (omega arith) (one_node ∙ same)
 
-  pub AreApart-matched : (T : ℕ) → 2 * suc (suc T) ≤ g → AreApart (identifiers a p N kept) (λ label. label / a) T
-  AreApart-matched T low = record {
+  pub AreApart-own : (T : ℕ) → 2 * suc (suc T) ≤ g → AreApart (record { labels = a * N; active = own; passive = (identifiers a p N kept).passive }) (λ label. label / a) T
+  AreApart-own T low = record {
     active = λ v view fits. apart_active T (omega arith) v view fits;
     passive = λ v view fits. different_labels a (behind_passive v) (crossed (suc T) p [] v view fits low).0;
   }
+
+-- ---- identifiers all of whose ports are used
+pub identifiers_one : (a p N : ℕ) (kept : IdHypergraph) (labels : List ℕ) → Has (identifiers a p N kept).active labels → (y z : ℕ) → In y labels → In z labels → y / a ≡ z / a
+identifiers_one a p N kept labels has y z i j =
+    let (x, held, is) = Contains-map_cases (id_labels a) (count_from 0 N) (sorted labels) has in
+    let of_x : (u : ℕ) → In u labels → u / a ≡ x = λ u k.
+    let (low, high) = count_from_range (x * a) a u (subst (λ config. Contains config u) (sym is) (Contains-Rearranged u (Rearranged-sorted labels) (In-Contains u labels k))) in
+    let is_u : u ≡ x * a + (u - x * a) = omega arith in
+    ap (λ v. v / a) is_u ∙ div-mul-add x a (u - x * a) (omega arith) in
+    of_x y i ∙ sym (of_x z j)
+
+pub identifiers_different : (a p N : ℕ) (kept : IdHypergraph) (labels : List ℕ) → Has (identifiers a p N kept).active labels → AreDifferent labels
+identifiers_different a p N kept labels has =
+    let (x, held, is) = Contains-map_cases (id_labels a) (count_from 0 N) (sorted labels) has in
+    different_Rearranged (Rearranged-sym (Rearranged-sorted labels)) (subst AreDifferent is (different_distinct (id_labels a x) (Distinct-count_from (x * a) a)))

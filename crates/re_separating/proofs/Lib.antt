@@ -10,3 +10,4 @@ mod Sets
 pub mod Sparse
 mod Stages
 pub mod Walks
+pub mod WholeBound

@@ -3,7 +3,7 @@
 #![tactic(auto)]
 
 ghost use Rattle.re_separating.specs.Hypergraphs.{SparseLaw};
-ghost use Rattle.re_separating.specs.Laws.{SeparatingLaw, SinklessUniqueLaw};
+ghost use Rattle.re_separating.specs.Laws.{SeparatingLaw, SinklessUniqueLaw, VirtualSeparatingLaw, WholeBoundLaw};
 
 /// For all r, m and g there is a hypergraph, each of whose edges has r different points, without closed walks of up to g steps, such that each
 /// colouring of its points with m colours has an edge of one colour (Erdős and Hajnal). It has no more than `hypergraph_base r m ^ (g + 1)` points: its edges are
@@ -24,4 +24,14 @@ pub fn separating_law()
 /// (`I I O` / `I I`, `I O`).
 pub fn sinkless_unique_law()
     ensures { SinklessUniqueLaw }
+{}
+
+/// For each number of ports, virtual ports, passive degree, number of labels and of rounds some hypergraph of such identifiers separates.
+pub fn virtual_separating_law()
+    ensures { VirtualSeparatingLaw }
+{}
+
+/// Lower steps exclude a local algorithm of as many rounds.
+pub fn whole_bound_law()
+    ensures { WholeBoundLaw }
 {}

@@ -17,7 +17,11 @@ means-found : (problem : NamedProblem) (graph : PortGraph) (outcome : Outcome) (
 means-found problem graph outcome labels e solution =
     let status = ap (λ (o : Outcome). o.status) e in
     record {
-      yes = λ done. (labels_of problem.active.degree graph.nodes labels, solution);
+      yes = λ done. record {
+        labels = labels_of problem.active.degree graph.nodes labels;
+        solution = solution;
+        printed = ap (λ (o : Outcome). o.text) e;
+      };
       none = λ no. absurd (let wrong : Done ≡ No = sym status ∙ no in cc);
       never = λ no. absurd (let wrong : Done ≡ No = sym status ∙ no in cc);
     }

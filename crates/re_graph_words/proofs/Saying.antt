@@ -43,7 +43,7 @@ solve_says bytes = read_says (graph_input bytes)
 cover_says : (problem : NamedProblem) (most : ℕ) (outcome : Outcome) → MayCover problem most outcome → MaySay outcome.status true
 cover_says problem most outcome (inl may) = says_as outcome _ may.text tt
 cover_says problem most outcome (inr (inl may)) = says_as outcome _ may.1 refl
-cover_says problem most outcome (inr (inr may)) = says_as outcome _ may tt
+cover_says problem most outcome (inr (inr may)) = says_as outcome _ may.0 tt
 
 given_says : (fault : Option InputFault) (problem : NamedProblem) (most : ℕ) (outcome : Outcome) → MayCoverRead fault problem most outcome → MaySay outcome.status true
 given_says (Some fault) problem most outcome may = says_as outcome _ may (fault_says fault true)

@@ -1,5 +1,5 @@
 -- What the words `solve` and `cover` answer.
-use Rattle.std.specs.Prelude.{◌≡◌, ◌≤◌, ◌⊎◌, ℕ, List, ◌++◌, codes, flat_map, Option, Some, None, Result, Ok, Err}
+use Rattle.std.specs.Prelude.{◌≡◌, ◌≤◌, ◌<◌, ◌⊎◌, ℕ, List, ◌++◌, codes, flat_map, length, Option, Some, None, Result, Ok, Err}
 use Rattle.std.specs.Fmt.{decimal}
 use Rattle.re_cert_text.specs.CertificateLines.{image_text}
 use Rattle.re_cover.specs.Graphs.{IsSolution, PortGraph}
@@ -8,6 +8,7 @@ use Rattle.re_frame.specs.TextFaults.{fault_outcome}
 use Rattle.re_frame.specs.declared.status.Status.TheVariants.{Done, No}
 use Rattle.re_graph.specs.GraphTexts.{graph_text}
 use Rattle.re_graph.specs.Solving.{IsCover, labels_of, solution_walk}
+use Rattle.re_io.specs.declared.read.TheConstants.{MAX_BYTES}
 use Rattle.re_laws.specs.Algorithms.{Solvable}
 use Rattle.re_problem.specs.CanonicalTexts.{canonical}
 use Rattle.re_problem.specs.NamedProblems.{NamedProblem, unnamed}
@@ -27,13 +28,17 @@ use Rattle.re_graph_words.specs.declared.words.GraphWord.TheVariants.{Cover, Sol
 abbrev pub node_lines : List (List ℕ) → List (List ℕ) → List ℕ
 node_lines names nodes = flat_map (λ labels. image_text names labels ++ codes "\n") nodes
 
+-- a solution on the graph, as it is printed
+abbrev pub solution_text : NamedProblem → List (List ℕ) → List ℕ
+solution_text problem nodes = codes "yes:\n" ++ node_lines problem.names nodes
+
 -- the line where there is no solution
 abbrev pub none_line : List ℕ
 none_line = codes "no: no solution on this graph, so not solvable in any number of rounds\n"
 
 -- the first solution, or that there is none, or that the tries don't suffice
 abbrev pub walked : NamedProblem → PortGraph → Walk → Outcome
-walked problem graph (found labels) = done (codes "yes:\n" ++ node_lines problem.names (labels_of problem.active.degree graph.nodes labels))
+walked problem graph (found labels) = done (solution_text problem (labels_of problem.active.degree graph.nodes labels))
 walked problem graph nowhere = refused none_line
 walked problem graph cut = limit (codes "limit: more than 1000000 tries\n")
 
@@ -48,9 +53,16 @@ read_outcome (Err fault) = graph_fault_outcome fault
 unfoldable pub solve_outcome : List ℕ → Outcome
 solve_outcome bytes = read_outcome (graph_input bytes)
 
--- what an answer means: Done is given to a problem with a solution on the graph; No to one without, which no number of rounds solves
+-- the labels that are printed are a solution on the graph
+pub record PrintsSolution (problem : NamedProblem) (graph : PortGraph) (text : List ℕ) : Type 0 where
+  pub labels : List (List ℕ)
+  pub solution : IsSolution (unnamed problem) graph labels
+  pub printed : text ≡ solution_text problem labels
+
+-- what an answer means: Done is given to a problem with a solution on the graph, and with one; No to a problem without, which no number of rounds
+-- solves
 pub record AnswerMeans (problem : NamedProblem) (graph : PortGraph) (outcome : Outcome) : Type 0 where
-  pub yes : outcome.status ≡ Done → (labels : List (List ℕ)) × IsSolution (unnamed problem) graph labels
+  pub yes : outcome.status ≡ Done → PrintsSolution problem graph outcome.text
   pub none : outcome.status ≡ No → (labels : List (List ℕ)) → IsSolution (unnamed problem) graph labels → ⊥
   pub never : outcome.status ≡ No → (T : ℕ) → Solvable (unnamed problem) T → ⊥
 
@@ -84,9 +96,16 @@ not_found_line graphs = codes "not found: graphs " ++ decimal graphs ++ codes "\
 abbrev pub IsNotFound : Outcome → Type 0
 IsNotFound outcome = (graphs : ℕ) × (outcome ≡ refused (not_found_line graphs))
 
+-- the text of some graph of at most so many active nodes without a solution is longer than what is written
+pub record HasLongCover (problem : NamedProblem) (most : ℕ) : Type 0 where
+  pub graph : PortGraph
+  pub cover : IsCover (unnamed problem) graph
+  pub few : graph.nodes ≤ most
+  pub long : MAX_BYTES < length (cover_text problem graph)
+
 -- what may be given to a problem
 abbrev pub MayCover : NamedProblem → ℕ → Outcome → Type 0
-MayCover problem most outcome = IsCovered problem most outcome ⊎ (IsNotFound outcome ⊎ (outcome ≡ too_long))
+MayCover problem most outcome = IsCovered problem most outcome ⊎ (IsNotFound outcome ⊎ ((outcome ≡ too_long) × HasLongCover problem most))
 
 -- the line of the first fault of the text, and else what may be given to its problem
 abbrev pub MayCoverRead : Option InputFault → NamedProblem → ℕ → Outcome → Type 0

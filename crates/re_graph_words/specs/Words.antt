@@ -20,7 +20,7 @@ graph_word_of words = None
 -- the number of `cover` is one that it can have
 abbrev pub IsGraphWord : GraphWord → Type 0
 IsGraphWord Solve = Unit {0}
-IsGraphWord (Cover nodes) = (1 ≤ nodes) × (nodes ≤ 8)
+IsGraphWord (Cover nodes) = (1 ≤ nodes) × (nodes ≤ 64)
 
 -- the lines of help
 unfoldable pub graph_help : List ℕ

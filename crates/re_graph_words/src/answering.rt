@@ -17,7 +17,7 @@ use std::alloc::Global;
 
 // What `cover` gives to a text.
 fn cover_text_output(alloc: Global, most: u8, text: &[u8]) -> Result<Output, NoMemory>
-    requires most { most ≤ 8 }
+    requires most { most ≤ 64 }
     requires few { length text.now ≤ MAX_BYTES }
     ensures { IfOk result (λ output. MayCoverRead (first_fault 0 1 (lines_of text.now)) (problem_of (lines_of text.now)) most (outcome_of output)) }
 {

@@ -4,15 +4,19 @@ ghost use Rattle.re_graph.specs.Solving.{IsCover};
 ghost use Rattle.re_graph_words.specs.GraphWords.{MayCover, cover_text, not_found_line};
 ghost use Rattle.re_laws.specs.Algorithms.{Solvable};
 ghost use Rattle.re_problem.specs.NamedProblems.{unnamed};
-ghost use Rattle.std.specs.Prelude.{◌≡◌, ◌≤◌, ℕ, IfOk};
+ghost use Rattle.std.specs.Prelude.{◌≡◌, ◌≤◌, ℕ, IfOk, IfSome};
 
 use crate::solving::solve_output;
 use re_frame::{Answer, Output, begun, done, push_number, push_words, refused, too_long};
-use re_graph::{Graph, find_cover, push_graph};
+use re_gadgets::{MAX_STEPS, find_gadgets};
+use re_graph::{Found, Graph, find_cover, push_graph};
 use re_io::MAX_BYTES;
 use re_labels::NoMemory;
 use re_problem::{Problem, push_problem};
 use std::alloc::Global;
+
+/// The most active nodes of a graph that is found by listing graphs.
+const MAX_LISTED: u8 = 8;
 
 // The output where no graph was found.
 fn not_found(alloc: Global, graphs: u32) -> Result<Output, NoMemory>
@@ -59,12 +63,30 @@ fn found_output(
     }
 }
 
+// The first graph of at most so many active nodes: of those with at most 8 that are listed, and then of those that gadgets make.
+fn found_graph(alloc: Global, problem: &Problem, most: u8) -> Result<Found, NoMemory>
+    requires { most ≤ 64 }
+    ensures found { IfOk result (λ found. IfSome found.graph (IsCover (unnamed problem.now))) }
+    ensures few { IfOk result (λ found. IfSome found.graph (λ graph. graph.nodes ≤ most)) }
+    ensures means { IfOk result (λ found. IfSome found.graph (λ _. (T : ℕ) → Solvable (unnamed problem.now) T → ⊥)) }
+{
+    let listed = find_cover(alloc, problem, most.min(MAX_LISTED))?;
+    if listed.graph.is_some() {
+        return Ok(listed);
+    }
+    let Found { graph, graphs } = find_gadgets(alloc, problem, most, MAX_STEPS)?;
+    Ok(Found {
+        graph,
+        graphs: graphs.saturating_add(listed.graphs),
+    })
+}
+
 /// What `cover` gives to a problem.
 pub(crate) fn cover_output(alloc: Global, problem: &Problem, most: u8) -> Result<Output, NoMemory>
-    requires { most ≤ 8 }
+    requires { most ≤ 64 }
     ensures { IfOk result (λ output. MayCover problem.now most (outcome_of output)) }
 {
-    let found = find_cover(alloc, problem, most)?;
+    let found = found_graph(alloc, problem, most)?;
     match &found.graph {
         Some(graph) => found_output(alloc, problem, graph, most, found.graphs),
         None => not_found(alloc, found.graphs),

@@ -5,7 +5,7 @@ ghost use Rattle.std.specs.Prelude.{◌≡◌, IfSome, map, string_bytes};
 use re_items::read_number;
 
 /// The most active nodes of a graph that `cover` looks for.
-pub(crate) const MAX_COVER: u32 = 8;
+pub(crate) const MAX_COVER: u32 = 64;
 
 /// A word that tells of a problem on finite graphs.
 #[derive(Clone, Copy, Debug, PartialEq, Eq)]
@@ -28,7 +28,7 @@ fn cover_with(nodes: Option<u32>) -> Option<GraphWord>
     }
 }
 
-/// The word that the words name, with its number, which is from 1 to 8. None exactly where they name none.
+/// The word that the words name, with its number, which is from 1 to 64. None exactly where they name none.
 #[tactic(auto, unfolding(crate::specs::Words::graph_word_of))]
 pub fn graph_word(words: &[String]) -> Option<GraphWord>
     ensures word { result ≡ graph_word_of (map string_bytes words.now) }

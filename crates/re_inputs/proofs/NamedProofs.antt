@@ -1,13 +1,15 @@
 -- The input problems are problems, and input problems of each problem of their degrees.
-use Rattle.std.proofs.Common.{◌≡◌, ℕ, ◌<◌, ◌≤◌, Bool, true, false, cond, List, length, refl, ap, sym, ◌∙◌, subst, inl, inr, arith, Some, None, Option, eqb}
-use Rattle.std.specs.Prelude.{◌&&◌, not, ◌⊎◌, nat_le}
+use Rattle.std.proofs.Common.{◌≡◌, ℕ, ◌≤◌, Bool, true, false, cond, List, [], ◌∷◌, filter, length, refl, ap, sym, ◌∙◌, subst, inl, inr, arith, Some, None, eqb}
+use Rattle.std.specs.Prelude.{◌&&◌, not, nat_le, replicate}
 use Rattle.std.proofs.lemmas.Bool.{le-leb, leb-true}
 use Rattle.re_families.specs.Families.{are_equal, colour_name, family_of, is_degree, number_fits, out_of_range, passive_fits}
 use Rattle.re_families.specs.declared.types.Family.{Family}
 use Rattle.re_families.specs.declared.types.Family.TheVariants as family
 use Rattle.re_given.proofs.Colourings.{IsInput-colouring, filtered_constraint}
 use Rattle.re_given.proofs.NamedInputs.{IsInput-edges, IsInput-oriented, IsInput-oriented_both, IsInput-sides, IsInput-tested, are_there}
-use Rattle.re_given.specs.Inputs.{IsInput, exchanged}
+use Rattle.re_config.specs.Orders.{multisets}
+use Rattle.re_given.specs.InputExamples as examples
+use Rattle.re_given.specs.Inputs.{IsInput, exchanged, nothing}
 use Rattle.re_given.specs.Unavoidable.{colouring}
 use Rattle.re_labels.proofs.Membership.{length-count_from, length-map'}
 use Rattle.re_labels.proofs.Places.{each_degree}
@@ -15,10 +17,10 @@ use Rattle.re_labels.proofs.Tests.{and-true, eqb-true, true-and}
 use Rattle.re_labels.specs.Lists.{count_from}
 use Rattle.re_labels.specs.Names.{IsNames}
 use Rattle.re_problem.proofs.Building.{all_occur-facts, constraint_named}
-use Rattle.re_problem.specs.NamedProblems.{IsNamedProblem, NamedProblem, OccursIn, built, unnamed}
+use Rattle.re_problem.specs.NamedProblems.{IsNamedProblem, NamedProblem, built, unnamed}
 use Rattle.re_problem.specs.Problems.{IsProblem, Problem}
 use Rattle.re_table.specs.Constraints.{Constraint}
-use Rattle.re_inputs.specs.NamedInputs.{ColouringFamilyLaw, InputsLaw, fits, input_of, named, oriented, turned}
+use Rattle.re_inputs.specs.NamedInputs.{ColouringFamilyLaw, InputsLaw, NamedInputsLaw, fits, input_of, named, oriented, turned}
 use Rattle.re_inputs.specs.declared.kinds.InputKind.{InputKind}
 use Rattle.re_inputs.specs.declared.kinds.InputKind.TheVariants.{Both, Colouring, Edges, Nothing, Orientation, Sides}
 
@@ -135,6 +137,36 @@ inputs Edges problem n is e =
 inputs Orientation problem n is e = input_oriented false problem is
 inputs Both problem n is e = input_oriented true problem is
 inputs Nothing problem n is e = input_nothing n problem is
+
+-- ---- each is the input problem of the laws
+turned_colouring : (a p : ℕ) → unnamed (turned (family_of family.Colouring p a a)) ≡ examples.coloured_edges a p
+turned_colouring a p = ap exchanged (colouring_family p a a)
+
+oriented_is : (mixed : Bool) (a p : ℕ) → unnamed (oriented mixed a p) ≡ cond mixed (examples.oriented_both a p) (examples.oriented a p)
+unfolding family_of
+oriented_is false a p = refl
+oriented_is true a p = refl
+
+-- the one configuration of one label
+only_config : (d : ℕ) → 2 ≤ d → d ≤ 6 → filter are_equal (multisets d 0 1) ≡ replicate d 0 ∷ []
+only_config = each_degree (λ d. filter are_equal (multisets d 0 1) ≡ replicate d 0 ∷ []) refl refl refl refl refl
+
+nothing_is : (number : ℕ) (problem : Problem) → IsProblem problem → unnamed (input_of Nothing problem.active.degree problem.passive.degree number) ≡ nothing problem
+unfolding family_of
+nothing_is number problem is =
+    λ i. record {
+      labels = 1;
+      active = record { degree = problem.active.degree; configs = only_config problem.active.degree is.active.least is.active.most i };
+      passive = record { degree = problem.passive.degree; configs = only_config problem.passive.degree is.passive.least is.passive.most i };
+    }
+
+pub named_inputs : NamedInputsLaw
+named_inputs Colouring problem n is e = colouring_family problem.active.degree problem.passive.degree n
+named_inputs Sides problem n is e = colouring_family problem.active.degree 2 2
+named_inputs Edges problem n is e = turned_colouring problem.active.degree problem.passive.degree
+named_inputs Orientation problem n is e = oriented_is false problem.active.degree problem.passive.degree
+named_inputs Both problem n is e = oriented_is true problem.active.degree problem.passive.degree
+named_inputs Nothing problem n is e = nothing_is n problem is
 
 -- ---- what is made is a problem
 -- some problem of these degrees

@@ -4,7 +4,9 @@ use Rattle.re_config.specs.Configs.{support_of}
 use Rattle.re_config.specs.Orders.{multisets}
 use Rattle.re_families.specs.Families.{family_of, is_degree}
 use Rattle.re_families.specs.declared.types.Family.TheVariants as family
+use Rattle.re_given.specs.InputExamples as examples
 use Rattle.re_given.specs.Inputs.{IsInput}
+use Rattle.re_given.specs.Inputs as inputs
 use Rattle.re_given.specs.Unavoidable.{colouring}
 use Rattle.re_problem.specs.NamedProblems.{NamedProblem, unnamed}
 use Rattle.re_problem.specs.Problems.{IsProblem, Problem}
@@ -58,6 +60,20 @@ input_of Nothing active passive number = record {
 abbrev pub InputsLaw : Type 0
 InputsLaw = (kind : InputKind) (problem : Problem) (number : ℕ) → IsProblem problem → fits kind problem.active.degree problem.passive.degree number ≡ true →
     IsInput problem (unnamed (input_of kind problem.active.degree problem.passive.degree number))
+
+-- the input problem of this kind that the laws speak of, of a problem's degrees
+abbrev pub law_input : InputKind → Problem → ℕ → Problem
+law_input Colouring problem number = colouring problem.active.degree problem.passive.degree number
+law_input Edges problem number = examples.coloured_edges problem.active.degree problem.passive.degree
+law_input Sides problem number = examples.sides problem.active.degree
+law_input Orientation problem number = examples.oriented problem.active.degree problem.passive.degree
+law_input Both problem number = examples.oriented_both problem.active.degree problem.passive.degree
+law_input Nothing problem number = inputs.nothing problem
+
+-- each is that one, with names
+abbrev pub NamedInputsLaw : Type 0
+NamedInputsLaw = (kind : InputKind) (problem : Problem) (number : ℕ) → IsProblem problem → fits kind problem.active.degree problem.passive.degree number ≡ true →
+    unnamed (input_of kind problem.active.degree problem.passive.degree number) ≡ law_input kind problem number
 
 -- the colouring of the family is the proper colouring of the laws
 abbrev pub ColouringFamilyLaw : Type 0

@@ -7,7 +7,7 @@ mod making;
 mod pairing;
 mod products;
 
-ghost use Rattle.re_inputs.specs.NamedInputs.{InputsLaw, ColouringFamilyLaw};
+ghost use Rattle.re_inputs.specs.NamedInputs.{ColouringFamilyLaw, InputsLaw, NamedInputsLaw};
 ghost use Rattle.re_inputs.specs.NamedProducts.{NamedProductLaw};
 
 pub use input_words::{InputWord, input_help, input_output, input_word};
@@ -18,6 +18,11 @@ pub use products::{ProductFault, pair_name, product};
 /// Each of them is an input problem of each problem of its degrees.
 pub fn inputs_law()
     ensures { InputsLaw }
+{}
+
+/// Each of them, without its names, is the input problem of its kind that the laws of `re_given` speak of.
+pub fn named_inputs_law()
+    ensures { NamedInputsLaw }
 {}
 
 /// The colouring of the family is the proper colouring that the laws of `re_given` speak of.

@@ -1,4 +1,4 @@
-use Rattle.std.proofs.Common.{◌≡◌, ◌∙◌, ◌<◌, ap, sym, subst, arith, [], filter, length}
+use Rattle.std.proofs.Common.{◌≡◌, ◌∙◌, ◌<◌, ap, sym, subst, arith, [], length}
 use Rattle.std.specs.List.{AllByRecursion}
 use Rattle.re_config.specs.Orders.{multisets}
 use Rattle.re_inputs.specs.NamedInputs.{may_stand}

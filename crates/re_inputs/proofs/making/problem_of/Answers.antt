@@ -1,4 +1,3 @@
-use Rattle.std.proofs.Common.{◌∙◌, sym}
 use Rattle.re_inputs.proofs.NamedProofs.{named_built}
 use Rattle.re_inputs.proofs.making.problem_of.Goals as goal
 

@@ -37,14 +37,33 @@ graph_claim (Refused step clause) = codes "The passive nodes are the edges of a 
 abbrev pub graph_part : Verdict → ℕ → List ℕ
 graph_part verdict passive = if passive == 2 then codes "\n" ++ graph_claim verdict else codes ""
 
+-- what a verdict says of algorithms whose nodes have unique identifiers, and of such that are randomised, with the names of the statements that say it exactly
+abbrev pub identifiers_claim : Verdict → List ℕ
+identifiers_claim (Accepted Lower steps) =
+    codes "\nWith unique identifiers below N, no deterministic algorithm solves problem 0 in " ++ (decimal steps
+    ++ (codes " or fewer rounds, from some N on (`re_given_bounds::unique_identifiers_law`); and for each N none does in log_C N - 1 or fewer rounds that are fewer than "
+    ++ (decimal steps
+    ++ (codes ", where C is a number that depends on the degrees and the greatest number of labels alone (`re_given_bounds::logarithmic_bound_law`). Each randomised algorithm of T rounds, where T is less than "
+    ++ (decimal steps
+    ++ codes ", fails at some node with a probability of at least 1/q, for some port numbering and some identifiers, where N is at least C^(T + 1) and q at least 2^(D^(T + 1)), and D is such a number as well (`re_given_bounds::named_bound_law`).\n")))))
+identifiers_claim (Accepted Upper steps) =
+    codes "\nWith unique identifiers an algorithm solves problem 0 in " ++ decimal steps ++ codes " rounds too, however many there are (`re_ordered::any_identifiers_law`).\n"
+identifiers_claim (Accepted Fixed steps) =
+    codes "\nWith unique identifiers below N, no deterministic algorithm solves problem 0 in log_C N - 1 or fewer rounds, where C is a number that depends on the degrees and the greatest number of labels alone (`re_given_bounds::logarithmic_bound_law`). Each randomised algorithm of T rounds fails at some node with a probability of at least 1/q, for some port numbering and some identifiers, where N is at least C^(T + 1) and q at least 2^(D^(T + 1)), and D is such a number as well (`re_given_bounds::named_bound_law`).\n"
+identifiers_claim (Refused step clause) = codes ""
+
 -- the title, the line of a verdict, and what it says of a first problem with these degrees
-abbrev pub head_of : Verdict → ℕ → ℕ → List ℕ
-head_of verdict active passive =
+abbrev pub front_of : Verdict → ℕ → ℕ → List ℕ
+front_of verdict active passive =
     codes "# Report on a certificate\n\n    " ++ verdict_line verdict ++ codes "\n" ++ claim verdict ++ codes "\n" ++ model active passive ++ graph_part verdict passive
 
 -- that of the verdict of `check` on the certificate
+abbrev pub front : Bound → List ℕ
+front bound = front_of (verdict_of bound) bound.first.active.degree bound.first.passive.degree
+
+-- and what it says of unique identifiers
 abbrev pub head : Bound → List ℕ
-head bound = head_of (verdict_of bound) bound.first.active.degree bound.first.passive.degree
+head bound = front bound ++ identifiers_claim (verdict_of bound)
 
 -- ---- problems
 -- the degree of a side and how many configurations it has, behind some words

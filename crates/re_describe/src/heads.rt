@@ -1,6 +1,6 @@
 //! The head of a report: its title, the line of `check`, and what it says in words.
 ghost use Rattle.re_check.specs.Verdicts.{verdict_of};
-ghost use Rattle.re_describe.specs.Heads.{claim, graph_claim, graph_part, head, model};
+ghost use Rattle.re_describe.specs.Heads.{claim, front, graph_claim, graph_part, head, identifiers_claim, model};
 ghost use Rattle.std.specs.Fmt.{decimal};
 ghost use Rattle.std.specs.Prelude.{◌≡◌, ◌++◌, IfOk, OnOk};
 
@@ -123,14 +123,14 @@ fn push_graph_part(text: &mut Vec<u8>, verdict: Verdict, passive: u8) -> Result<
     push_graph_claim(text, verdict)
 }
 
-/// The head of the report on a certificate, on which this is the verdict of `check`.
-pub(crate) fn head(
+// The title, the line of the verdict of `check` on the certificate, and what it says with port numbers.
+fn front(
     alloc: Global,
     certificate: &Certificate,
     verdict: Verdict,
 ) -> Result<Vec<u8>, NoMemory>
     requires { verdict ≡ verdict_of certificate.now }
-    ensures { IfOk result (λ text. text.items ≡ head certificate.now) }
+    ensures { IfOk result (λ text. text.items ≡ front certificate.now) }
 {
     let degrees = certificate.first().degrees();
     let line = verdict_output(alloc, verdict)?.text;
@@ -141,5 +141,82 @@ pub(crate) fn head(
     push_words(&mut text, "\n")?;
     push_model(&mut text, degrees.active, degrees.passive)?;
     push_graph_part(&mut text, verdict, degrees.passive)?;
+    Ok(text)
+}
+
+// Words and a number.
+fn push_number_behind(text: &mut Vec<u8>, words: &str, number: u8) -> Result<(), NoMemory>
+    ensures { OnOk result (text.new.items ≡ text.old.items ++ (words.now ++ decimal number)) }
+{
+    let alloc = *text.allocator();
+    push_words(text, words)?;
+    push_number(alloc, text, number as usize)
+}
+
+// What a lower bound of so many steps says of algorithms with unique identifiers.
+fn push_lower_identifiers(text: &mut Vec<u8>, steps: u8) -> Result<(), NoMemory>
+    ensures { OnOk result (text.new.items ≡ text.old.items ++ identifiers_claim (Verdict.Accepted Kind.Lower steps)) }
+{
+    push_number_behind(
+        text,
+        "\nWith unique identifiers below N, no deterministic algorithm solves problem 0 in ",
+        steps,
+    )?;
+    push_number_behind(
+        text,
+        " or fewer rounds, from some N on (`re_given_bounds::unique_identifiers_law`); and for each N none does in log_C N - 1 or fewer rounds that are fewer than ",
+        steps,
+    )?;
+    push_number_behind(
+        text,
+        ", where C is a number that depends on the degrees and the greatest number of labels alone (`re_given_bounds::logarithmic_bound_law`). Each randomised algorithm of T rounds, where T is less than ",
+        steps,
+    )?;
+    push_words(
+        text,
+        ", fails at some node with a probability of at least 1/q, for some port numbering and some identifiers, where N is at least C^(T + 1) and q at least 2^(D^(T + 1)), and D is such a number as well (`re_given_bounds::named_bound_law`).\n",
+    )
+}
+
+// What an accepted certificate says of them.
+fn push_identifiers_accepted(text: &mut Vec<u8>, kind: Kind, steps: u8) -> Result<(), NoMemory>
+    ensures { OnOk result (text.new.items ≡ text.old.items ++ identifiers_claim (Verdict.Accepted kind steps)) }
+{
+    match kind {
+        Kind::Lower => push_lower_identifiers(text, steps),
+        Kind::Upper => push_between(
+            text,
+            "\nWith unique identifiers an algorithm solves problem 0 in ",
+            steps as usize,
+            " rounds too, however many there are (`re_ordered::any_identifiers_law`).\n",
+        ),
+        Kind::Fixed => push_words(
+            text,
+            "\nWith unique identifiers below N, no deterministic algorithm solves problem 0 in log_C N - 1 or fewer rounds, where C is a number that depends on the degrees and the greatest number of labels alone (`re_given_bounds::logarithmic_bound_law`). Each randomised algorithm of T rounds fails at some node with a probability of at least 1/q, for some port numbering and some identifiers, where N is at least C^(T + 1) and q at least 2^(D^(T + 1)), and D is such a number as well (`re_given_bounds::named_bound_law`).\n",
+        ),
+    }
+}
+
+// What the verdict says of them, if anything.
+fn push_identifiers(text: &mut Vec<u8>, verdict: Verdict) -> Result<(), NoMemory>
+    ensures { OnOk result (text.new.items ≡ text.old.items ++ identifiers_claim verdict) }
+{
+    match verdict {
+        Verdict::Accepted { kind, steps } => push_identifiers_accepted(text, kind, steps),
+        Verdict::Refused { .. } => push_words(text, ""),
+    }
+}
+
+/// The head of the report on a certificate, on which this is the verdict of `check`.
+pub(crate) fn head(
+    alloc: Global,
+    certificate: &Certificate,
+    verdict: Verdict,
+) -> Result<Vec<u8>, NoMemory>
+    requires { verdict ≡ verdict_of certificate.now }
+    ensures { IfOk result (λ text. text.items ≡ head certificate.now) }
+{
+    let mut text = front(alloc, certificate, verdict)?;
+    push_identifiers(&mut text, verdict)?;
     Ok(text)
 }

@@ -1,5 +1,5 @@
 mod Answered
-mod CountingMeans
+pub mod CountingMeans
 mod EndNumbers
 mod GivenCuts
 mod GivenMeans

@@ -51,9 +51,12 @@ abbrev pub kept_steps : NamedProblem → Bound → ℕ → Option ℕ
 kept_steps input bound zero = None
 kept_steps input bound (suc number) = if is_nowhere (walk_at input bound number) then Some number else kept_steps input bound number
 
--- the line of the bound with so many steps
+-- the line of so many steps of a lower bound that hold where the whole doesn't
+abbrev pub held_line : ℕ → List ℕ
+held_line steps = codes "holds: given that input, not solvable in " ++ decimal steps ++ codes " or fewer rounds\n"
+
 abbrev pub kept_line : Option ℕ → List ℕ
-kept_line (Some steps) = accepted_line Lower steps
+kept_line (Some steps) = held_line steps
 kept_line None = []
 
 -- a lower bound holds where the last problem has no sets; else they are shown, and the bound with the most steps that holds

@@ -1,15 +1,16 @@
 //! What `rounds` counts.
 ghost use Rattle.re_frame.specs.Outcomes.{outcome_of};
 ghost use Rattle.re_given_words.specs.Counting.{IsBeside, IsCounted, IsLow, Tells, counted_outcome};
+ghost use Rattle.re_labels.specs.declared.TheConstants.{MAX_LABELS};
 ghost use Rattle.re_problem.specs.Derived.{derived_by};
 ghost use Rattle.re_problem.specs.NamedProblems.{unnamed};
 ghost use Rattle.re_step.specs.Derivations.{named_derived, step_limit};
 ghost use Rattle.std.specs.Fmt.{decimal};
-ghost use Rattle.std.specs.Prelude.{◌≡◌, ◌≤◌, ◌<◌, ◌++◌, IfOk, None, Some, option_map};
+ghost use Rattle.std.specs.Prelude.{◌≡◌, ◌≤◌, ◌<◌, ◌++◌, IfOk, IfSome, None, Some, option_map};
 
 use crate::fitting::{FitAnswer, fit_answer, tries_output};
 use re_frame::{Answer, Output, begun, done, limit_output, push_number, push_words};
-use re_labels::NoMemory;
+use re_labels::{MAX_LABELS, NoMemory};
 use re_problem::Problem;
 use re_step::{StepFault, StepLimit, step};
 use re_zero::zero_round;
@@ -17,7 +18,7 @@ use std::alloc::Global;
 
 /// A problem, and the input problem of which a solution is given, if any.
 #[derive(Drop)]
-pub(crate) struct RoundsTexts {
+pub struct RoundsTexts {
     pub problem: Problem,
     pub input: Option<Problem>,
 }
@@ -35,7 +36,7 @@ pub(crate) enum Told {
 
 /// How many rounds a problem takes.
 #[derive(Clone, Copy, Debug, PartialEq, Eq)]
-pub(crate) enum Counted {
+pub enum Counted {
     /// Exactly so many.
     Exactly(u8),
     /// More than so many.
@@ -101,30 +102,52 @@ fn derive(alloc: Global, current: &mut Problem) -> Result<Option<StepLimit>, NoM
 
 /// How many rounds the problem takes, alone or given the input problem, where it takes no more than `most`. The problem, its derived
 /// problem, the derived problem of that one and so on are taken in turn: the first that is solvable without communication, given the
-/// input problem exchanged as often, tells the number. The cost is that of `re_step::step` and of the walk of `re_fit` for each; one
-/// problem is held at a time.
+/// input problem exchanged as often, tells the number. Where one that isn't has more than so many labels, none is derived from it, and the
+/// answer is `None`. The cost is that of `re_step::step` and of the walk of `re_fit` for each; one problem is held at a time.
+pub fn count_within(
+    alloc: Global,
+    texts: &RoundsTexts,
+    most: u8,
+    labels: u8,
+) -> Result<Option<Counted>, NoMemory>
+    requires beside { IsBeside (unnamed texts.now.problem) (option_map unnamed texts.now.input) }
+    requires most { most ≤ 64 }
+    ensures counted { IfOk result (λ found. IfSome found (IsCounted (unnamed texts.now.problem) (option_map unnamed texts.now.input) most)) }
+    ensures low { IfOk result (λ found. IfSome found IsLow) }
+    ensures none { IfOk result (λ found. found ≡ None → labels < MAX_LABELS) }
+{
+    let mut current = texts.problem.copy()?;
+    for rounds in 0..most {
+        match tell(alloc, texts, &current, rounds)? {
+            Told::Enough => return Ok(Some(Counted::Exactly(rounds))),
+            Told::Untold => return Ok(Some(Counted::Tried(rounds))),
+            Told::Few => {}
+        }
+        if current.names().len() > labels as usize {
+            return Ok(None);
+        }
+        match derive(alloc, &mut current)? {
+            Some(limit) => return Ok(Some(Counted::Passed(rounds, limit))),
+            None => {}
+        }
+    }
+    match tell(alloc, texts, &current, most)? {
+        Told::Enough => Ok(Some(Counted::Exactly(most))),
+        Told::Untold => Ok(Some(Counted::Tried(most))),
+        Told::Few => Ok(Some(Counted::MoreThan(most))),
+    }
+}
+
+/// The same, however many labels the problems have.
 pub(crate) fn count(alloc: Global, texts: &RoundsTexts, most: u8) -> Result<Counted, NoMemory>
     requires beside { IsBeside (unnamed texts.now.problem) (option_map unnamed texts.now.input) }
     requires most { most ≤ 64 }
     ensures counted { IfOk result (IsCounted (unnamed texts.now.problem) (option_map unnamed texts.now.input) most) }
     ensures low { IfOk result IsLow }
 {
-    let mut current = texts.problem.copy()?;
-    for rounds in 0..most {
-        match tell(alloc, texts, &current, rounds)? {
-            Told::Enough => return Ok(Counted::Exactly(rounds)),
-            Told::Untold => return Ok(Counted::Tried(rounds)),
-            Told::Few => {}
-        }
-        match derive(alloc, &mut current)? {
-            Some(limit) => return Ok(Counted::Passed(rounds, limit)),
-            None => {}
-        }
-    }
-    match tell(alloc, texts, &current, most)? {
-        Told::Enough => Ok(Counted::Exactly(most)),
-        Told::Untold => Ok(Counted::Tried(most)),
-        Told::Few => Ok(Counted::MoreThan(most)),
+    match count_within(alloc, texts, most, MAX_LABELS)? {
+        Some(counted) => Ok(counted),
+        None => unreachable!(),
     }
 }
 

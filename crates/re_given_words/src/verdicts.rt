@@ -5,7 +5,7 @@ ghost use Rattle.re_check.specs.Verdicts.{meets_back};
 ghost use Rattle.re_frame.specs.Outcomes.{outcome_of};
 ghost use Rattle.re_given.specs.Given.{ZeroGiven};
 ghost use Rattle.re_given.specs.Inputs.{IsInput};
-ghost use Rattle.re_given_words.specs.Verdicts.{accepted, accepted_line, end_line, end_number, end_outcome, fixed_at, is_nowhere, kept_line, kept_steps, lower_with, or_back, upper_with};
+ghost use Rattle.re_given_words.specs.Verdicts.{accepted, accepted_line, end_line, end_number, end_outcome, fixed_at, held_line, is_nowhere, kept_line, kept_steps, lower_with, or_back, upper_with};
 ghost use Rattle.re_given_words.specs.Walks.{AreFirst, fit_text, input_at, walk_at};
 ghost use Rattle.re_problem.specs.NamedProblems.{unnamed};
 ghost use Rattle.std.specs.Prelude.{◌≡◌, ◌≤◌, ◌<◌, ◌++◌, IfOk, None, length};
@@ -124,13 +124,23 @@ fn kept_steps(
     kept_steps(alloc, bound, input, number - 1)
 }
 
+// The line of so many steps of a lower bound that hold where the whole doesn't.
+fn held_line(alloc: Global, steps: usize) -> Result<Vec<u8>, NoMemory>
+    ensures { IfOk result (λ text. text.items ≡ held_line steps) }
+{
+    let mut text = begun(alloc, "holds: given that input, not solvable in ")?;
+    push_number(alloc, &mut text, steps)?;
+    push_words(&mut text, " or fewer rounds\n")?;
+    Ok(text)
+}
+
 // Appends the line of the bound with so many steps.
 fn push_kept(alloc: Global, text: &mut Vec<u8>, kept: Option<u8>) -> Result<(), NoMemory>
     ensures { IfOk result (λ _. text.new.items ≡ text.old.items ++ kept_line kept) }
 {
     match kept {
         Some(steps) => {
-            let line = accepted_line(alloc, Kind::Lower, steps as usize)?;
+            let line = held_line(alloc, steps as usize)?;
             Ok(text.extend_from_slice(line.as_slice())?)
         }
         None => Ok(()),

@@ -1,4 +1,6 @@
+mod Fixed
 mod Graphs
 mod Known
+mod Local
 mod Saying
 mod Together

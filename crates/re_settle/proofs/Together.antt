@@ -8,6 +8,7 @@ use Rattle.re_problem.proofs.ZeroPlaces.{some-place}
 use Rattle.re_problem.specs.NamedProblems.{NamedProblem, unnamed}
 use Rattle.re_problem.specs.Problems.{IsProblem, Problem}
 use Rattle.re_problem.specs.Zero.{zero_place}
+use Rattle.re_settle.proofs.Local.{claim_local, constant_class}
 use Rattle.re_settle.specs.Claims.{Holds, within}
 use Rattle.re_settle.specs.Ways.{IsKnown, IsSettled}
 use Rattle.re_settle.specs.declared.types.Claim.TheVariants.{AtMost, Between, Exactly, MoreThan}
@@ -17,9 +18,16 @@ use Rattle.re_settle.specs.declared.types.Shown.{Shown}
 -- a problem that is solvable without communication takes no round
 pub at_once_settled : (problem : NamedProblem) (place : ℕ) → IsProblem (unnamed problem) → zero_place (unnamed problem) ≡ Some place → IsSettled problem settled.AtOnce
 at_once_settled problem place is fit = record {
-  shown = (refl, (place, fit));
-  holds = ((Solvable-zero (unnamed problem) is).1 ((some-place (unnamed problem) (Some place) (sym fit)).0 refl), λ T few solvable. absurd (omega arith));
+  shown = record { tried = tt; shows = (refl, (place, fit)) };
+  holds = none_fewer (solves problem place is fit);
+  class = constant_class (unnamed problem) is (Exactly 0) 0 (solves problem place is fit) (none_fewer (solves problem place is fit));
 }
+  where
+    solves : (problem : NamedProblem) (place : ℕ) → IsProblem (unnamed problem) → zero_place (unnamed problem) ≡ Some place → Solvable (unnamed problem) 0
+    solves problem place is fit = (Solvable-zero (unnamed problem) is).1 ((some-place (unnamed problem) (Some place) (sym fit)).0 refl)
+
+    none_fewer : Solvable (unnamed problem) 0 → Holds (Exactly 0) (unnamed problem)
+    none_fewer solvable = (solvable, λ T few solvable. absurd (omega arith))
 
 -- more than the first number and at most the second
 within_holds : (problem : Problem) (more most : ℕ) → ((T : ℕ) → T ≤ more → Solvable problem T → ⊥) → Solvable problem most → Holds (within more most) problem
@@ -29,16 +37,17 @@ within_holds problem more most above solves = go (most == suc more) refl
     go true e = let next : most ≡ suc more = eqb-true most (suc more) e in (solves, λ T few solvable. above T (omega arith) solvable)
     go false e = (above, solves)
 
-pub within_settled : (problem : NamedProblem) (more most : Shown) → IsKnown problem (MoreThan more.rounds) more.way → IsKnown problem (AtMost most.rounds) most.way → IsSettled problem (settled.Within more (Some most))
-within_settled problem more most lower upper = record {
-  shown = (lower.shows, upper.shows);
-  holds = within_holds (unnamed problem) more.rounds most.rounds lower.holds upper.holds;
-}
+pub within_settled : (problem : NamedProblem) (more most : Shown) → IsProblem (unnamed problem) → IsKnown problem (MoreThan more.rounds) more.way → IsKnown problem (AtMost most.rounds) most.way
+    → IsSettled problem (settled.Within more (Some most))
+within_settled problem more most is lower upper =
+    let holds : Holds (within more.rounds most.rounds) (unnamed problem) = within_holds (unnamed problem) more.rounds most.rounds lower.holds upper.holds in
+    record { shown = (lower.shown, upper.shown); holds = holds; class = constant_class (unnamed problem) is (within more.rounds most.rounds) most.rounds upper.holds holds }
 
-more_settled : (problem : NamedProblem) (more : Shown) → IsKnown problem (MoreThan more.rounds) more.way → IsSettled problem (settled.Within more None)
-more_settled problem more lower = record { shown = lower.shows; holds = lower.holds }
+more_settled : (problem : NamedProblem) (more : Shown) → IsProblem (unnamed problem) → IsKnown problem (MoreThan more.rounds) more.way → IsSettled problem (settled.Within more None)
+more_settled problem more is lower =
+    record { shown = lower.shown; holds = lower.holds; class = claim_local (unnamed problem) is (MoreThan more.rounds) lower.holds }
 
-pub bounds_settled : (problem : NamedProblem) (more : Shown) (most : Option Shown) → IsKnown problem (MoreThan more.rounds) more.way
+pub bounds_settled : (problem : NamedProblem) (more : Shown) (most : Option Shown) → IsProblem (unnamed problem) → IsKnown problem (MoreThan more.rounds) more.way
     → IfSome most (λ (shown : Shown). IsKnown problem (AtMost shown.rounds) shown.way) → IsSettled problem (settled.Within more most)
-bounds_settled problem more None lower upper = more_settled problem more lower
-bounds_settled problem more (Some most) lower upper = within_settled problem more most lower upper
+bounds_settled problem more None is lower upper = more_settled problem more is lower
+bounds_settled problem more (Some most) is lower upper = within_settled problem more most is lower upper

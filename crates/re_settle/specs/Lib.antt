@@ -1,5 +1,7 @@
 pub mod Answers
 pub mod Claims
+pub mod Classes
+pub mod Coloured
 pub mod GraphRounds
 pub mod Lines
 pub mod Ways

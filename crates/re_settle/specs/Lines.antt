@@ -3,13 +3,19 @@ use Rattle.std.specs.Prelude.{ℕ, ◌==◌, List, [], ◌∷◌, ◌++◌, code
 use Rattle.std.specs.Fmt.{decimal}
 use Rattle.re_printing.specs.SetTexts.{named_text}
 use Rattle.re_settle.specs.Claims.{claim_of}
+use Rattle.re_settle.specs.Classes.{class_of}
 use Rattle.re_describe.specs.GraphRounds.{rounds_above, rounds_below}
 use Rattle.re_settle.specs.declared.types.Claim.{Claim}
 use Rattle.re_settle.specs.declared.types.Claim.TheVariants.{AtMost, Between, Exactly, MoreThan, Never}
+use Rattle.re_settle.specs.declared.types.Class.{Class}
+use Rattle.re_settle.specs.declared.types.Class.TheVariants as class
+use Rattle.re_settle.specs.declared.types.Coloured.{Coloured}
+use Rattle.re_settle.specs.declared.types.ColouredWay.{ColouredWay}
+use Rattle.re_settle.specs.declared.types.ColouredWay.TheVariants as coloured
 use Rattle.re_settle.specs.declared.types.Settled.{Settled}
 use Rattle.re_settle.specs.declared.types.Settled.TheVariants as settled
 use Rattle.re_settle.specs.declared.types.Way.{Way}
-use Rattle.re_settle.specs.declared.types.Way.TheVariants.{Closure, Cover, Cycle, Fixed, Longest, Lower, Merge, Shortest, Upper, Zero}
+use Rattle.re_settle.specs.declared.types.Way.TheVariants.{Closure, Cover, Cycle, Fixed, Longest, Lower, Merge, Raised, Shortest, Upper, Zero}
 
 -- ---- the first line
 -- the rounds of the graph, where the passive nodes have two neighbours
@@ -33,6 +39,7 @@ way_words (Lower steps merges) = codes "re lower"
 way_words (Upper steps drops) = codes "re upper"
 way_words (Fixed steps merges) = codes "re fixed"
 way_words (Closure steps) = codes "explore closure"
+way_words (Raised low high) = codes "explore closure"
 way_words (Merge from to) = codes "explore merge"
 way_words (Cover nodes) = codes "explore cover"
 way_words (Cycle steps merges nodes) = codes "explore cycle"
@@ -46,6 +53,7 @@ way_numbers (Lower steps merges) = steps ∷ merges ∷ []
 way_numbers (Upper steps drops) = steps ∷ drops ∷ []
 way_numbers (Fixed steps merges) = steps ∷ merges ∷ []
 way_numbers (Closure steps) = if steps == 0 then [] else steps ∷ []
+way_numbers (Raised low high) = []
 way_numbers (Merge from to) = []
 way_numbers (Cover nodes) = nodes ∷ []
 way_numbers (Cycle steps merges nodes) = steps ∷ merges ∷ nodes ∷ []
@@ -56,9 +64,10 @@ abbrev pub number_texts : List ℕ → List ℕ
 number_texts [] = []
 number_texts (number ∷ numbers) = (codes " " ++ decimal number) ++ number_texts numbers
 
--- the labels of a merge, by the names of the problem, and the words that read what it gives; nothing behind other words
+-- the labels of a merge, in quotes as a shell asks for, and the words that read what it gives; the edge of a diagram; nothing behind other words
 abbrev pub way_rest : List (List ℕ) → Way → List ℕ
-way_rest names (Merge from to) = codes " " ++ (named_text names from ++ (codes " " ++ (named_text names to ++ codes " | explore closure")))
+way_rest names (Merge from to) = codes " '" ++ (named_text names from ++ (codes "' '" ++ (named_text names to ++ codes "' | explore closure")))
+way_rest names (Raised low high) = codes " with diagram " ++ named_text names low ++ codes " " ++ named_text names high
 way_rest names Zero = codes ""
 way_rest names (Lower steps merges) = codes ""
 way_rest names (Upper steps drops) = codes ""
@@ -75,10 +84,45 @@ way_line names way = codes "by: " ++ (way_words way ++ (number_texts (way_number
 -- a line for each of the words that show what is known
 abbrev pub way_lines : List (List ℕ) → Settled → List ℕ
 way_lines names settled.AtOnce = way_line names Zero
-way_lines names (settled.Never way) = way_line names way
+way_lines names (settled.FixedPoint way) = way_line names way
+way_lines names (settled.NoSolution way coloured) = way_line names way
 way_lines names (settled.Within more None) = way_line names more.way
 way_lines names (settled.Within more (Some most)) = way_line names more.way ++ way_line names most.way
 
--- the whole answer on a problem with these names, whose passive nodes have this degree
+-- ---- the lines on unique identifiers
+-- a claim in rounds
+abbrev pub rounds_text : Claim → List ℕ
+rounds_text (Exactly k) = codes "exactly " ++ decimal k
+rounds_text Never = codes "never"
+rounds_text (MoreThan k) = codes "more than " ++ decimal k
+rounds_text (AtMost m) = codes "at most " ++ decimal m
+rounds_text (Between k m) = codes "more than " ++ (decimal k ++ (codes ", at most " ++ decimal m))
+
+abbrev pub class_text : Class → List ℕ
+class_text (class.Constant claim) = codes "constant, " ++ rounds_text claim
+class_text (class.MoreThan k) = rounds_text (MoreThan k)
+class_text class.OrderLogStar = codes "order log* N"
+class_text class.AtLeastLogStar = codes "at least order log* N"
+class_text class.AtLeastLog = codes "at least order log N"
+
+-- the words, given a proper colouring
+abbrev pub coloured_words : ColouredWay → List ℕ
+coloured_words (coloured.Rounds most) = codes "explore rounds " ++ decimal most
+
+abbrev pub coloured_line : Coloured → List ℕ
+coloured_line coloured = codes "by: " ++ (coloured_words coloured.way ++ (codes " given " ++ (decimal coloured.colours ++ codes " colours\n")))
+
+-- the line of the words that show the class, where these aren't those that show the claim
+abbrev pub coloured_lines : Settled → List ℕ
+coloured_lines settled.AtOnce = codes ""
+coloured_lines (settled.FixedPoint way) = codes ""
+coloured_lines (settled.NoSolution way None) = codes ""
+coloured_lines (settled.NoSolution way (Some coloured)) = coloured_line coloured
+coloured_lines (settled.Within more most) = codes ""
+
+abbrev pub class_lines : Settled → List ℕ
+class_lines settled = codes "with identifiers: " ++ (class_text (class_of settled) ++ (codes "\n" ++ coloured_lines settled))
+
+-- ---- the whole answer on a problem with these names, whose passive nodes have this degree
 abbrev pub settled_text : List (List ℕ) → ℕ → Settled → List ℕ
-settled_text names passive settled = claim_text passive (claim_of settled) ++ (codes "\n" ++ way_lines names settled)
+settled_text names passive settled = claim_text passive (claim_of settled) ++ (codes "\n" ++ (way_lines names settled ++ class_lines settled))

@@ -1,6 +1,5 @@
 //! Lower and upper bounds. Each way that is tried tells the number of rounds that it shows.
 ghost use Rattle.re_cert.specs.declared.certificate.Kind.TheVariants.{Upper};
-ghost use Rattle.re_cert.specs.declared.certificate.TheConstants.{MAX_STEPS};
 ghost use Rattle.re_chain_parts.specs.Chains.{chain_with};
 ghost use Rattle.re_chain_texts.specs.ChainTexts.{problem_chain};
 ghost use Rattle.re_problem.specs.NamedProblems.{unnamed};
@@ -29,7 +28,7 @@ pub(crate) fn lower_way(
     problem: &Problem,
     steps: u8,
 ) -> Result<Option<Shown>, NoMemory>
-    requires { steps ≤ MAX_STEPS }
+    requires { steps ≤ 8 }
     ensures { IfOk result (λ found. IfSome found (λ shown. IsKnown problem.now (Claim.MoreThan shown.rounds) shown.way)) }
 {
     match find_lower(alloc, problem, steps, 0) {
@@ -42,21 +41,19 @@ pub(crate) fn lower_way(
     }
 }
 
-/// An upper bound of at most so many steps, in each of which at most so many labels are left out.
+/// An upper bound of at most so many steps without labels left out.
 pub(crate) fn upper_way(
     alloc: Global,
     problem: &Problem,
     steps: u8,
-    drops: u8,
 ) -> Result<Option<Shown>, NoMemory>
-    requires steps { steps ≤ MAX_STEPS }
-    requires drops { drops ≤ 8 }
+    requires { steps ≤ 9 }
     ensures { IfOk result (λ found. IfSome found (λ shown. IsKnown problem.now (Claim.AtMost shown.rounds) shown.way)) }
 {
-    match find_upper(alloc, problem, steps, drops) {
+    match find_upper(alloc, problem, steps, 0) {
         Ok(Search::Found(certificate)) => Ok(Some(Shown {
             rounds: count_of(&certificate),
-            way: Way::Upper(steps, drops),
+            way: Way::Upper(steps, 0),
         })),
         Ok(Search::NotFound { .. }) | Err(FindFault::TooManyNodes) => Ok(None),
         Err(FindFault::NoMemory) => Err(NoMemory),
@@ -87,7 +84,7 @@ pub(crate) fn long_way(
 ) -> Result<Shown, NoMemory>
     requires chain { chain.now ≡ problem_chain problem.now }
     requires not_zero { zero_place (unnamed problem.now) ≡ None }
-    requires steps { steps ≤ MAX_STEPS }
+    requires steps { steps ≤ 8 }
     ensures { IfOk result (λ shown. IsKnown problem.now (Claim.MoreThan shown.rounds) shown.way) }
 {
     let longest = longest_way(alloc, problem, chain)?;

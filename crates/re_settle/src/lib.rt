@@ -14,6 +14,7 @@ ghost use Rattle.re_settle.specs.GraphRounds.{GraphRoundsLaw};
 
 mod answering;
 mod bounds;
+mod coloured;
 mod lines;
 mod never;
 mod settling;
@@ -21,7 +22,7 @@ mod types;
 mod words;
 
 pub use settling::{MAX_ROUNDS, settle};
-pub use types::{Claim, Settled, Shown, Way};
+pub use types::{Claim, Class, Coloured, ColouredWay, Settled, Shown, Way};
 pub use words::{SettleWord, names_settle, settle_help};
 
 /// What a claim in hops says in rounds of the graph whose edges the passive nodes are, two hops each: a problem that takes exactly k hops takes

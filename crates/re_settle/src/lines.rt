@@ -3,11 +3,12 @@ ghost use Rattle.re_frame.specs.Outcomes.{outcome_of};
 ghost use Rattle.re_printing.specs.SetTexts.{named_text};
 ghost use Rattle.re_settle.specs.Answers.{settled_outcome};
 ghost use Rattle.re_settle.specs.Claims.{claim_of, is_final, within};
-ghost use Rattle.re_settle.specs.Lines.{claim_text, graph_part, number_texts, settled_text, way_line, way_lines, way_numbers, way_rest, way_words};
+ghost use Rattle.re_settle.specs.Classes.{class_of};
+ghost use Rattle.re_settle.specs.Lines.{claim_text, class_lines, class_text, coloured_line, coloured_lines, coloured_words, graph_part, number_texts, rounds_text, settled_text, way_line, way_lines, way_numbers, way_rest, way_words};
 ghost use Rattle.std.specs.Fmt.{decimal};
 ghost use Rattle.std.specs.Prelude.{◌≡◌, ◌++◌, ◌∷◌, [], IfOk, OnOk};
 
-use crate::types::{Claim, Settled, Way};
+use crate::types::{Claim, Class, Coloured, ColouredWay, Settled, Way};
 use arrayvec::ArrayVec;
 use re_frame::{Output, done, push_number, push_words, refused};
 use re_labels::{Names, NoMemory};
@@ -31,7 +32,7 @@ fn claim_of(settled: Settled) -> Claim
 {
     match settled {
         Settled::AtOnce => Claim::Exactly(0),
-        Settled::Never(_) => Claim::Never,
+        Settled::FixedPoint(_) | Settled::NoSolution(..) => Claim::Never,
         Settled::Within(more, None) => Claim::MoreThan(more.rounds),
         Settled::Within(more, Some(most)) => within(more.rounds, most.rounds),
     }
@@ -98,7 +99,7 @@ fn way_words(way: Way) -> &'static str
         Way::Lower(..) => "re lower",
         Way::Upper(..) => "re upper",
         Way::Fixed(..) => "re fixed",
-        Way::Closure(_) => "explore closure",
+        Way::Closure(_) | Way::Raised(..) => "explore closure",
         Way::Merge(..) => "explore merge",
         Way::Cover(_) => "explore cover",
         Way::Cycle(..) => "explore cycle",
@@ -131,7 +132,7 @@ fn way_numbers(way: Way) -> ArrayVec<u32, 3>
     ensures { result.items ≡ way_numbers way }
 {
     match way {
-        Way::Zero | Way::Closure(0) | Way::Merge(..) => ArrayVec::new(),
+        Way::Zero | Way::Closure(0) | Way::Raised(..) | Way::Merge(..) => ArrayVec::new(),
         Way::Closure(steps) => one(steps),
         Way::Cover(nodes) => one(nodes),
         Way::Lower(steps, changes) | Way::Upper(steps, changes) | Way::Fixed(steps, changes) => {
@@ -171,17 +172,23 @@ fn push_name(text: &mut Vec<u8>, names: &Names, label: u8) -> Result<(), NoMemor
     }
 }
 
-// Appends the labels of a merge and the words that read what it gives.
+// Appends the labels of a merge and the words that read what it gives, or the edge of a diagram.
 fn push_rest(text: &mut Vec<u8>, names: &Names, way: Way) -> Result<(), NoMemory>
     ensures { OnOk result (text.new.items ≡ text.old.items ++ way_rest names.now way) }
 {
     match way {
         Way::Merge(from, to) => {
-            push_words(text, " ")?;
+            push_words(text, " '")?;
             push_name(text, names, from)?;
-            push_words(text, " ")?;
+            push_words(text, "' '")?;
             push_name(text, names, to)?;
-            push_words(text, " | explore closure")
+            push_words(text, "' | explore closure")
+        }
+        Way::Raised(low, high) => {
+            push_words(text, " with diagram ")?;
+            push_name(text, names, low)?;
+            push_words(text, " ")?;
+            push_name(text, names, high)
         }
         _ => push_words(text, ""),
     }
@@ -205,13 +212,107 @@ fn push_ways(text: &mut Vec<u8>, names: &Names, settled: Settled) -> Result<(), 
 {
     match settled {
         Settled::AtOnce => push_way(text, names, Way::Zero),
-        Settled::Never(way) => push_way(text, names, way),
+        Settled::FixedPoint(way) | Settled::NoSolution(way, _) => push_way(text, names, way),
         Settled::Within(more, None) => push_way(text, names, more.way),
         Settled::Within(more, Some(most)) => {
             push_way(text, names, more.way)?;
             push_way(text, names, most.way)
         }
     }
+}
+
+// The class.
+fn class_of(settled: Settled) -> Class
+    ensures { result ≡ class_of settled }
+{
+    match settled {
+        Settled::AtOnce => Class::Constant(Claim::Exactly(0)),
+        Settled::FixedPoint(_) => Class::AtLeastLog,
+        Settled::NoSolution(_, None) => Class::AtLeastLogStar,
+        Settled::NoSolution(_, Some(_)) => Class::OrderLogStar,
+        Settled::Within(more, None) => Class::MoreThan(more.rounds),
+        Settled::Within(more, Some(most)) => Class::Constant(within(more.rounds, most.rounds)),
+    }
+}
+
+// Appends words and a number.
+fn push_counted(text: &mut Vec<u8>, words: &str, number: u8) -> Result<(), NoMemory>
+    ensures { OnOk result (text.new.items ≡ text.old.items ++ (words.now ++ decimal number)) }
+{
+    let alloc = *text.allocator();
+    push_words(text, words)?;
+    push_number(alloc, text, number as usize)
+}
+
+// Appends a claim in rounds.
+fn push_claimed(text: &mut Vec<u8>, claim: Claim) -> Result<(), NoMemory>
+    ensures { OnOk result (text.new.items ≡ text.old.items ++ rounds_text claim) }
+{
+    match claim {
+        Claim::Exactly(k) => push_counted(text, "exactly ", k),
+        Claim::Never => push_words(text, "never"),
+        Claim::MoreThan(k) => push_counted(text, "more than ", k),
+        Claim::AtMost(m) => push_counted(text, "at most ", m),
+        Claim::Between(k, m) => {
+            push_counted(text, "more than ", k)?;
+            push_counted(text, ", at most ", m)
+        }
+    }
+}
+
+// Appends a class.
+fn push_class(text: &mut Vec<u8>, class: Class) -> Result<(), NoMemory>
+    ensures { OnOk result (text.new.items ≡ text.old.items ++ class_text class) }
+{
+    match class {
+        Class::Constant(claim) => {
+            push_words(text, "constant, ")?;
+            push_claimed(text, claim)
+        }
+        Class::MoreThan(k) => push_claimed(text, Claim::MoreThan(k)),
+        Class::OrderLogStar => push_words(text, "order log* N"),
+        Class::AtLeastLogStar => push_words(text, "at least order log* N"),
+        Class::AtLeastLog => push_words(text, "at least order log N"),
+    }
+}
+
+// Appends the words, given a proper colouring.
+fn push_coloured_words(text: &mut Vec<u8>, way: ColouredWay) -> Result<(), NoMemory>
+    ensures { OnOk result (text.new.items ≡ text.old.items ++ coloured_words way) }
+{
+    match way {
+        ColouredWay::Rounds(most) => push_counted(text, "explore rounds ", most),
+    }
+}
+
+// Appends the line of words, given a proper colouring.
+fn push_coloured(text: &mut Vec<u8>, coloured: Coloured) -> Result<(), NoMemory>
+    ensures { OnOk result (text.new.items ≡ text.old.items ++ coloured_line coloured) }
+{
+    push_words(text, "by: ")?;
+    push_coloured_words(text, coloured.way)?;
+    push_counted(text, " given ", coloured.colours)?;
+    push_words(text, " colours\n")
+}
+
+// Appends the line of the words that show the class, where these aren't those that show the claim.
+fn push_shows(text: &mut Vec<u8>, settled: Settled) -> Result<(), NoMemory>
+    ensures { OnOk result (text.new.items ≡ text.old.items ++ coloured_lines settled) }
+{
+    match settled {
+        Settled::NoSolution(_, Some(coloured)) => push_coloured(text, coloured),
+        _ => push_words(text, ""),
+    }
+}
+
+// Appends the lines on unique identifiers.
+fn push_classes(text: &mut Vec<u8>, settled: Settled) -> Result<(), NoMemory>
+    ensures { OnOk result (text.new.items ≡ text.old.items ++ class_lines settled) }
+{
+    push_words(text, "with identifiers: ")?;
+    push_class(text, class_of(settled))?;
+    push_words(text, "\n")?;
+    push_shows(text, settled)
 }
 
 // The text of what is known of a problem with these names, whose passive nodes have this degree.
@@ -227,6 +328,7 @@ fn settled_text(
     push_claim(&mut text, passive, claim_of(settled))?;
     push_words(&mut text, "\n")?;
     push_ways(&mut text, names, settled)?;
+    push_classes(&mut text, settled)?;
     Ok(text)
 }
 

@@ -1,17 +1,17 @@
-//! Ways to show that no number of rounds solves a problem. Each tries one, and tells the words that show it.
+//! Fixed points, and graphs without a solution. Each function tries one way to show that no number of rounds solves a problem, and tells the words
+//! that show it.
 ghost use Rattle.re_chain.specs.Merging.{merge_limit, merge_refusal, merged};
 ghost use Rattle.re_chain_texts.specs.ChainTexts.{problem_chain};
 ghost use Rattle.re_extend.specs.Extensions.{IsSoundChain};
-ghost use Rattle.re_settle.specs.Ways.{IsKnown};
-ghost use Rattle.std.specs.Prelude.{◌≡◌, ◌<◌, IfOk, IfSome, None};
+ghost use Rattle.re_settle.specs.Ways.{ClosesBehind, IsFixedPoint, IsKnown};
+ghost use Rattle.std.specs.Prelude.{◌≡◌, ◌<◌, ◌≤◌, IfOk, IfSome, None, length};
 
-use crate::bounds::count_of;
 use crate::types::{Claim, Way};
 use re_cert::Certificate;
 use re_chain::{MergeFault, merge, merge_law};
 use re_chain_parts::over_problems;
 use re_chain_steps::{ChainStepFault, step};
-use re_closure::{Closing, ClosureFault, find_closure};
+use re_closure::{Closing, ClosureFault, find_closure, find_raised};
 use re_cycle::{Cycle, find_cycle};
 use re_graph::find_cover;
 use re_labels::NoMemory;
@@ -19,34 +19,36 @@ use re_problem::Problem;
 use re_search::{FindFault, Search, find_fixed};
 use std::alloc::Global;
 
-/// Up to how many labels merges in the first problem are tried.
-const MAX_MERGED: u8 = 8;
+/// Up to how many labels merges and diagrams in the first problem are tried.
+const MAX_TRIED: u8 = 8;
+
+/// Up to how many labels a problem behind a step has whose closure is tried.
+const MAX_CLOSED: u8 = 16;
 
 // A fixed point of at most 4 steps without merges.
 fn fixed_way(alloc: Global, problem: &Problem) -> Result<Option<Way>, NoMemory>
-    ensures { IfOk result (λ found. IfSome found (IsKnown problem.now Claim.Never)) }
+    ensures { IfOk result (λ found. IfSome found (IsFixedPoint problem.now)) }
 {
     match find_fixed(alloc, problem, 4, 0) {
-        Ok(Search::Found(_)) => Ok(Some(Way::Fixed(4, 0))),
+        Ok(Search::Found(certificate)) => {
+            over_problems(&certificate);
+            let _kind = certificate.kind();
+            Ok(Some(Way::Fixed(4, 0)))
+        }
         Ok(Search::NotFound { .. }) | Err(FindFault::TooManyNodes) => Ok(None),
         Err(FindFault::NoMemory) => Err(NoMemory),
     }
 }
 
-// The fixed point of the closure of the last problem of a chain that begins with the problem, or of the first of at most so many derived
-// problems behind it whose closure isn't solvable without communication.
-fn closure_way(
-    alloc: Global,
-    problem: &Problem,
-    chain: &Certificate,
-    more: u8,
-) -> Result<Option<Way>, NoMemory>
-    requires sound { IsSoundChain chain.now }
-    requires first { chain.now.first ≡ problem.now }
-    ensures { IfOk result (λ found. IfSome found (IsKnown problem.now Claim.Never)) }
+// Behind how many derived problems, at most so many, the closure of the chain's last problem gives a fixed point: where the closures before are
+// solvable without communication, and the problems behind a step have few labels.
+fn closing(alloc: Global, chain: &Certificate, more: u8) -> Result<Option<u8>, NoMemory>
+    requires { IsSoundChain chain.now }
+    ensures closes { IfOk result (λ found. IfSome found (λ steps. ClosesBehind steps chain.now)) }
+    ensures most { IfOk result (λ found. IfSome found (λ steps. steps ≤ more)) }
 {
     match find_closure(alloc, chain) {
-        Ok(Closing::Found(_)) => return Ok(Some(Way::Closure(count_of(chain)))),
+        Ok(Closing::Found(_)) => return Ok(Some(0)),
         Ok(Closing::SolvableClosure(_)) => {}
         Ok(Closing::Solvable(_)) => return Ok(None),
         Err(ClosureFault::Limit(_)) => return Ok(None),
@@ -56,10 +58,103 @@ fn closure_way(
         return Ok(None);
     }
     match step(alloc, chain) {
-        Ok(next) => closure_way(alloc, problem, &next, more - 1),
+        Ok(next) => {
+            if next.last().names().len() > MAX_CLOSED as usize {
+                return Ok(None);
+            }
+            match closing(alloc, &next, more - 1)? {
+                Some(steps) => Ok(Some(steps + 1)),
+                None => Ok(None),
+            }
+        }
         Err(ChainStepFault::NoMemory) => Err(NoMemory),
         Err(_) => Ok(None),
     }
+}
+
+// The fixed point of the closure of the problem, or behind at most so many derived problems.
+fn closure_way(
+    alloc: Global,
+    problem: &Problem,
+    chain: &Certificate,
+    more: u8,
+) -> Result<Option<Way>, NoMemory>
+    requires chain { chain.now ≡ problem_chain problem.now }
+    requires more { more ≤ 2 }
+    ensures { IfOk result (λ found. IfSome found (IsFixedPoint problem.now)) }
+{
+    let _problem = problem;
+    match closing(alloc, chain, more)? {
+        Some(steps) => Ok(Some(Way::Closure(steps))),
+        None => Ok(None),
+    }
+}
+
+// The fixed point of the closure of the problem that a diagram of one edge raises, of which the lower label comes first.
+fn raised_way(
+    alloc: Global,
+    problem: &Problem,
+    chain: &Certificate,
+    low: u8,
+    high: u8,
+) -> Result<Option<Way>, NoMemory>
+    requires chain { chain.now ≡ problem_chain problem.now }
+    requires low { low < length problem.now.names }
+    requires high { high < length problem.now.names }
+    ensures { IfOk result (λ found. IfSome found (IsFixedPoint problem.now)) }
+{
+    let _problem = problem;
+    match find_raised(alloc, chain, &[(low, high)]) {
+        Ok(Closing::Found(_)) => Ok(Some(Way::Raised(low, high))),
+        Ok(Closing::Solvable(_)) | Ok(Closing::SolvableClosure(_)) => Ok(None),
+        Err(ClosureFault::Limit(_)) => Ok(None),
+        Err(ClosureFault::NoMemory) => Err(NoMemory),
+    }
+}
+
+// The same for the first other label, of so many, that is raised to this one.
+fn raised_to(
+    alloc: Global,
+    problem: &Problem,
+    chain: &Certificate,
+    high: u8,
+    labels: u8,
+) -> Result<Option<Way>, NoMemory>
+    requires chain { chain.now ≡ problem_chain problem.now }
+    requires high { high < labels }
+    requires labels { labels ≡ length problem.now.names }
+    ensures { IfOk result (λ found. IfSome found (IsFixedPoint problem.now)) }
+{
+    for low in 0..labels {
+        if low == high {
+            continue;
+        }
+        if let Some(way) = raised_way(alloc, problem, chain, low, high)? {
+            return Ok(Some(way));
+        }
+    }
+    Ok(None)
+}
+
+// The same for all edges, where there are few labels.
+fn all_raised_way(
+    alloc: Global,
+    problem: &Problem,
+    chain: &Certificate,
+) -> Result<Option<Way>, NoMemory>
+    requires { chain.now ≡ problem_chain problem.now }
+    ensures { IfOk result (λ found. IfSome found (IsFixedPoint problem.now)) }
+{
+    let labels = problem.names().len();
+    if labels > MAX_TRIED as usize {
+        return Ok(None);
+    }
+    for high in 0..labels as u8 {
+        if let Some(way) = raised_to(alloc, problem, chain, high, labels as u8)? {
+            return Ok(Some(way));
+        }
+    }
+    Ok(None)
 }
 
 // The fixed point of the closure of what a merge in the first problem gives.
@@ -74,7 +169,7 @@ fn closed_way(
     requires may { merge_refusal from to (problem_chain problem.now) ≡ None }
     requires within { merge_limit from to (problem_chain problem.now) ≡ None }
     requires sound { IsSoundChain relaxed.now }
-    ensures { IfOk result (λ found. IfSome found (IsKnown problem.now Claim.Never)) }
+    ensures { IfOk result (λ found. IfSome found (IsFixedPoint problem.now)) }
 {
     let _problem = problem;
     match find_closure(alloc, relaxed) {
@@ -94,7 +189,7 @@ fn merge_way(
     to: u8,
 ) -> Result<Option<Way>, NoMemory>
     requires { chain.now ≡ problem_chain problem.now }
-    ensures { IfOk result (λ found. IfSome found (IsKnown problem.now Claim.Never)) }
+    ensures { IfOk result (λ found. IfSome found (IsFixedPoint problem.now)) }
 {
     let _kind = chain.kind();
     over_problems(chain);
@@ -116,7 +211,7 @@ fn merges_to(
 ) -> Result<Option<Way>, NoMemory>
     requires chain { chain.now ≡ problem_chain problem.now }
     requires to { to < labels }
-    ensures { IfOk result (λ found. IfSome found (IsKnown problem.now Claim.Never)) }
+    ensures { IfOk result (λ found. IfSome found (IsFixedPoint problem.now)) }
 {
     for from in to + 1..labels {
         if let Some(way) = merge_way(alloc, problem, chain, from, to)? {
@@ -133,10 +228,10 @@ fn merges_way(
     chain: &Certificate,
 ) -> Result<Option<Way>, NoMemory>
     requires { chain.now ≡ problem_chain problem.now }
-    ensures { IfOk result (λ found. IfSome found (IsKnown problem.now Claim.Never)) }
+    ensures { IfOk result (λ found. IfSome found (IsFixedPoint problem.now)) }
 {
     let labels = problem.names().len();
-    if labels > MAX_MERGED as usize {
+    if labels > MAX_TRIED as usize {
         return Ok(None);
     }
     for to in 0..labels as u8 {
@@ -147,8 +242,8 @@ fn merges_way(
     Ok(None)
 }
 
-// A graph of at most 4 active nodes without a solution.
-fn cover_way(alloc: Global, problem: &Problem) -> Result<Option<Way>, NoMemory>
+/// A graph of at most 4 active nodes without a solution.
+pub(crate) fn cover_way(alloc: Global, problem: &Problem) -> Result<Option<Way>, NoMemory>
     ensures { IfOk result (λ found. IfSome found (IsKnown problem.now Claim.Never)) }
 {
     match find_cover(alloc, problem, 4)?.graph {
@@ -160,7 +255,7 @@ fn cover_way(alloc: Global, problem: &Problem) -> Result<Option<Way>, NoMemory>
 // A fixed point of at most 3 steps with at most 1 merge in each, of at most 100 problems.
 fn cycle_way(alloc: Global, problem: &Problem, chain: &Certificate) -> Result<Option<Way>, NoMemory>
     requires { chain.now ≡ problem_chain problem.now }
-    ensures { IfOk result (λ found. IfSome found (IsKnown problem.now Claim.Never)) }
+    ensures { IfOk result (λ found. IfSome found (IsFixedPoint problem.now)) }
 {
     match find_cycle(alloc, chain, 3, 1, 100)? {
         Cycle::Found(_) => Ok(Some(Way::Cycle(3, 1, 100))),
@@ -168,33 +263,37 @@ fn cycle_way(alloc: Global, problem: &Problem, chain: &Certificate) -> Result<Op
     }
 }
 
-// The first of those that cost least.
-fn near_way(alloc: Global, problem: &Problem, chain: &Certificate) -> Result<Option<Way>, NoMemory>
-    requires { chain.now ≡ problem_chain problem.now }
-    ensures { IfOk result (λ found. IfSome found (IsKnown problem.now Claim.Never)) }
-{
-    if let Some(way) = fixed_way(alloc, problem)? {
-        return Ok(Some(way));
-    }
-    if let Some(way) = closure_way(alloc, problem, chain, 2)? {
-        return Ok(Some(way));
-    }
-    cover_way(alloc, problem)
-}
-
-/// The first words that show that no number of rounds solves the problem, whose chain is given too.
-pub(crate) fn never_way(
+/// The first words that show a fixed point of the problem, whose chain is given too, of those that cost little.
+pub(crate) fn near_way(
     alloc: Global,
     problem: &Problem,
     chain: &Certificate,
 ) -> Result<Option<Way>, NoMemory>
     requires { chain.now ≡ problem_chain problem.now }
-    ensures { IfOk result (λ found. IfSome found (IsKnown problem.now Claim.Never)) }
+    ensures { IfOk result (λ found. IfSome found (IsFixedPoint problem.now)) }
 {
-    if let Some(way) = near_way(alloc, problem, chain)? {
+    if let Some(way) = fixed_way(alloc, problem)? {
+        return Ok(Some(way));
+    }
+    closure_way(alloc, problem, chain, 0)
+}
+
+/// The same of those that cost more.
+pub(crate) fn far_way(
+    alloc: Global,
+    problem: &Problem,
+    chain: &Certificate,
+) -> Result<Option<Way>, NoMemory>
+    requires { chain.now ≡ problem_chain problem.now }
+    ensures { IfOk result (λ found. IfSome found (IsFixedPoint problem.now)) }
+{
+    if let Some(way) = closure_way(alloc, problem, chain, 2)? {
         return Ok(Some(way));
     }
     if let Some(way) = merges_way(alloc, problem, chain)? {
+        return Ok(Some(way));
+    }
+    if let Some(way) = all_raised_way(alloc, problem, chain)? {
         return Ok(Some(way));
     }
     cycle_way(alloc, problem, chain)

@@ -2,12 +2,13 @@
 ghost use Rattle.re_chain_texts.specs.ChainTexts.{problem_chain};
 ghost use Rattle.re_problem.specs.NamedProblems.{unnamed};
 ghost use Rattle.re_problem.specs.Zero.{zero_place};
-ghost use Rattle.re_settle.specs.Ways.{IsSettled};
+ghost use Rattle.re_settle.specs.Ways.{IsKnown, IsSettled};
 ghost use Rattle.std.specs.Prelude.{◌≡◌, ◌≤◌, IfOk, IfSome, None};
 
 use crate::bounds::{long_way, lower_way, short_way, upper_way};
-use crate::never::never_way;
-use crate::types::Settled;
+use crate::coloured::coloured_way;
+use crate::never::{cover_way, far_way, near_way};
+use crate::types::{Claim, Settled, Way};
 use re_cert::Certificate;
 use re_chain_texts::problem_chain;
 use re_labels::NoMemory;
@@ -19,6 +20,9 @@ use std::alloc::Global;
 
 /// Up to how many rounds are counted by steps.
 pub const MAX_ROUNDS: u8 = 8;
+
+/// Up to how many labels problems have from which steps are taken where colours are given.
+const COLOURED_LABELS: u8 = 64;
 
 // How many steps can be taken to problems that aren't solvable without communication, and whether the next one leads to one that is.
 #[derive(Clone, Copy, Debug, PartialEq, Eq)]
@@ -48,10 +52,11 @@ fn exact(alloc: Global, problem: &Problem, steps: u8) -> Result<Option<Settled>,
     requires { steps ≤ 8 }
     ensures { IfOk result (λ found. IfSome found (IsSettled problem.now)) }
 {
+    let _names = problem.names();
     let Some(lower) = lower_way(alloc, problem, steps)? else {
         return Ok(None);
     };
-    match upper_way(alloc, problem, steps + 1, 0)? {
+    match upper_way(alloc, problem, steps + 1)? {
         Some(upper) => Ok(Some(Settled::Within(lower, Some(upper)))),
         None => Ok(None),
     }
@@ -69,12 +74,13 @@ fn bounded(
     requires steps { steps ≤ 8 }
     ensures { IfOk result (IsSettled problem.now) }
 {
+    let _names = problem.names();
     let lower = long_way(alloc, problem, chain, steps)?;
     let upper = short_way(alloc, problem)?;
     Ok(Settled::Within(lower, upper))
 }
 
-// What is known beyond steps without changes.
+// What is known beyond steps without changes, fixed points that cost little and graphs.
 fn searched(
     alloc: Global,
     problem: &Problem,
@@ -86,9 +92,51 @@ fn searched(
     requires steps { steps ≤ 8 }
     ensures { IfOk result (IsSettled problem.now) }
 {
-    match never_way(alloc, problem, chain)? {
-        Some(way) => Ok(Settled::Never(way)),
+    match far_way(alloc, problem, chain)? {
+        Some(way) => Ok(Settled::FixedPoint(way)),
         None => bounded(alloc, problem, chain, steps),
+    }
+}
+
+// What is known where a graph has no solution.
+fn covered(
+    alloc: Global,
+    problem: &Problem,
+    chain: &Certificate,
+    way: Way,
+) -> Result<Settled, NoMemory>
+    requires chain { chain.now ≡ problem_chain problem.now }
+    requires known { IsKnown problem.now Claim.Never way }
+    ensures { IfOk result (IsSettled problem.now) }
+{
+    let _names = problem.names();
+    if let Some(coloured) = coloured_way(alloc, problem, COLOURED_LABELS)? {
+        return Ok(Settled::NoSolution(way, Some(coloured)));
+    }
+    match far_way(alloc, problem, chain)? {
+        Some(way) => Ok(Settled::FixedPoint(way)),
+        None => Ok(Settled::NoSolution(way, None)),
+    }
+}
+
+// What is known beyond steps without changes.
+fn tried(
+    alloc: Global,
+    problem: &Problem,
+    chain: &Certificate,
+    steps: u8,
+) -> Result<Settled, NoMemory>
+    requires chain { chain.now ≡ problem_chain problem.now }
+    requires not_zero { zero_place (unnamed problem.now) ≡ None }
+    requires steps { steps ≤ 8 }
+    ensures { IfOk result (IsSettled problem.now) }
+{
+    if let Some(way) = near_way(alloc, problem, chain)? {
+        return Ok(Settled::FixedPoint(way));
+    }
+    match cover_way(alloc, problem)? {
+        Some(way) => covered(alloc, problem, chain, way),
+        None => searched(alloc, problem, chain, steps),
     }
 }
 
@@ -104,7 +152,7 @@ fn settled(alloc: Global, problem: &Problem, chain: &Certificate) -> Result<Sett
             return Ok(settled);
         }
     }
-    searched(alloc, problem, chain, count.steps)
+    tried(alloc, problem, chain, count.steps)
 }
 
 /// What the searches of this crate find out of how many rounds the problem takes, and the words that show it. It is true, and the

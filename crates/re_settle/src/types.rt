@@ -13,6 +13,9 @@ pub enum Way {
     Fixed(u8, u8),
     /// `explore closure`: the fixed point of its closure; or behind 1 step, or as many as are named.
     Closure(u8),
+    /// `explore closure` on the problem with a line `== diagram` behind it, and one with the names of the labels of these numbers, the lower one
+    /// first: the fixed point of the closure of the problem that this diagram raises.
+    Raised(u8, u8),
     /// `explore merge X Y`, and on what it gives `explore closure`, X and Y being the names of the labels of these numbers: the fixed point of
     /// the closure behind the step to the derived problem of the problem in which X has become Y.
     Merge(u8, u8),
@@ -24,6 +27,20 @@ pub enum Way {
     Longest(u8, u8),
     /// `explore shortest K L`: an upper bound of at most K steps, each to a problem of at most L labels.
     Shortest(u8, u8),
+}
+
+/// Words whose answer to a problem, given a proper colouring, shows that some number of rounds is enough.
+#[derive(Clone, Copy, Debug, PartialEq, Eq)]
+pub enum ColouredWay {
+    /// `explore rounds K`: at most K rounds.
+    Rounds(u8),
+}
+
+/// Words that show that some number of rounds is enough given a proper colouring with so many colours.
+#[derive(Clone, Copy, Debug, PartialEq, Eq)]
+pub struct Coloured {
+    pub colours: u8,
+    pub way: ColouredWay,
 }
 
 /// How many rounds a problem takes.
@@ -41,6 +58,21 @@ pub enum Claim {
     Between(u8, u8),
 }
 
+/// How many rounds a problem takes with N unique identifiers, as N grows.
+#[derive(Clone, Copy, Debug, PartialEq, Eq)]
+pub enum Class {
+    /// A constant number, of which the claim says more.
+    Constant(Claim),
+    /// More than so many, from some N on.
+    MoreThan(u8),
+    /// The order of log* N.
+    OrderLogStar,
+    /// At least log* N, less a constant.
+    AtLeastLogStar,
+    /// At least the order of log N.
+    AtLeastLog,
+}
+
 /// A number of rounds, and the words that show it.
 #[derive(Clone, Copy, Debug, PartialEq, Eq)]
 pub struct Shown {
@@ -53,8 +85,11 @@ pub struct Shown {
 pub enum Settled {
     /// It is solvable without communication.
     AtOnce,
-    /// No number of rounds solves it.
-    Never(Way),
+    /// No number of rounds solves it, as a fixed point shows.
+    FixedPoint(Way),
+    /// No number of rounds solves it, as a finite graph without a solution shows; and where it is known, some number is enough given a proper
+    /// colouring with one colour more than a node has neighbours.
+    NoSolution(Way, Option<Coloured>),
     /// It takes more than the first number of rounds, and where a second one is known, at most that many.
     Within(Shown, Option<Shown>),
 }

@@ -5,5 +5,5 @@ use Rattle.re_settle.proofs.bounds.longest_way.Goals as goal
 
 pub returns : goal.returns
 returns c =
-    let found = subst (Answers 8 12 c.args.chain.now) c.in-Found.is c.in_ok-certificate.ensures in
-    longest_known c.args.problem.now c.args.chain.now c.in-Found.certificate 8 12 c.count_of.result c.requires.chain found.1 c.count_of.ensures
+    longest_known c.args.problem.now c.args.chain.now c.in-Found.certificate c.count_of.result c.requires.chain
+    (subst (Answers 8 12 c.args.chain.now) c.in-Found.is c.in_ok-certificate.ensures) c.count_of.ensures

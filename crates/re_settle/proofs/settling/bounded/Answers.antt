@@ -2,4 +2,5 @@ use Rattle.re_settle.proofs.Together.{bounds_settled}
 use Rattle.re_settle.proofs.settling.bounded.Goals as goal
 
 pub returns : goal.returns
-returns c = bounds_settled c.args.problem.now c.in_ok-lower.lower c.in_ok-upper.upper c.in_ok-lower.ensures c.in_ok-upper.ensures
+returns c =
+    bounds_settled c.args.problem.now c.in_ok-lower.lower c.in_ok-upper.upper c.names-names.ensures.problem.problem c.in_ok-lower.ensures c.in_ok-upper.ensures

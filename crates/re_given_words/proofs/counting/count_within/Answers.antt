@@ -4,7 +4,7 @@ use Rattle.re_problem.specs.NamedProblems.{unnamed}
 use Rattle.re_step.specs.Derivations.{step_limit}
 use Rattle.re_given_words.proofs.CountingMeans.{few_next, few_suc, next_is, passed_next}
 use Rattle.re_given_words.specs.Counting.{Tells}
-use Rattle.re_given_words.proofs.counting.count.Goals as goal
+use Rattle.re_given_words.proofs.counting.count_within.Goals as goal
 
 pub returns-in-Some-clause-counted : goal.returns-in-Some-clause-counted
 returns-in-Some-clause-counted c = (

@@ -47,7 +47,7 @@ judged() {
 }
 
 count=0 commands=0 failed=0
-while IFS="$(printf '\t')" read -r number problem claim by; do
+while IFS="$(printf '\t')" read -r number problem claim by class shown; do
     problem_text "$problem" > "$folder/problem"
     count=$((count + 1))
     echo "$by" | sed 's/; /\n/g' > "$folder/by"

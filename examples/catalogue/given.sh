@@ -50,7 +50,7 @@ if [ "${1:-}" = --part ]; then
     part=$2 re=${3%%:*} explore=${3#*:}
     folder=$(mktemp -d)
     trap 'rm -rf "$folder"' EXIT
-    while IFS=$tab read -r number problem claim by; do line "$number" "$problem" "$claim" "$by"; done < "$part" > "$part.new"
+    while IFS=$tab read -r number problem claim by class shown; do line "$number" "$problem" "$claim" "$by"; done < "$part" > "$part.new"
     mv "$part.new" "$part.table"
     exit
 fi

@@ -4,7 +4,8 @@
 #     examples/catalogue/settle.sh EXPLORE LIST TABLE [OPTION OF PARALLEL]..
 #
 # EXPLORE is the program, LIST what problems.py prints, or some lines of it. TABLE becomes one line for each, in the same order, with tabs
-# between: its number, the problem, the first line of the answer, and the words that show it, with `; ` between.
+# between: its number, the problem, the first line of the answer, the words that show it, with `; ` between, and what is known with unique
+# identifiers and the words that show that, if further ones do.
 #
 # The list is cut into parts of 50 problems, in the folder TABLE.parts. A run that was broken off goes on with the parts that are left,
 # by the log of jobs in there. With `--sshloginfile FILE` among the options other machines take parts too (the manual of GNU parallel says
@@ -20,8 +21,11 @@ line() {
     [ "$status" -le 1 ] || { echo "settle.sh: problem $1: exit code $status: $answer" >&2; exit 1; }
     printf '%s\n' "$answer" | awk -v number="$1" -v problem="$2" '
         NR == 1 { claim = $0; next }
-        { sub(/^by: /, ""); by = by (by == "" ? "" : "; ") $0 }
-        END { print number "\t" problem "\t" claim "\t" by }'
+        sub(/^with identifiers: /, "") { class = $0; next }
+        { sub(/^by: /, "") }
+        class == "" { by = by (by == "" ? "" : "; ") $0; next }
+        { shown = shown (shown == "" ? "" : "; ") $0 }
+        END { print number "\t" problem "\t" claim "\t" by "\t" class "\t" shown }'
 }
 
 if [ "${1:-}" = --part ]; then

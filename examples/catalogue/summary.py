@@ -12,6 +12,8 @@ import pathlib
 import re
 import sys
 
+import paths
+
 HERE = pathlib.Path(__file__).parent
 NEVER = "not solvable in any number of rounds"
 BETWEEN = "solvable, between two bounds"
@@ -30,15 +32,13 @@ has `re check` judge what they name; `summary.py` wrote this page from the table
     examples/catalogue/summary.py > examples/catalogue/README.md
 
 A table holds a line for each problem: its number, its active and passive configurations, the first line of the answer (in hops, and in rounds of
-the graph where passive nodes are edges), and the words that show it. The answers are for port-numbering algorithms on trees. What a fixed point
-excludes (`fixed`, `closure`) takes at least the order of log N rounds with N unique identifiers, where passive nodes are edges
-(`re_given_bounds::logarithmic_bound_law`). What a graph alone excludes (`cover`) may be solvable with identifiers, as a maximal independent set is,
-but then takes at least log* N - 10 rounds with N of them, where passive nodes are edges (`re_ordered::graph_gap_law`).
+the graph where passive nodes are edges), the words that show it, the class with unique identifiers, and the words that show this. The answer is for
+nodes that know nothing but port numbers, on trees; the class is for nodes with unique identifiers below N, as N grows: `constant`, `order log* N`,
+`at least log* N` (less a constant) and `at least order log N`, beyond which this model tells nothing apart. Both are proved of what `settle` says.
 What is solved in k hops may use the orientation of each edge that its ports give; from unique identifiers one comes in a round.
 
 Given an input problem (`both`, an orientation by which edges lead into each active node and out of it; two `sides`; a colouring of the `edges`; a
-proper `colouring` with 4 colours), `explore rounds` and `explore given` answer, up to the hops that are enough alone, else up to 4. In degree 3
-nodes with N unique identifiers find 4 colours in order log* N rounds (`re_few_colours::few_colours_law`): what constantly many hops solve given them, that many more do.
+proper `colouring` with 4 colours), `explore rounds` and `explore given` answer, up to the hops that are enough alone, else up to 4.
 """
 
 
@@ -70,24 +70,30 @@ def words_of(by):
     return re.sub(r"merge \S+ \S+", "merge X Y", by).replace("|", "\\|")
 
 
+def class_of(known):
+    """The class with identifiers, without numbers of rounds; what no class is known of is open."""
+    return "open" if known.startswith("more than") and "constant" not in known else known.split(",")[0]
+
+
 def by_kind(lines):
-    """How many problems have each answer, and by which words."""
+    """How many problems have each answer and class, and by which words."""
     counts = collections.Counter()
-    for _, _, claim, by in lines:
+    for _, _, claim, by, known, shown in lines:
         kind = kind_of(claim)
-        counts[(kind, f"`{words_of(by)}`" if kind == NEVER else "")] += 1
+        words = "; ".join(f"`{words_of(it)}`" for it in (by, shown) if it)
+        counts[(kind, class_of(known), words if kind == NEVER else "")] += 1
     order = {"open": 3, BETWEEN: 2, NEVER: 1}
-    return sorted(counts.items(), key=lambda it: (order.get(it[0][0], 0), it[0][0] if it[0][0] != NEVER else "", -it[1]))
+    return sorted(counts.items(), key=lambda it: (order.get(it[0][0], 0), it[0][0] if it[0][0] != NEVER else "", it[0][1], -it[1]))
 
 
 def counts_part(path, lines):
     labels, active, passive = title_of(path)
     yield f"## {labels} labels, active nodes of degree {active}, passive nodes of degree {passive}: {len(lines)} problems"
     yield ""
-    yield "| Answer | By | Problems |"
-    yield "|---|---|---|"
-    for (kind, by), count in by_kind(lines):
-        yield f"| {kind} | {by} | {count} |"
+    yield "| With port numbers alone | With unique identifiers | By | Problems |"
+    yield "|---|---|---|---|"
+    for (kind, known, by), count in by_kind(lines):
+        yield f"| {kind} | {known} | {by} | {count} |"
     yield ""
 
 
@@ -110,7 +116,7 @@ def given_part(path, lines):
     if not table:
         return
     counts = collections.defaultdict(lambda: [collections.Counter() for _ in INPUTS])
-    for (number, _, claim, _), (same, *answers) in zip(lines, lines_of(table), strict=True):
+    for (number, _, claim, *_), (same, *answers) in zip(lines, lines_of(table), strict=True):
         assert number == same
         for counter, answer in zip(counts[kind_of(claim)], answers):
             counter[known_of(answer)] += 1
@@ -132,20 +138,41 @@ def binary_part(tables):
     yield "Balliu, Brandt, Efron, Hirvonen, Maus, Olivetti and Suomela (Classification of distributed binary labeling problems, DISC 2020) show"
     yield "that each problem of 2 labels on trees has, for deterministic algorithms with unique identifiers, one of the complexities O(1), Θ(log n)"
     yield "and Θ(n), or is unsolvable; none lies between O(1) and Θ(log n). Here each is solvable in exactly 0 or 1 hops, or in no number of rounds,"
-    yield "and none is open. In all four tables the first are those where one side allows everything, or one label alone may stand everywhere: such"
-    yield "a problem is O(1) there too. The others take at least the order of log N rounds with N unique identifiers where passive"
-    yield "nodes have degree 2 and a fixed point shows it, as it does for each of them (`re_given_bounds::logarithmic_bound_law`); that they need"
-    yield "Ω(log n) rounds on trees of n nodes is that paper's theorem."
+    yield "and none is open. In all tables the first are those where one side allows everything, or one label alone may stand everywhere: such"
+    yield "a problem is O(1) there too. Each of the others is at least of order log N with unique identifiers, by a fixed point: O(1) and constant,"
+    yield "and the rest and at least order log N, are the same."
     yield ""
-    yield "| Degrees | Problems | exactly 0 | exactly 1 | in no number of rounds | open | one side whole, or one label alone |"
-    yield "|---|---|---|---|---|---|---|"
+    yield "| Degrees | Problems | exactly 0 | exactly 1 | constant | at least order log N | open | one side whole, or one label alone |"
+    yield "|---|---|---|---|---|---|---|---|"
     for path, lines in tables:
         _, active, passive = title_of(path)
-        kinds = collections.Counter(kind_of(claim) for _, _, claim, _ in lines)
-        constant = {number for number, problem, _, _ in lines if is_constant(problem)}
-        solved = {number for number, _, claim, _ in lines if kind_of(claim).startswith("exactly")}
-        same = "the same problems as those solved" if constant == solved else f"differs: {sorted(constant ^ solved, key=int)}"
-        yield f"| {active}, {passive} | {len(lines)} | {kinds['exactly 0']} | {kinds['exactly 1']} | {kinds[NEVER]} | {kinds['open']} | {len(constant)}: {same} |"
+        kinds = collections.Counter(kind_of(it[2]) for it in lines)
+        classes = collections.Counter(class_of(it[4]) for it in lines)
+        constant = {it[0] for it in lines if is_constant(it[1])}
+        solved = {it[0] for it in lines if class_of(it[4]) == "constant"}
+        same = "the same problems as those that are constant" if constant == solved else f"differs: {sorted(constant ^ solved, key=int)}"
+        open_ones = len(lines) - classes["constant"] - classes["at least order log N"]
+        yield (f"| {active}, {passive} | {len(lines)} | {kinds['exactly 0']} | {kinds['exactly 1']} | {classes['constant']} | "
+               f"{classes['at least order log N']} | {open_ones} | {len(constant)}: {same} |")
+    yield ""
+
+
+def paths_part(tables):
+    """The problems on paths beside their class by an automaton, which paths.py computes."""
+    if not tables:
+        return
+    yield "## Paths, beside their classification by automata"
+    yield ""
+    yield "On paths (active and passive nodes of degree 2) the class of a problem can be read off an automaton (Chang, Studený and Suomela, Distributed"
+    yield "graph problems through an automata-theoretic lens, SIROCCO 2021): `paths.py` does so, knowing no step and no certificate. `order N` and"
+    yield "`unsolvable` count as at least order log N here. How many problems have which class by the automaton and by `settle`:"
+    yield ""
+    yield "| Labels | By the automaton | By `settle`, with unique identifiers | Problems |"
+    yield "|---|---|---|---|"
+    for path, lines in tables:
+        counts = collections.Counter((paths.class_of(it[1]), class_of(it[4])) for it in lines)
+        for (automaton, known), count in sorted(counts.items()):
+            yield f"| {title_of(path)[0]} | {automaton} | {known} | {count} |"
     yield ""
 
 
@@ -165,7 +192,7 @@ def open_part(tables):
             yield ""
             yield "| Number | Problem | Known | By |"
             yield "|---|---|---|---|"
-            for number, problem, claim, by in rest:
+            for number, problem, claim, by, *_ in rest:
                 yield f"| {number} | {problem} | {known_alone(claim)} | `{by}` |"
             yield ""
 
@@ -177,7 +204,8 @@ def main(words):
     for path, rows in tables:
         lines += counts_part(path, rows)
         lines += given_part(path, rows)
-    lines += binary_part([it for it in tables if title_of(it[0])[0] == 2])
+    lines += binary_part([it for it in tables if title_of(it[0])[0] == 2 and title_of(it[0])[1] > 2])
+    lines += paths_part([it for it in tables if title_of(it[0])[1:] == (2, 2)])
     lines += open_part(tables)
     print("\n".join(lines).rstrip("\n"))
 

@@ -1,0 +1,189 @@
+#!/usr/bin/env python3
+"""Runs `explore settle` on problems whose class is published, and writes the table beside it.
+
+    examples/literature/table.py EXPLORE [N] > examples/literature/README.md
+
+EXPLORE is the program; N is the number behind `settle`, if any. A row has the problem, who published its class, that class, what `settle` says,
+and the seconds it took. Where an answer contradicts what is published, the row and the exit code say so.
+
+The published classes are those of deterministic algorithms with unique identifiers on trees, for the degrees of the row: `constant`, `log*` (the
+order of log* n), `easy` (at most that), `log` (at least the order of log n, which problems of order n are too).
+"""
+import subprocess
+import sys
+import time
+from itertools import combinations
+
+LINIAL = "Linial 1992"
+NAOR = "Naor, Stockmeyer 1995"
+EDGES = "Panconesi, Rizzi 2001"
+SINKLESS = "Brandt, Fischer, Hirvonen, Keller, Lempiäinen, Rybicki, Suomela, Uitto 2016"
+DELTA = "Brandt et al. 2016; Chang, Kopelowitz, Pettie 2016"
+FEW_EDGES = "Chang, He, Li, Pettie, Uitto 2018"
+PARTIAL = "Balliu, Hirvonen, Lenzen, Olivetti, Suomela 2019"
+BINARY = "Balliu, Brandt, Efron, Hirvonen, Maus, Olivetti, Suomela 2020"
+PATHS = "Chang, Studený, Suomela 2021"
+ARB = "Balliu, Brandt, Kuhn, Olivetti 2022"
+HOMO = "Brandt, Chang, Grebík, Grunau, Rozhoň, Vidnyánszky 2022"
+HALL = "Brandt, Maus, Narayanan, Schager, Uitto 2025"
+MATCHING = "Hańćkowiak, Karoński, Panconesi 1998"
+RULING = "Balliu, Brandt, Olivetti 2020"
+HYPER = "Balliu, Brandt, Kuhn, Olivetti 2023"
+
+
+def colouring(degree, colours, passive=2):
+    """A proper colouring; around a passive node all colours differ."""
+    names = "123456789"[:colours]
+    sides = [f"{x}^{degree}" for x in names]
+    if passive == 2:
+        beside = [f"{x} [{names.replace(x, '')}]" for x in names]
+    else:
+        beside = [" ".join(chosen) for chosen in combinations(names, passive)]
+    return sides, beside
+
+
+def edge_colouring(degree, colours):
+    """A proper colouring of the edges."""
+    names = "123456789"[:colours]
+    return [" ".join(chosen) for chosen in combinations(names, degree)], [f"{x}^2" for x in names]
+
+
+def homomorphism(degree, edges):
+    """A homomorphism to a graph."""
+    nodes = sorted({x for edge in edges.split() for x in edge})
+    return [f"{x}^{degree}" for x in nodes], [f"{edge[0]} {edge[1]}" for edge in edges.split()]
+
+
+def independent(degree):
+    return [f"M^{degree}", f"P O^{degree - 1}"], ["M [PO]", "O^2"]
+
+
+def matching(degree):
+    return [f"M O^{degree - 1}", f"P^{degree}"], ["M^2", "O^2", "O P"]
+
+
+def two_sided(degree):
+    return [f"M O^{degree - 1}", f"P^{degree}"], [f"M [OP]^{degree - 1}", f"O^{degree}"]
+
+
+def exactly(degree, passive, active, others):
+    """A binary labelling: how many edges of an active node, and how many of a passive one, may have the label X."""
+    def side(count, k):
+        return " ".join(f"{label}^{power}" for label, power in (("X", k), ("O", count - k)) if power)
+
+    return [side(degree, k) for k in active], [side(passive, k) for k in others]
+
+
+PROBLEMS = [
+    ("2 colours, paths", PATHS, "log", *colouring(2, 2)),
+    ("3 colours, paths", LINIAL, "log*", *colouring(2, 3)),
+    ("4 colours, paths", LINIAL, "log*", *colouring(2, 4)),
+    ("maximal independent set, paths", LINIAL, "log*", *independent(2)),
+    ("maximal matching, paths", LINIAL, "log*", *matching(2)),
+    ("2 edge colours, paths", PATHS, "log", *edge_colouring(2, 2)),
+    ("3 edge colours, paths", LINIAL, "log*", *edge_colouring(2, 3)),
+    ("perfect matching, paths", PATHS, "log", ["M O"], ["M^2", "O^2"]),
+    ("consistent orientation, paths", PATHS, "log", ["I O"], ["I O"]),
+    ("any orientation, paths", PATHS, "constant", ["[IO]^2"], ["I O"]),
+    ("homomorphism to the 4-cycle, paths", PATHS, "log", *homomorphism(2, "AB BC CD DA")),
+    ("homomorphism to the 5-cycle, paths", PATHS, "log*", *homomorphism(2, "AB BC CD DE EA")),
+    ("2-ruling set, paths", RULING, "log*", ["M^2", "P O", "Q U"], ["M [POU]", "Q O", "O [OU]", "U^2"]),
+    ("weak 2-colouring, paths", NAOR, "log*", ["R r", "B b"], ["R [RBb]", "r [Bb]", "B^2"]),
+    ("2 colours, degree 3", SINKLESS, "log", *colouring(3, 2)),
+    ("3 colours, degree 3", DELTA, "log", *colouring(3, 3)),
+    ("4 colours, degree 3", LINIAL, "log*", *colouring(3, 4)),
+    ("5 colours, degree 3", LINIAL, "log*", *colouring(3, 5)),
+    ("3 colours, degree 4", DELTA, "log", *colouring(4, 3)),
+    ("4 colours, degree 4", DELTA, "log", *colouring(4, 4)),
+    ("5 colours, degree 4", LINIAL, "log*", *colouring(4, 5)),
+    ("maximal independent set, degree 3", LINIAL, "log*", *independent(3)),
+    ("maximal independent set, degree 4", LINIAL, "log*", *independent(4)),
+    ("maximal matching, degree 3", LINIAL, "log*", *matching(3)),
+    ("maximal matching, degree 4", LINIAL, "log*", *matching(4)),
+    ("2-ruling set, degree 3", RULING, "log*", ["M^3", "P O^2", "Q U^2"], ["M [POU]", "Q O", "O [OU]", "U^2"]),
+    ("sinkless orientation, degree 3", SINKLESS, "log", ["O [IO]^2"], ["I O"]),
+    ("sinkless orientation, degree 4", SINKLESS, "log", ["O [IO]^3"], ["I O"]),
+    ("sinkless orientation, degree 5", SINKLESS, "log", ["O [IO]^4"], ["I O"]),
+    ("sinkless orientation, degree 6", SINKLESS, "log", ["O [IO]^5"], ["I O"]),
+    ("no sinks, no sources, degree 3", SINKLESS, "log", ["I O [IO]"], ["I O"]),
+    ("any orientation, degree 3", NAOR, "constant", ["[IO]^3"], ["I O"]),
+    ("perfect matching, degree 3", BINARY, "log", *exactly(3, 2, [1], [0, 2])),
+    ("perfect matching, degree 4", BINARY, "log", *exactly(4, 2, [1], [0, 2])),
+    ("2-factor, degree 4", BINARY, "log", *exactly(4, 2, [2], [0, 2])),
+    ("orientation with one edge out, degree 3", BINARY, "log", *exactly(3, 2, [1], [1])),
+    ("3 edge colours, degree 3", FEW_EDGES, "log", *edge_colouring(3, 3)),
+    ("4 edge colours, degree 3", FEW_EDGES, "log", *edge_colouring(3, 4)),
+    ("5 edge colours, degree 3", EDGES, "log*", *edge_colouring(3, 5)),
+    ("4 edge colours, degree 4", FEW_EDGES, "log", *edge_colouring(4, 4)),
+    ("5 edge colours, degree 4", FEW_EDGES, "log", *edge_colouring(4, 5)),
+    ("6 edge colours, degree 4", FEW_EDGES, "log", *edge_colouring(4, 6)),
+    ("weak 2-colouring, degree 3", NAOR, "constant", ["R^2 r", "B^2 b"], ["R [RBb]", "r [Bb]", "B^2"]),
+    ("weak 2-colouring, degree 4", NAOR, "log*", ["R^3 r", "B^3 b"], ["R [RBb]", "r [Bb]", "B^2"]),
+    ("weak 2-colouring, degree 5", NAOR, "constant", ["R^4 r", "B^4 b"], ["R [RBb]", "r [Bb]", "B^2"]),
+    ("2-partial 2-colouring, degree 3", PARTIAL, "log", ["R r^2", "B b^2"], ["R [RBb]", "r [Bb]", "B^2"]),
+    ("2-partial 2-colouring, degree 4", PARTIAL, "log", ["R^2 r^2", "B^2 b^2"], ["R [RBb]", "r [Bb]", "B^2"]),
+    ("homomorphism to the 5-cycle, degree 3", HOMO, "log", *homomorphism(3, "AB BC CD DE EA")),
+    ("homomorphism to the 7-cycle, degree 3", HOMO, "log", *homomorphism(3, "AB BC CD DE EF FG GA")),
+    ("1-arbdefective 2 colours, degree 3", ARB, "easy", ["A^2 X", "B^2 X"], ["X [ABX]", "A B"]),
+    ("1-arbdefective 2 colours, degree 4", ARB, "log", ["A^3 X", "B^3 X"], ["X [ABX]", "A B"]),
+    ("heads of triples, degrees 3 and 3", BINARY, "constant", ["[IO]^3"], ["O I^2"]),
+    ("hypersinkless orientation, degrees 3 and 3", HALL, "log", ["O [IO]^2"], ["O I^2"]),
+    ("hypersinkless orientation, degrees 4 and 3", HALL, "log", ["O [IO]^3"], ["O I^2"]),
+    ("perfect matching of triples, degrees 3 and 3", BINARY, "log", *exactly(3, 3, [1], [0, 3])),
+    ("weak splitting, degrees 3 and 3", BINARY, "log", *exactly(3, 3, [1, 2], [0, 3])),
+    ("2 colours of hypergraphs, degrees 3 and 3", BINARY, "log", *exactly(3, 3, [0, 3], [1, 2])),
+    ("perfect matching with sides, degrees 3 and 3", BINARY, "log", *exactly(3, 3, [1], [1])),
+    ("7 colours of hypergraphs, degrees 3 and 3", LINIAL, "log*", *colouring(3, 7, 3)),
+    ("3 colours of hypergraphs, degrees 3 and 3", BINARY, "log", *colouring(3, 3, 3)),
+    ("maximal matching with sides, degrees 2 and 2", MATCHING, "constant", *two_sided(2)),
+    ("maximal matching with sides, degrees 3 and 3", MATCHING, "constant", *two_sided(3)),
+    ("maximal matching with sides, degrees 4 and 4", MATCHING, "constant", *two_sided(4)),
+]
+
+# What a published class leaves room for.
+LINES = {
+    "constant": ("constant", "more than"),
+    "log*": ("order log* N", "at least order log* N", "more than"),
+    "easy": ("constant", "order log* N", "at least order log* N", "more than"),
+    "log": ("at least order log N", "at least order log* N", "more than"),
+}
+SHOWN = {"constant": "constant", "log*": "order log\\* n", "easy": "at most order log\\* n", "log": "at least order log n"}
+
+
+def agrees(published, line):
+    """Whether the line on identifiers leaves room for the published class."""
+    return any(line == told or told in ("constant", "more than") and line.startswith(told) for told in LINES[published])
+
+
+def settled(explore, words, active, passive):
+    """The lines of the answer, and the seconds."""
+    text = "\n".join([*active, "", *passive]) + "\n"
+    start = time.monotonic()
+    run = subprocess.run([explore, "settle", *words], input=text, stdout=subprocess.PIPE, text=True)
+    if run.returncode not in (0, 1):
+        sys.exit(f"table.py: exit code {run.returncode}: {run.stdout}")
+    return run.stdout.splitlines(), time.monotonic() - start
+
+
+def main():
+    if not 2 <= len(sys.argv) <= 3:
+        sys.exit(__doc__)
+    explore, words = sys.argv[1], sys.argv[2:]
+    print("# What is published, and what `settle` says\n")
+    print("Made by `examples/literature/table.py`, which has each problem's text and says what the columns are. Seconds are of one core.\n")
+    print("| Problem | Published by | Published class | `settle` | with identifiers | s |")
+    print("|---|---|---|---|---|---|")
+    wrong = exact = 0
+    for name, source, published, active, passive in PROBLEMS:
+        lines, seconds = settled(explore, words, active, passive)
+        line = next(line for line in lines if line.startswith("with identifiers: ")).removeprefix("with identifiers: ")
+        fine = agrees(published, line)
+        wrong += not fine
+        exact += fine and not line.startswith("more than") and (line != "at least order log* N")
+        shown = line.replace("*", "\\*") + ("" if fine else " **contradicts**")
+        print(f"| {name} | {source} | {SHOWN[published]} | {lines[0]} | {shown} | {seconds:.1f} |", flush=True)
+    print(f"\nProblems: {len(PROBLEMS)}. The class that is published is found for {exact} of them; contradicted: {wrong}.")
+    sys.exit(wrong > 0)
+
+
+main()

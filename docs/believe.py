@@ -22,8 +22,8 @@ PAGE = os.path.join(TOP, "docs", "DEFINITIONS.md")
 BEGIN = "<!-- What follows is written by believe.py: begin -->"
 END = "<!-- written by believe.py: end -->"
 
-# Each group: its name, what it is, the calls with the clauses that it begins with ("" for all of a call that names none), and the definitions at
-# which it stops, since they are said to be no part of it.
+# Each group: its name, what it is, the calls with the clauses that it begins with (None for all of a call), or the definitions, as MODULE.NAME,
+# and the definitions at which it stops, since they are said to be no part of it.
 OTHER_WORDS = ["reading_outcome", "mapping_outcome", "tabling_outcome", "extracting_outcome", "making_outcome", "running_outcome"]
 GROUPS = [
     (
@@ -108,6 +108,24 @@ GROUPS = [
             ("re_local", "no_room_law", None),
         ],
         [],
+    ),
+    (
+        "What `explore` gives",
+        "what `GoesOn` and `IsTextOf` add, which say what the text of a chain or of a bound that was found is worth, beside the outcome of `check`.",
+        [("re_extend", "Extensions.GoesOn", None), ("re_chain_texts", "OverChains.IsTextOf", None)],
+        [],
+    ),
+    (
+        "What `explore` says",
+        "what the claim of `settle` and the meaning of the answers of `given`, `fit` and `solve` add. Nobody has to believe what shows a claim; "
+        "which steps are kept behind a refusal, the line says.",
+        [
+            ("re_settle", "Claims.Holds", None),
+            ("re_settle", "Claims.claim_of", None),
+            ("re_given_words", "Meanings.AnswerMeans", None),
+            ("re_graph_words", "GraphWords.AnswerMeans", None),
+        ],
+        ["kept_steps"],
     ),
 ]
 
@@ -377,13 +395,20 @@ def call(crate, name):
     return next(it for public, owner, it in calls_of(crate) if public and not owner and it.name == name)
 
 
+def definition_at(crate, path):
+    """The definition MODULE.NAME of a crate's specs, by its key, or nothing where there is none."""
+    module, _, name = path.partition(".")
+    definition = at_path(crate, (module,), name)
+    return {definition.key(): definition} if definition else {}
+
+
 # ---- the lists
 def groups():
     known = {}
     for title, what, begins, stops in GROUPS:
         roots = {}
         for crate, name, clauses in begins:
-            named = call(crate, name).named(clauses)
+            named = definition_at(crate, name) if "." in name else call(crate, name).named(clauses)
             if not named:
                 sys.exit(f"believe.py: {crate}::{name} names no definition in {clauses}")
             roots.update(named)
@@ -407,13 +432,10 @@ def by_module(found):
 def markdown():
     lines = []
     for title, what, found in groups():
-        crates = {}
-        for (crate, module), definitions in by_module(found):
-            crates.setdefault(crate, []).append(f"{module} {size(definitions)}")
-        listed = "; ".join(f"`{crate}` {', '.join(modules)}" for crate, modules in crates.items())
-        counts = f"{len(found)} definitions, {size(found.values())} lines"
-        lines += textwrap.wrap(f"**{title}**: {what} {counts}: {listed}.", 120, break_long_words=False, break_on_hyphens=False) + [""]
-    return "\n".join(lines).rstrip("\n")
+        crates = dict.fromkeys(f"`{crate}`" for (crate, _), _ in by_module(found))
+        counts = f"{len(found)} definitions, {size(found.values())} lines, in"
+        lines += textwrap.wrap(f"- **{title}**: {what} {counts} {', '.join(crates)}.", 120, subsequent_indent="  ", break_long_words=False, break_on_hyphens=False)
+    return "\n".join(lines)
 
 
 def page_text():

@@ -11,6 +11,7 @@ import {Script} from 'vm';
 import {deflateRawSync} from 'zlib';
 import {pageFolder, programsIn, sourceIn, unpacked} from './held.mjs';
 
+const LARGEST = 1050000;
 const examples = join(pageFolder, '../examples');
 const source = name => readFileSync(join(pageFolder, 'src', name), 'utf8');
 
@@ -79,8 +80,7 @@ const parts = {
     'MAIN': main,
     'MAIN HASH': sha256(main, 'base64'),
     'WORKER': safe(scriptOf('worker.js')),
-    'EXAMPLES': json(examplesHeld()),
-    'CATALOGUE': json(catalogueHeld()),
+    'EXAMPLES': packed(JSON.stringify(examplesHeld())),
     'PROGRAMS': json(Object.fromEntries(programs.map(({name, wasm}) => [name, packed(wasm)]))),
     'PROGRAMS HELD': programs
                          .map(({name, wasm, built}) =>
@@ -88,6 +88,15 @@ const parts = {
                          .join('; ') +
         '.',
 };
-const html = source('index.html').replace(/\/\*([A-Z ]+)\*\//g, (_, name) => parts[name]);
-writeFileSync(page, html);
-console.log(`${page}: ${html.length} bytes`);
+const htmlOf = () => source('index.html').replace(/\/\*([A-Z ]+)\*\//g, (_, name) => parts[name]);
+
+// The largest tables of the catalogue stay out of a file that would be too large.
+const tables = catalogueHeld(), left = Object.keys(tables).sort((a, b) => tables[a].length - tables[b].length), out = [];
+for (let html = '';; out.push(left.pop())) {
+    parts.CATALOGUE = json(Object.fromEntries(Object.entries(tables).filter(([name]) => left.includes(name))));
+    html = htmlOf();
+    if (html.length >= LARGEST && left.length) continue;
+    writeFileSync(page, html);
+    console.log(`${page}: ${out.length ? `without the tables ${out.join(', ')}: ` : ''}${html.length} bytes`);
+    break;
+}

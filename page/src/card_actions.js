@@ -33,7 +33,8 @@ export function cardActions(bench, card, view) {
 }
 
 function closureWithDiagram(bench, card, view) {
-    openDiagramDialog(diagram => bench.searches.run(card, view, 'closure', {...bench.numbers.closure, diagram}, false));
+    openDiagramDialog(
+        view.facts.problem.labels, edges => bench.searches.closure(card, view, bench.numbers.closure.k, edges), `${card.id} ${card.problem}`);
 }
 
 function moreMenu(bench, card, view) {

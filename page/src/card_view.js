@@ -1,7 +1,7 @@
 // One card: a problem with its constraints, diagrams, meanings and what can be done with it.
-import {button, code, copy, element, faulty, hint, plural, replace, say} from './dom.js';
+import {button, code, element, hint, intoView, plural, replace, say} from './dom.js';
 import {isStep, numberOf, stagesOf, titleOf} from './chains.js';
-import {CLAUSES} from './certificates.js';
+import {clauseFault} from './certificates.js';
 import {blockOf, SIDES} from './problems.js';
 import {cardActions, selectionActions} from './card_actions.js';
 import {DiagramView} from './diagram_view.js';
@@ -27,9 +27,9 @@ export class CardView {
         this.diagrams =
             Object.fromEntries(SIDES.map(side => [side, new DiagramView(engine, this.facts, side, () => this.fileName, onDraw)]));
         this.labels = new LabelsView(problem.labels, label => this.selected.includes(label), onDraw);
-        this.fault = element('div.fault', {role: 'alert', hidden: true});
+        this.fault = element('div.fault', {role: 'alert', 'aria-label': 'what is refused', hidden: true});
         this.selection = element('div.selection', {hidden: true, role: 'group', 'aria-label': 'selected labels'});
-        this.remarks = element('div.remarks', {'aria-live': 'polite'});
+        this.remarks = element('div.remarks', {role: 'log', 'aria-label': 'notes on this card'});
         this.tried = element('details.written', {hidden: true}, element('summary', {}),
             element('div.tried', {}, element('table', {}, element('tbody', {}))));
         this.actions = element('div.actions', {});
@@ -45,6 +45,7 @@ export class CardView {
         const body = element('div.body', {}, this.comment, element('div.problem', {}, constraints, pictures), this.labels.node,
             this.catalogue, this.fit, this.written, this.back, this.selection, this.actions, this.remarks, this.tried);
         this.workbench.tries.show(this);
+        this.workbench.notes.show(this);
         this.node = element('article.card', {tabIndex: -1, id: `card-${card.id}`}, this.head(), this.fault, body, this.branches);
     }
 
@@ -153,8 +154,8 @@ export class CardView {
             const {isSolvable, config} = await this.facts.zero();
             this.zero.className = `badge ${isSolvable ? 'yes' : 'no'}`;
             replace(this.zero, isSolvable ? ['0 rounds: yes, ', code(...lineParts(config))] : '0 rounds: no');
-            this.zero.title =
-                isSolvable ? 'solvable without communication: each active node outputs this' : 'not solvable without communication';
+            this.zero.title = isSolvable ? 'solvable without communication: each active node outputs this'
+                                         : 'not solvable without communication, with port numbers alone';
         } catch (error) { this.zero.textContent = `0 rounds: ${error.message}`; }
     }
 
@@ -251,7 +252,7 @@ export class CardView {
         this.node.classList.toggle('failing', Boolean(verdict));
         if (!verdict) return null;
         const more = element('div', {});
-        replace(this.fault, element('strong', {}, verdict.line), ` ${verdict.clause}: ${CLAUSES[verdict.clause]}.`, more);
+        replace(this.fault, element('strong', {}, verdict.line), ` ${clauseFault(verdict)}.`, more);
         return more;
     }
 
@@ -264,20 +265,17 @@ export class CardView {
 
     // ---- Notes below the problem.
 
-    note(...content) {
-        const note =
-            element('div.note', {}, ...content, button('×', () => note.remove(), {class: 'quiet close', 'aria-label': 'close the note'}));
-        this.remarks.prepend(note);
-        return note;
+    // A note as notes.js has it; it comes into view.
+    note(note) {
+        const node = this.workbench.notes.add(this, note);
+        if (this.node.isConnected && this.isOpen) intoView(node);
+        return node;
     }
 
-    noteText(title, text, more = []) {
-        return this.note(element('strong', {}, title), button('Copy', event => copy(text, event.currentTarget), {class: 'link'}),
-            element('pre', {tabIndex: 0}, text.trim() || '(none)'), ...more);
-    }
+    noteHint(text) { this.note({kind: 'hint', text}); }
 
     complain(text) {
-        this.note(faulty(text));
+        this.note({kind: 'fault', text});
         say(text, true);
     }
 }

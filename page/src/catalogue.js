@@ -1,5 +1,5 @@
-// The catalogue of all small problems: tables of lines `number, problem, answer, what shows it`, with tabs between. A problem stands in
-// it as `AAB ABB / AB BB`, under the names by which its text comes first.
+// The catalogue of all small problems: tables of lines `number, problem, answer, what shows it, class with identifiers, what shows that`,
+// with tabs between; the last two may lack. A problem stands in it as `AAB ABB / AB BB`, under the names by which its text comes first.
 import {configsOf, describe, SIDES} from './problems.js';
 import {byName} from './texts.js';
 
@@ -32,18 +32,24 @@ export function namedForCatalogue(text) {
     return least;
 }
 
-// {number, problem, answer, shownBy, count, names, isInOrder} of a problem, out of its table of `count` lines; null where it isn't in it.
-// `names` are [[label, its name there]], and `isInOrder` says whether the labels stand there in the same order.
+const commandsOf = column => column.split('; ').filter(Boolean);
+
+// {number, problem, claims, count, names, isInOrder} of a problem, out of its table of `count` lines; null where it isn't in it. `claims`
+// are [{line, shownBy}], as `explore settle` prints them, `names` are [[label, its name there]], and `isInOrder` says whether the labels
+// stand there in the same order.
 export function catalogueLine(table, text) {
     const found = namedForCatalogue(text), at = found === null ? -1 : table.indexOf(`\t${found.line}\t`);
     if (at < 0) return null;
     const start = table.lastIndexOf('\n', at) + 1, [line] = table.slice(start).split('\n', 1);
-    const [number, problem, answer, by] = line.split('\t'), names = [...found.names].sort(([one], [other]) => byName(one, other));
+    const [number, problem, answer, by = '', identifiers = '', identifiersBy = ''] = line.split('\t'),
+          names = [...found.names].sort(([one], [other]) => byName(one, other));
     return {
         number,
         problem,
-        answer,
-        shownBy: by.split('; '),
+        claims: [
+            {line: answer, shownBy: commandsOf(by)},
+            ...(identifiers ? [{line: `with identifiers: ${identifiers}`, shownBy: commandsOf(identifiersBy)}] : [])
+        ],
         count: table.trimEnd().split('\n').length,
         names,
         isInOrder: String(names) === String(found.names)

@@ -1,18 +1,15 @@
 // For a card whose problem is in the catalogue its line, with buttons for what shows it. The tables are unpacked when one is asked for.
-import {$, element, hint, plural} from './dom.js';
+import {claimNodes} from './claims.js';
+import {$, element, plural} from './dom.js';
+import {unpacked} from './packed.js';
 import {tableName} from './catalogue.js';
-
-function unpackedTable(packed) {
-    const bytes = Uint8Array.from(atob(packed), c => c.charCodeAt(0));
-    return new Response(new Blob([bytes]).stream().pipeThrough(new DecompressionStream('deflate-raw'))).text();
-}
 
 export class Catalogue {
     constructor(workbench) { Object.assign(this, {workbench, packed: JSON.parse($('#catalogue').textContent), tables: {}}); }
 
     async table(name) {
         if (!Object.hasOwn(this.packed, name)) return null;
-        this.tables[name] ||= unpackedTable(this.packed[name]);
+        this.tables[name] ||= unpacked(this.packed[name]).text();
         return this.tables[name];
     }
 
@@ -21,10 +18,10 @@ export class Catalogue {
         const {problem} = view.facts, table = await this.table(tableName(problem)), {engine, settling} = this.workbench;
         const found = table && await engine.work('catalogueLine', table, card.problem);
         if (!found) return null;
-        const {number, answer, shownBy, count} = found, {labels, active, passive} = problem,
+        const {number, claims, count} = found, {labels, active, passive} = problem,
                                         title = `of the ${plural(count, 'problem')} of ${plural(labels.length, 'label')} in degrees ${
                                             active.degree} and ${passive.degree} that stand there; under these names: ${found.problem}`;
         return element('div.group.catalogue', {}, element('span.hint', {title}, `The catalogue's line, number ${number}:`),
-            element('span.line', {}, answer), settling.buttons(card, view, shownBy, found));
+            claims.map(({line, shownBy}, i) => element(i ? 'span.group.grow' : 'span.group', {}, claimNodes(line), settling.buttons(card, view, shownBy, found))));
     }
 }

@@ -113,6 +113,13 @@ export const CLAUSES = {
         'the first labels of the renaming are exactly those of the last problem, each once and ascending; it is one to one, and makes the last problem the one to which it goes back',
 };
 
+// What a refusal says: at END what is wrong, else what the clause asks for.
+export function clauseFault({clause, kind}) {
+    if (clause !== 'END') return `${clause} asks: ${CLAUSES[clause]}`;
+    return kind === 'upper' ? 'END: the last problem is not solvable in 0 rounds, with port numbers alone, so this is no upper bound'
+                            : 'END: the last problem is solvable in 0 rounds, so this is no lower bound';
+}
+
 // The line of `check`: {line, accepted, refused, step, clause}.
 export function readVerdict(text) {
     const refused = /^refused: (?:step (\d+), )?clause (\w+)/.exec(text);

@@ -1,5 +1,4 @@
 // Steps and changes of a problem: commands of the program, and the cards that come of them.
-import {hint} from './dom.js';
 import {mapInput, pairLines, readStep} from './certificates.js';
 import {filledLines} from './texts.js';
 import {blockOf, mappedLines, problemText, SIDES} from './problems.js';
@@ -65,7 +64,7 @@ export class Changes {
         const {meanings, problem} = answer.status === 0 ? readStep(answer.text) : {problem: ''};
         if (answer.status !== 0 || problem.length > MOST_BYTES) {
             view.complain(answer.status !== 0 ? answer.text.trim() : 'The derived problem is larger than a text that the program reads.');
-            view.note(hint('Merge labels first (click two of them), or trim: a smaller problem has a smaller derived problem.'));
+            view.noteHint('Merge labels first (click two of them), or trim: a smaller problem has a smaller derived problem.');
             return;
         }
         const rows = await workbench.ask(view, ['universal'], card.problem, 'universal rows');
@@ -82,7 +81,7 @@ export class Changes {
         if (!answer) return;
         const count = filledLines(answer.text).length;
         if (answer.status !== 0) view.complain(answer.text.trim());
-        else view.noteText(`${count} maximal ${count === 1 ? 'row' : 'rows'} of the passive side`, answer.text);
+        else view.note({kind: 'text', what: `${count} maximal ${count === 1 ? 'row' : 'rows'} of the passive side`, text: answer.text});
     }
 
     // A relaxation by a map of labels, after `re relax` said yes. Two problems written out may be more than it reads, so they
@@ -160,7 +159,7 @@ export class Changes {
             return;
         }
         if (answer.text === card.problem) {
-            view.note(hint(`${program} ${word}: ${nothing}.`));
+            view.noteHint(`${program} ${word}: ${nothing}.`);
             return;
         }
         const {labels} = view.facts.problem, left = (await workbench.facts.learn(answer.text)).problem.labels;

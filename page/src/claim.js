@@ -1,7 +1,8 @@
 // The bar at the bottom: the line of `re check` on the chain that is shown, and offers to close it as a fixed point.
 import {$, button, code, element, hint, plural, replace} from './dom.js';
 import {kindsOf, numberOf, stagesOf} from './chains.js';
-import {CLAUSES, faultLine, mapInput, pairLines} from './certificates.js';
+import {clauseFault, faultLine, mapInput, pairLines} from './certificates.js';
+import {lineText, modelOf} from './claims.js';
 import {judge, relation, shownRefusal} from './judge.js';
 import {Stopped} from './engine.js';
 import {roundsOfGraph} from './reports.js';
@@ -63,7 +64,7 @@ export class Claim {
     }
 
     showVerdict(path, verdict) {
-        const {accepted, kind, line, refused, clause, certificate} = verdict, stages = stagesOf(path);
+        const {accepted, kind, line, refused, certificate} = verdict, stages = stagesOf(path);
         $('#algorithm').hidden = !(accepted && kind === 'upper');
         $('#claim').className = accepted ? 'accepted' : kind ? 'refused' : 'none';
         if (!kind) {
@@ -72,9 +73,10 @@ export class Claim {
             return;
         }
         const about = `${plural(stages.length - 1, 'step')} from problem ${numberOf(path, stages[0].at(-1))}`, fault = faultLine(line);
-        replace($('#verdict'), element('span.line', {id: 'verdict-line'}, line),
-            hint(` ${kind === 'fixed' ? 'fixed point' : `${kind} bound`}, ${about}`),
-            fault ? code(` “${certificate.split('\n')[fault - 1]}”`) : null, refused ? hint(` ${clause}: ${CLAUSES[clause]}`) : null);
+        const model = modelOf(line);
+        replace($('#verdict'), element('span.line', {id: 'verdict-line'}, lineText(line)),
+            hint(` ${model ? `${model} · ` : ''}${kind === 'fixed' ? 'fixed point' : `${kind} bound`}, ${about}`),
+            fault ? code(` “${certificate.split('\n')[fault - 1]}”`) : null, refused ? hint(` ${clauseFault(verdict)}`) : null);
     }
 
     // Where the first problem was changed before the first step: how the certificate's problem is related to it.

@@ -11,7 +11,7 @@ export class DiagramView {
         Object.assign(this, {engine, facts, side, name, onDraw, above: new Map()});
         this.caption = element('figcaption', {}, `${side} diagram`);
         this.content = element('div.picture', {});
-        this.node = element('figure', {'data-side': side}, this.caption, this.content);
+        this.node = element('figure', {'data-side': side, 'aria-label': `${side} diagram`}, this.caption, this.content);
     }
 
     // Whether `strong` may take the place of `weak`, as far as the program was asked.

@@ -1,11 +1,17 @@
 // The windows over the page: the frame of all of them, and the plain ones.
 import {$, button, copy, cut, download, element, faulty, hint, plural, replace, say} from './dom.js';
+import {lineText, modelOf} from './claims.js';
+import {DONE, keepDraft} from './drafts.js';
 import {LONGEST_SHOWN, NumberedArea} from './numbered_area.js';
 
 // So many characters of a certificate are shown; Copy and Download give all.
 const MOST_SHOWN_OF_CERTIFICATE = 20000;
 // Larger files are no texts of this page.
 const LARGEST_FILE = 64000000;
+// After so many ms a window that waits closes: faults come at once.
+const UNTIL_CLOSED = 1500;
+
+const FIRST_FIELD = 'textarea:not([readonly]), input:not([type=file]):not([type=checkbox]), select';
 
 export function openDialog(title, ...content) {
     const dialog = element('dialog', {'aria-label': title},
@@ -19,6 +25,8 @@ export function openDialog(title, ...content) {
     document.body.append(dialog);
     dialog.showModal();
     dialog.append($('#message'));
+    // The focus is where the user goes on, not on the button that closes.
+    (dialog.querySelector('[autofocus]') || dialog.querySelector(FIRST_FIELD) || dialog.querySelector('footer button, [tabindex]'))?.focus();
     return dialog;
 }
 
@@ -28,42 +36,68 @@ export function openWideDialog(title, ...content) {
     return dialog;
 }
 
-export const openHelpDialog = () => openWideDialog('Help', $('#help').content.cloneNode(true));
+export const openHelpDialog = () =>
+    openWideDialog('Help', element('div', {tabIndex: -1, autofocus: true, role: 'group', 'aria-label': 'help'}, $('#help').content.cloneNode(true)));
 
-export function openNoteDialog(note, onKeep) {
+// `key` is what the window is opened for: what was typed in it is kept for it.
+export function openNoteDialog(note, onKeep, key) {
     const area = element('textarea', {rows: 5, 'aria-label': 'note'});
     area.value = note || '';
     const keep = () => {
-        dialog.close();
+        dialog.close(DONE);
         onKeep(area.value.trim());
     };
     const dialog = openDialog('Note on the card', area, element('footer', {}, button('Keep', keep, {class: 'primary'})));
+    keepDraft(dialog, `note ${key}`);
 }
 
 // The name of a problem; none: its first line.
-export function openNameDialog(name, onKeep) {
+export function openNameDialog(name, onKeep, key) {
     const field = element('input', {type: 'text', value: name, maxLength: 80, 'aria-label': 'name'});
     const keep = event => {
         event.preventDefault();
-        dialog.close();
+        dialog.close(DONE);
         onKeep(field.value.trim());
     };
     const dialog = openDialog('Name of the problem',
         element('form', {onsubmit: keep}, field, element('footer', {}, element('button.primary', {type: 'submit'}, 'Keep'))));
+    keepDraft(dialog, `name ${key}`);
     field.select();
 }
 
-// The edges of a diagram of labels.
-export function openDiagramDialog(onKeep) {
-    const field = element('input', {type: 'text', 'aria-label': 'diagram', placeholder: 'A B, C D'});
-    const keep = event => {
+// The edges of a diagram of labels. `find(edges)` looks for the closure, of edges {text, line}; it answers a fault {line, text} at a line
+// that stands here, or nothing. The window stays open until there can be none.
+export function openDiagramDialog(labels, find, key, {text = '', fault = null} = {}) {
+    const area = new NumberedArea({label: 'diagram', placeholder: 'A B\nC D', fewest: 3, most: 8, onInput: () => replace(state)});
+    const state = element('div.state', {role: 'status', 'aria-label': 'what is at fault'});
+    const complain = ({line, text: said}) => {
+        area.number(line);
+        replace(state, faulty(`line ${line}: ${said}. `), hint(`An edge is two labels of this problem: ${labels.join(', ')}.`));
+        area.text.focus();
+    };
+    const start = async event => {
         event.preventDefault();
-        dialog.close();
-        onKeep(field.value);
+        const edges = area.value.split('\n').flatMap((row, i) => row.split(',').map(edge => ({text: edge.trim(), line: i + 1}))).filter(edge => edge.text);
+        replace(state, hint('asking…'));
+        const running = find(edges), wrong = await Promise.race([running, new Promise(resolve => setTimeout(resolve, UNTIL_CLOSED))]);
+        if (wrong) {
+            complain(wrong);
+            return;
+        }
+        const written = area.value;
+        dialog.close(DONE);
+        running.then(late => late && openDiagramDialog(labels, find, key, {text: written, fault: late}));
     };
     const dialog = openDialog('Closure with a diagram',
-        element('form', {onsubmit: keep}, hint('A B, C D: around passive nodes B may stand for A, and D for C. The problem that is raised so far has the closure.'),
-            field, element('footer', {}, element('button.primary', {type: 'submit'}, 'Find'))));
+        element('form', {onsubmit: start},
+            hint('One edge a line: after A B around passive nodes B may stand for A. The problem, so raised, has the closure.'), area.node, state,
+            element('footer', {}, element('button.primary', {type: 'submit'}, 'Find'))));
+    area.text.addEventListener('keydown', event => {
+        if (event.key === 'Enter' && (event.ctrlKey || event.metaKey)) start(event);
+    });
+    area.value = text;
+    keepDraft(dialog, `diagram ${key}`);
+    if (fault) complain(fault);
 }
 
 export function openCertificateDialog(verdict, bench) {
@@ -76,8 +110,8 @@ export function openCertificateDialog(verdict, bench) {
     const text = element('textarea.code', {readOnly: true, rows: 20, 'aria-label': 'certificate'});
     text.value = cut(certificate, MOST_SHOWN_OF_CERTIFICATE);
     const dialog = openDialog('Certificate',
-        element('p', {}, element('span', {class: accepted ? 'good line' : 'faulty line'}, line),
-            hint(` is what re check prints of this text, here and on the command line: re check < ${file}.txt`)),
+        element('p', {}, element('span', {class: accepted ? 'good line' : 'faulty line'}, lineText(line)),
+            hint(` ${modelOf(line)} is what re check prints of this text, here and on the command line: re check < ${file}.txt`)),
         text,
         isLong ? element('p', {},
                      hint(`The first ${MOST_SHOWN_OF_CERTIFICATE.toLocaleString('en')} of ${
@@ -94,7 +128,7 @@ export function openCertificateDialog(verdict, bench) {
 export function openTextDialog(bench, text = '') {
     // A text that is too long to be shown is held beside the area.
     let held = null, name;
-    const state = element('div.state', {role: 'status'});
+    const state = element('div.state', {role: 'status', 'aria-label': 'what is at fault'});
     const hold = large => {
         held = large;
         area.value = '';
@@ -118,7 +152,7 @@ export function openTextDialog(bench, text = '') {
     const open = async () => {
         const isHeld = held !== null, fault = await bench.sessions.openText(isHeld ? held : area.value, name);
         if (!fault) {
-            dialog.close();
+            dialog.close(DONE);
             return;
         }
         if (!isHeld) area.number(fault.line || 0);
@@ -140,6 +174,7 @@ export function openTextDialog(bench, text = '') {
         element(
             'footer', {}, button('Open', open, {class: 'primary'}), file, hint('Certificates are checked and shown as a chain of cards.')));
     set(text);
+    if (!text) keepDraft(dialog, 'open');
     area.text.focus();
     return {dialog, open, take};
 }

@@ -2,6 +2,7 @@
 import {button, element, faulty, hint, replace} from './dom.js';
 import {Editor} from './editor.js';
 import {openWideDialog} from './dialogs.js';
+import {DONE, keepDraft} from './drafts.js';
 import {chainBefore, startBridge} from './bridges.js';
 import {stagesOf} from './chains.js';
 import {describe, sideText} from './problems.js';
@@ -54,6 +55,8 @@ export async function openEditDialog(bench, card, view) {
     }
     const dialog = new EditDialog(bench, card, view);
     await dialog.editor.setText(await writtenText(bench.facts, card));
+    keepDraft(dialog.dialog, `edit ${card.id} ${card.problem}`);
+    if (dialog.dialog.open && !dialog.dialog.contains(document.activeElement)) dialog.editor.focus();
 }
 
 class EditDialog {
@@ -69,7 +72,7 @@ class EditDialog {
             }
         });
         this.help = element('span', {});
-        this.state = element('div.state', {role: 'status'});
+        this.state = element('div.state', {role: 'status', 'aria-label': 'what the program says'});
         this.editor = new Editor(bench.engine, {onRead: () => this.isTouched ? this.judge() : this.suggest()});
         // Where `explore` has the word, it looks for a whole step from the problem before; else the page looks for a map of labels.
         this.before = bench.words.has('bridge') ? chainBefore(bench, card) : null;
@@ -163,12 +166,13 @@ class EditDialog {
         const answer =
             await this.looked('looking for a step… ', await startBridge(bench, before, problem)).catch(error => ({text: error.message}));
         if (!answer.text.startsWith('==')) {
-            replace(this.state, faulty(`explore bridge: ${answer.text.trim()}`));
+            const said = answer.text.trim();
+            replace(this.state, faulty(said === 'no' ? 'There is no step to this problem: explore bridge says no.' : `explore bridge: ${said}`));
             return;
         }
         const cards =
             await bench.searches.cardsOf(answer.text, {title: 'edited', skipped: stagesOf(before).length - 1, written: () => written});
-        this.dialog.close();
+        this.dialog.close(DONE);
         await bench.append(before.at(-1), ...cards);
     }
 
@@ -181,7 +185,7 @@ class EditDialog {
             return;
         }
         const {problem, written} = {problem: editor.problem, written: editor.written};
-        this.dialog.close();
+        this.dialog.close(DONE);
         if (mode === 'relax') await bench.changes.relaxTo(card, problem, this.lines.map(labelsIn), 'relaxed', written);
         else
             await bench.append(card, {kind: 'change', title: mode === 'rows' ? 'relaxed by rows' : 'restricted', problem, written, ...map});

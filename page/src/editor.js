@@ -8,26 +8,43 @@ import {LONGEST_SHOWN, NumberedArea} from './numbered_area.js';
 const DELAY = 150;
 
 export class Editor {
-    // `onRead(canonical, written)` is told of each problem that is read (null: none), `onOther(text)` of a pasted text that is no problem to edit.
-    constructor(engine, {onRead = () => {}, onOther = null} = {}) {
-        Object.assign(this, {engine, onRead, onOther, problem: null});
+    // `onRead(canonical, written)` is told of each problem that is read (null: none), `onOther(text)` of a pasted text that is no problem to
+    // edit, and `onChange()` of what the user writes.
+    constructor(engine, {onRead = () => {}, onOther = null, onChange = () => {}} = {}) {
+        Object.assign(this, {engine, onRead, onOther, onChange, problem: null, isOwn: false});
         const area = (label, placeholder) =>
             new NumberedArea({label, placeholder, onInput: changed => this.changed(changed), onLarge: onOther});
         this.active = area('active constraint', 'M^3\nP O^2');
         this.passive = area('passive constraint', 'M [PO]\nO^2');
-        this.state = element('div.state', {role: 'status'});
+        this.state = element('div.state', {role: 'status', 'aria-label': 'what is written'});
+        this.old = element('div.old', {hidden: true});
         this.node = element('div.editor', {}, element('label', {}, element('span', {}, 'Active constraint'), this.active.node),
-            element('label', {}, element('span', {}, 'Passive constraint'), this.passive.node), this.state);
+            element('label', {}, element('span', {}, 'Passive constraint'), this.passive.node), this.state, this.old);
     }
 
+    get sides() { return {active: this.active.value, passive: this.passive.value}; }
     get text() { return `${this.active.value}\n\n${this.passive.value}\n`; }
     focus() { this.active.text.focus(); }
 
+    // `isOwn` says whether what stands here was written here, and nowhere else.
     set(active, passive) {
+        this.keepOld(active, passive);
+        this.isOwn = false;
         this.active.value = active;
         this.passive.value = passive;
         this.reading = null;
         return this.read();
+    }
+
+    // What was written here and stands nowhere else can be brought back.
+    keepOld(active, passive) {
+        const old = this.sides;
+        this.old.hidden = !this.isOwn || !this.text.trim() || old.active === active && old.passive === passive;
+        if (this.old.hidden) return;
+        replace(this.old, hint('What you wrote was replaced. '), button('Bring it back', () => {
+            this.set(old.active, old.passive);
+            this.isOwn = true;
+        }));
     }
 
     // A whole problem text: its blocks go to the two areas.
@@ -44,6 +61,9 @@ export class Editor {
 
     changed(area) {
         const {value} = area;
+        this.isOwn = true;
+        this.old.hidden = true;
+        this.onChange();
         this.reading = null;
         if (this.onOther && isCertificate(value)) {
             area.value = '';
@@ -111,7 +131,21 @@ export class Editor {
         if (line && line <= first) this.active.number(line);
         else if (line) this.passive.number(inPassive);
         const where = !line ? '' : line <= first ? ` (active, line ${line})` : ` (passive, line ${inPassive})`;
-        replace(this.state, faulty(answer), hint(where), advice(answer), this.bracketButton());
+        const area = line && line > first ? this.passive : this.active, row = area.value.split('\n')[(line > first ? inPassive : line) - 1];
+        replace(this.state, faulty(answer), hint(where), advice(answer, line ? row : ''), this.bracketButton());
+    }
+
+    // A fault that is none of the text: {text, isFaulty(line, side)}, at the first line that is at fault.
+    mark({text, isFaulty}) {
+        for (const side of ['active', 'passive']) {
+            const line = this[side].value.split('\n').findIndex(row => isFaulty(row.trim(), side)) + 1;
+            if (!line) continue;
+            this[side].number(line);
+            this[side].text.focus();
+            replace(this.state, faulty(text), hint(` (${side}, line ${line})`));
+            return;
+        }
+        replace(this.state, faulty(text));
     }
 
     // One click brackets for Round Eliminator's `M PO`.
@@ -125,7 +159,14 @@ export class Editor {
     }
 }
 
-function advice(answer) {
+// A bracket that is open on a line, or closed without being open.
+function openBracket(line) {
+    const pairs = [['[', ']'], ['(', ')']].map(pair => [...pair, ...pair.map(bracket => line.split(bracket).length)]);
+    const [open, close, opened, closed] = pairs.find(([, , one, other]) => one !== other) || [];
+    return !open ? null : opened > closed ? `A bracket ${open} is open: its ${close} lacks.` : `A bracket ${close} has no ${open} before it.`;
+}
+
+function advice(answer, row = '') {
     const found = Object
                       .entries({
                           'a block is missing': 'Write both constraints.',
@@ -133,5 +174,6 @@ function advice(answer) {
                           'a third block': 'No empty line may stand within a constraint.',
                       })
                       .find(([fault]) => answer.includes(fault));
-    return found ? element('div.hint', {}, found[1]) : null;
+    const said = openBracket(row) || found?.[1];
+    return said ? element('div.hint', {}, said) : null;
 }

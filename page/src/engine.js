@@ -20,6 +20,9 @@ export class Engine {
         this.kept = 0;
     }
 
+    // Whether something runs, or waits, that the user asked for.
+    get isBusy() { return this.tasks.size > 0 || [...this.running, ...this.waiting].some(job => !job.quiet); }
+
     // A run of a program: a job {title, started, isOver, answer, stop()}, its answer a promise of {status, text}.
     // Quiet jobs are those that the page starts by itself; `limit` stops a job after so many milliseconds;
     // `isPart` says that a task shows it.
@@ -48,12 +51,17 @@ export class Engine {
         return job;
     }
 
-    // What the user asked for comes before what the page asks for by itself, which leaves one worker free.
+    // What the user asked for comes before what the page asks for by itself, which leaves one worker free. Of the latter one may always run,
+    // or long searches would keep what another one found from being shown.
+    get nextAt() {
+        const {running, waiting, most} = this, asked = waiting.findIndex(job => !job.quiet);
+        if (asked >= 0 && running.size < most) return asked;
+        return running.size < most - 1 || ![...running].some(job => job.quiet) ? waiting.findIndex(job => job.quiet) : -1;
+    }
+
     next() {
-        while (this.waiting.length && this.running.size < this.most) {
-            let at = this.waiting.findIndex(job => !job.quiet);
-            if (at < 0 && this.running.size >= this.most - 1) return;
-            const [job] = this.waiting.splice(Math.max(0, at), 1);
+        for (let at; (at = this.nextAt) >= 0;) {
+            const [job] = this.waiting.splice(at, 1);
             job.worker = this.idle.pop() || this.newWorker();
             job.started = performance.now();
             this.running.add(job);

@@ -1,26 +1,35 @@
 // A finite graph as a picture: squares are active nodes, circles passive ones, small numbers are ports. And its window.
-import {button, copy, download, element, hint, replace} from './dom.js';
+import {faultLine} from './certificates.js';
+import {claimNodes} from './claims.js';
+import {button, copy, download, element, faulty, hint, replace} from './dom.js';
 import {openWideDialog} from './dialogs.js';
 import {graphInput, graphPlaces, readGraph, readSolution} from './graphs.js';
-import {pictureFile, svg} from './pictures.js';
+import {NumberedArea} from './numbered_area.js';
+import {filledRows} from './texts.js';
+import {inRem, pictureFile, svg} from './pictures.js';
 
 const MARGIN = 30;
 
 // `text` is what `solve` reads; `ask(text)` answers what it prints.
 export function openGraphDialog(text, ask) {
-    const {problem, lines} = readGraph(text),
-                    input = () => graphInput(problem, area.value.split('\n').map(row => row.trim()).filter(Boolean));
-    const line = element('p', {role: 'status'}), box = element('div.picture', {});
-    const area = element(
-        'textarea', {rows: Math.min(10, lines.length + 1), spellcheck: false, 'aria-label': 'graph: one line for each passive node'});
+    const {problem, lines} = readGraph(text), rows = () => filledRows(area.value), input = () => graphInput(problem, rows().map(row => row.text));
+    const line = element('p', {role: 'status', 'aria-label': 'what solve says'}), box = element('div.picture', {});
+    const area = new NumberedArea({label: 'graph: one line for each passive node', fewest: Math.min(10, lines.length + 1), most: 10});
     area.value = lines.join('\n');
+    // A fault at a line of the text that was sent is shown at the line that stands here.
+    const faultOf = said => {
+        const sent = faultLine(said), row = sent && rows()[sent - problem.trim().split('\n').length - 2];
+        return row && {line: row.line, text: said.replace(/^input: line \d+: /, '')};
+    };
     const draw = async () => {
         const now = input(), graph = readGraph(now);
         replace(line, hint('asking…'));
         const {line: said, labels} = readSolution((await ask(now).catch(error => ({text: error.message}))).text);
         if (now !== input()) return;
-        replace(line, element('span.line', {}, said), hint(' explore solve'));
-        replace(box, graph ? graphPicture(graph, labels) : null);
+        const fault = faultOf(said);
+        area.number(fault?.line || 0);
+        replace(line, fault ? faulty(`line ${fault.line}: ${fault.text}`) : claimNodes(said), hint(' explore solve'));
+        replace(box, graph && !fault ? graphPicture(graph, labels) : null);
     };
     const save = () => {
         const drawn = box.querySelector('svg');
@@ -29,7 +38,7 @@ export function openGraphDialog(text, ask) {
     openWideDialog('A finite graph', line, box,
         hint(
             'Squares are active nodes, circles passive ones; small numbers are ports. Nodes with equal views output the same, so an algorithm for the tree gives a solution here.'),
-        element('label.below', {}, hint('One line for each passive node: its ends, port q of active node u as u.q'), area),
+        element('label.below', {}, hint('One line for each passive node: its ends, port q of active node u as u.q'), area.node),
         element('footer', {}, button('Solve', draw, {class: 'primary'}),
             button('Copy problem and graph', event => copy(input(), event.currentTarget)),
             button('SVG', save, {'aria-label': 'download the graph as SVG'})));
@@ -45,12 +54,12 @@ export function graphPicture(graph, labels = null) {
     const picture = svg('svg', {
         class: 'run graph',
         viewBox: `${left.toFixed(0)} ${top.toFixed(0)} ${size.join(' ')}`,
-        width: size[0],
-        height: size[1],
+        width: inRem(size[0]),
+        height: inRem(size[1]),
         role: 'img'
     },
         svg('title', {}, title));
-    graph.passive.forEach((ends, s) => ends.forEach((end, i) => picture.append(...endNodes(active[end.node - 1], passive[s],
+    graph.passive.forEach((ends, s) => ends.forEach((end, i) => picture.append(endNode(active[end.node - 1], passive[s],
                                                         bendOf(ends, i), end.port, i + 1, labels?.[end.node - 1]?.[end.port - 1]))));
     active.forEach(({x, y}, u) => picture.append(svg('rect', {class: 'active', x: x - 11, y: y - 11, width: 22, height: 22, rx: 3}),
                        svg('text', {x, y: y + 5, 'text-anchor': 'middle'}, String(u + 1))));
@@ -66,7 +75,8 @@ function bendOf(ends, i) {
     return (at - (same.length - 1) / 2) * 44;
 }
 
-function endNodes(from, to, bend, port, passivePort, label) {
+// One end of a passive node, with its two ports and what the active node outputs at it.
+function endNode(from, to, bend, port, passivePort, label) {
     const dx = to.x - from.x, dy = to.y - from.y, d = Math.hypot(dx, dy) || 1,
           middle = {x: (from.x + to.x) / 2 - dy / d * bend, y: (from.y + to.y) / 2 + dx / d * bend};
     const at = (t, aside) => ({
@@ -83,5 +93,5 @@ function endNodes(from, to, bend, port, passivePort, label) {
         small(at(.28, aside), String(port)), small(at(.8, aside), String(passivePort))
     ];
     if (label) parts.push(svg('text', {class: 'output', ...at(.48, aside * 1.5), 'text-anchor': 'middle'}, label));
-    return parts;
+    return svg('g', {class: 'end'}, ...parts);
 }

@@ -3,7 +3,7 @@
 // Their names are those of `explore input`.
 export const INPUT_KINDS = [
     {kind: 'nothing', says: 'nothing'},
-    {kind: 'colouring', says: 'a colouring', counts: {label: 'colours', least: 1, most: 16, start: 4}},
+    {kind: 'colouring', says: 'a colouring', counts: {label: 'colours', most: 16, start: 4}},
     {kind: 'edges', says: 'an edge colouring'},
     {kind: 'sides', says: 'the two sides'},
     {kind: 'orientation', says: 'an orientation'},
@@ -19,6 +19,8 @@ export function inputCommand(words, kind, {active, passive}, count = 0) {
 }
 
 export const givenInput = (text, input) => `${text.trimEnd()}\n== given\n${input}`;
+// A chain, or a problem, with the edges of a diagram: lines `A B`, after which B stands at least as high as A.
+export const raisedInput = (text, edges) => [text.trimEnd(), '== diagram', ...edges, ''].join('\n');
 
 // What `fit` answers: {isSolvable, map: [[input label, labels as text]], line}.
 export function readFit(text) {
@@ -29,6 +31,6 @@ export function readFit(text) {
 
 // What `given` answers: its first line, and behind a refusal the bound of fewer steps that holds still.
 export function readGiven(text) {
-    const lines = text.trim().split('\n'), still = lines.slice(1).find(line => line.startsWith('accepted: '));
+    const lines = text.trim().split('\n'), still = lines.slice(1).find(line => line.startsWith('holds: '));
     return {line: lines[0], still: still || null, accepted: lines[0].startsWith('accepted: '), map: readFit(lines.slice(1).join('\n')).map};
 }

@@ -1,9 +1,11 @@
 // What runs, in the bar above: each with its time, what was found so far, and a button that stops it.
-import {$, button, code, element, hint, seconds} from './dom.js';
+import {$, button, element, hint, seconds} from './dom.js';
+import {nameOfJob} from './job_names.js';
 
 const EACH = 100, UNSEEN = 400;
 
-export function watchJobs(engine) {
+// `onBusy(isBusy)` is told whether something runs that the user asked for.
+export function watchJobs(engine, onBusy) {
     const box = $('#jobs'), rows = new Map();
     setInterval(() => {
         const now = performance.now();
@@ -20,14 +22,15 @@ export function watchJobs(engine) {
                 rows.delete(job);
             }
         box.hidden = !rows.size;
+        onBusy(engine.isBusy);
     }, EACH);
 }
 
 function rowOf(job, rows) {
     const time = element('span.time', {}), state = hint();
-    const node = element('div.job', {}, element('span.spinner', {'aria-hidden': 'true'}), code(job.title), time, state,
-        button('Stop', () => job.stop(), {'aria-label': `stop ${job.title}`}));
-    node.title = job.title;
+    const name = nameOfJob(job.title);
+    const node = element('div.job', {title: name}, element('span.spinner', {'aria-hidden': 'true'}), element('span.name', {}, name), time,
+        state, button('Stop', () => job.stop(), {'aria-label': `stop ${name}`}));
     rows.set(job, {node, time, state});
     return node;
 }

@@ -2,7 +2,7 @@
 import {button, element, plural, replace} from './dom.js';
 
 // Up to so many lines are shown at once; of more the first few, and a button for the rest.
-const MOST_AT_ONCE = 22, FEW = 14, ROOM = 3000, DIRECT = 200, DIRECT_ROOM = 20000, ROW = 22, SHOWN = 18, TALLEST = 8000000;
+const MOST_AT_ONCE = 22, FEW = 14, ROOM = 3000, DIRECT = 200, DIRECT_ROOM = 20000, SHOWN = 18, TALLEST = 8000000;
 
 // A line of a problem, its labels marked so that they can be pointed at.
 export function lineParts(line) {
@@ -65,7 +65,9 @@ export class LinesView {
 
     // A box to scroll in, whose lines are drawn as they come into view.
     window(starts) {
-        const {text, count} = this, full = count * ROW, tall = Math.min(full, TALLEST), height = SHOWN * ROW;
+        // A row is 1.375rem tall.
+        const row = 1.375 * parseFloat(getComputedStyle(document.documentElement).fontSize);
+        const {text, count} = this, full = count * row, tall = Math.min(full, TALLEST), height = SHOWN * row;
         const rows = element('div.rows', {}), space = element('div.space', {}, rows);
         const box = element('div.window', {tabIndex: 0, role: 'group', 'aria-label': `all ${count} lines, ${this.name}`}, space);
         space.style.height = `${tall}px`;
@@ -73,8 +75,8 @@ export class LinesView {
         const draw = () => {
             // Browsers bound how tall a box may be, so of very many lines the bar moves in larger steps.
             const part = tall > height ? box.scrollTop / (tall - height) : 0, top = part * Math.max(0, full - height);
-            const first = Math.max(0, Math.floor(top / ROW) - 4), last = Math.min(count, first + SHOWN + 9);
-            rows.style.top = `${box.scrollTop + first * ROW - top}px`;
+            const first = Math.max(0, Math.floor(top / row) - 4), last = Math.min(count, first + SHOWN + 9);
+            rows.style.top = `${box.scrollTop + first * row - top}px`;
             replace(rows, Array.from({length: last - first}, (_, i) => lineNode(text.slice(starts[first + i], starts[first + i + 1] - 1))));
             this.onDraw();
         };

@@ -2,9 +2,13 @@
 import {$, button, element, say} from './dom.js';
 import {Engine} from './engine.js';
 import {Editor} from './editor.js';
+import {keepTheme, keptTheme} from './keeper.js';
 import {listenToKeys} from './keys.js';
+import {NumberField, numbersOf} from './number_field.js';
 import {openHelpDialog, openTextDialog} from './dialogs.js';
+import {openShareDialog} from './share_dialog.js';
 import {watchJobs} from './jobs_view.js';
+import {unpacked} from './packed.js';
 import {listenToDrops, listenToPastes} from './paste.js';
 import {wordsOfExplore} from './words.js';
 import {Workbench} from './workbench.js';
@@ -13,10 +17,8 @@ import {Workbench} from './workbench.js';
 async function readPrograms() {
     const programs = {};
     for (const [name, packed] of Object.entries(JSON.parse($('#programs').textContent))) {
-        const bytes = Uint8Array.from(atob(packed), c => c.charCodeAt(0));
-        const stream = new Blob([bytes]).stream().pipeThrough(new DecompressionStream('deflate-raw'));
-        const unpacked = await new Response(stream).arrayBuffer();
-        programs[name] = {module: await WebAssembly.compile(unpacked), bytes: unpacked};
+        const bytes = await unpacked(packed).arrayBuffer();
+        programs[name] = {module: await WebAssembly.compile(bytes), bytes};
     }
     return programs;
 }
@@ -26,6 +28,7 @@ function startEditor(bench) {
     let title = '', titled = '';
     const openCard = async () => {
         if (!await editor.read()) return;
+        editor.isOwn = false;
         await bench.append(
             null, {kind: 'first', problem: editor.problem, written: editor.written, title: editor.text === titled ? title : undefined});
     };
@@ -35,6 +38,7 @@ function startEditor(bench) {
             open.disabled = !problem;
         },
         onOther: text => openTextDialog(bench, text).open(),
+        onChange: () => bench.keeper.changed(),
     });
     $('#editor').append(editor.node, element('div.group', {}, open));
     editor.node.addEventListener('keydown', event => {
@@ -47,16 +51,25 @@ function startEditor(bench) {
     };
 }
 
+const FAMILY_FIELDS = [
+    ['#family-a', {least: 2, most: 6, label: 'degree of active nodes'}], ['#family-p', {least: 2, most: 6, label: 'degree of passive nodes'}],
+    ['#family-n', {least: 1, most: 16, label: 'number of colours'}]
+];
+
 function startFamilies(bench, setText) {
-    const family = $('#family'), [active, passive, colours] = ['#family-a', '#family-p', '#family-n'].map($);
+    const family = $('#family'), fields = FAMILY_FIELDS.map(([id, values]) => new NumberField($(id), values)),
+          [, passive, colours] = fields;
     const show = () => {
-        colours.parentNode.hidden = family.value !== 'colouring';
-        passive.disabled = family.value === 'mis';
-        if (passive.disabled) passive.value = 2;
+        colours.input.disabled = colours.input.parentNode.hidden = family.value !== 'colouring';
+        passive.input.disabled = family.value === 'mis';
+        if (passive.input.disabled) passive.value = 2;
+        fields.forEach(field => field.mark());
     };
     family.addEventListener('change', show);
     $('#family-write').addEventListener('click', async () => {
-        const words = ['family', family.value, active.value, passive.value, family.value === 'colouring' ? colours.value : '0'];
+        const numbers = numbersOf(fields.filter(({input}) => !input.parentNode.hidden));
+        if (!numbers) return;
+        const words = ['family', family.value, ...[...numbers, 0].slice(0, 3).map(String)];
         const {status, text} = await bench.engine.ask('re', words, '', {quiet: true});
         if (status === 0) await setText(text, words.slice(1).join(' '));
         else say(`re ${words.join(' ')}: ${text.trim()}`, true);
@@ -64,8 +77,8 @@ function startFamilies(bench, setText) {
     show();
 }
 
-function startExamples(bench, setText) {
-    const examples = JSON.parse($('#examples').textContent), list = $('#gallery');
+async function startExamples(bench, setText) {
+    const examples = await unpacked($('#examples').textContent).json(), list = $('#gallery');
     for (const [group, texts] of Object.entries(examples)) {
         list.append(
             element('optgroup', {label: group}, Object.keys(texts).map(name => element('option', {value: `${group}\n${name}`}, name))));
@@ -95,6 +108,8 @@ function startBars(bench) {
         '#redo': () => bench.cards.redo(),
         '#open': () => openTextDialog(bench),
         '#save': () => bench.sessions.saveFile(),
+        '#share': () => openShareDialog(bench),
+        '#skip': () => skipToCards(bench),
         '#help-button': openHelpDialog,
         '#theme': changeTheme,
         '#report': () => bench.report.open(!bench.report.isOpen),
@@ -110,30 +125,47 @@ function changeTheme() {
     const {dataset} = document.documentElement,
           isDark = dataset.theme ? dataset.theme === 'dark' : matchMedia('(prefers-color-scheme: dark)').matches;
     dataset.theme = isDark ? 'light' : 'dark';
+    keepTheme(dataset.theme);
 }
 
-// How tall the line at the bottom is: what stands above it keeps clear of it.
-function watchFoot() {
-    const foot = $('#claim');
-    new ResizeObserver(() => document.documentElement.style.setProperty('--foot', `${foot.offsetHeight}px`)).observe(foot);
+// Past the bar and the editor, for the keyboard.
+function skipToCards(bench) {
+    const last = bench.cards.path().at(-1);
+    if (last) bench.go(last.id);
+    else $('#chain button')?.focus();
+}
+
+// How tall the line at the bottom is: what stands above it keeps clear of it; and how much of the bar stands above what runs, so that
+// in a low window this part of it may go out of sight.
+function watchBars() {
+    const foot = $('#claim'), bar = $('.bar'), jobs = $('#jobs'), {style} = document.documentElement;
+    const measure = () => {
+        style.setProperty('--foot', `${foot.offsetHeight}px`);
+        style.setProperty('--above', `${jobs.hidden ? bar.offsetHeight : Math.max(0, jobs.offsetTop - 4)}px`);
+    };
+    const watcher = new ResizeObserver(measure);
+    [foot, bar, jobs].forEach(node => watcher.observe(node));
 }
 
 async function start() {
+    const theme = keptTheme();
+    if (theme) document.documentElement.dataset.theme = theme;
     const engine = new Engine(await readPrograms(), $('#worker').textContent), words = await wordsOfExplore(engine).catch(() => new Set()),
           bench = new Workbench(engine, words);
     // For the tests, and whoever looks into the page.
     Object.assign(window, {bench, engine});
     const setText = startEditor(bench);
     startFamilies(bench, setText);
-    startExamples(bench, setText);
+    await startExamples(bench, setText);
     startBars(bench);
-    watchJobs(engine);
+    watchJobs(engine, isBusy => bench.sessions.noteBusy(isBusy));
     listenToKeys(bench);
     listenToPastes(bench);
     listenToDrops(bench);
-    watchFoot();
+    watchBars();
     window.addEventListener('hashchange', () => bench.sessions.load());
     if (!await bench.sessions.load()) bench.show();
+    await bench.keeper.start();
     document.body.classList.add('ready');
 }
 

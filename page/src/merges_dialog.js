@@ -22,7 +22,7 @@ class MergesDialog {
         Object.assign(this, {bench, card, view, rows: [], path: bench.cards.path(card.id)});
         this.pairs = labels.flatMap((x, i) => labels.slice(i + 1).map(y => [x, y]));
         this.earlier = stagesOf(this.path).slice(0, -1).map(stage => stage.at(-1));
-        this.state = element('div.state', {role: 'status'});
+        this.state = element('div.state', {role: 'status', 'aria-label': 'state'});
         this.progress = element('span', {});
         this.table = element('tbody', {});
         this.ahead = element('input', {type: 'checkbox', checked: labels.length <= 12});

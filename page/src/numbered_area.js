@@ -1,7 +1,7 @@
 // A text area with line numbers, in which the line of a fault is marked.
 import {element} from './dom.js';
 
-const LINE = 20, MOST_NUMBERS = 20000;
+const MOST_NUMBERS = 20000;
 // Longer texts would make the page stand still, and nobody edits them: they are held beside the area.
 export const LONGEST_SHOWN = 100000;
 
@@ -58,6 +58,6 @@ export class NumberedArea {
         this.numbered = count;
         this.node.classList.toggle('faulty', fault > 0);
         this.node.style.setProperty('--fault', fault);
-        if (fault > 0 && count > this.text.rows) this.text.scrollTop = this.gutter.scrollTop = Math.max(0, (fault - 4) * LINE);
+        if (fault > 0 && count > this.text.rows) this.text.scrollTop = this.gutter.scrollTop = Math.max(0, (fault - 4) * parseFloat(getComputedStyle(this.text).lineHeight));
     }
 }

@@ -11,6 +11,9 @@ export function svg(tag, values = {}, ...children) {
 
 const WIDEST = 32;
 
+// Pictures grow with the letters around them.
+export const inRem = length => `${(length / 16).toFixed(2)}rem`;
+
 // The classes as nodes with their widths: those that an arrow ties to others, and those without arrows.
 export function sizedNodes(classes, edges) {
     const ends = new Set(edges.flat());
@@ -26,7 +29,7 @@ export function drawDiagram(placed, free, title) {
     const {width, height, nodes, lines} = beside(placed, free);
     // Large pictures are drawn smaller, as long as they can be read.
     const scale = Math.max(.62, Math.min(1, 470 / height, 560 / width));
-    const size = {width: (width * scale).toFixed(0), height: (height * scale).toFixed(0)};
+    const size = {width: inRem(width * scale), height: inRem(height * scale)};
     const picture =
         svg('svg', {class: 'diagram', viewBox: `0 0 ${width.toFixed(0)} ${height}`, ...size, role: 'img'}, svg('title', {}, title));
     picture.append(...lines.map(arrowNode), ...nodes.map(classNode));

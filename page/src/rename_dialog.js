@@ -1,6 +1,7 @@
 // Other names for the labels of a card.
 import {button, code, cut, element, faulty, replace} from './dom.js';
 import {openDialog} from './dialogs.js';
+import {DONE, keepDraft} from './drafts.js';
 import {isName, labelNamed, nameOf} from './texts.js';
 import {meaningOf, originsOf} from './chains.js';
 
@@ -27,7 +28,7 @@ function faultOf(names) {
 }
 
 export function openRenameDialog(bench, card, view) {
-    const {labels} = view.facts.problem, path = bench.cards.path(card.id), state = element('div.state', {role: 'status'});
+    const {labels} = view.facts.problem, path = bench.cards.path(card.id), state = element('div.state', {role: 'status', 'aria-label': 'state'});
     const inputs = labels.map(label => element('input', {
         type: 'text',
         value: nameOf(label),
@@ -52,7 +53,7 @@ export function openRenameDialog(bench, card, view) {
         apply.disabled = Boolean(fault);
     };
     const rename = () => {
-        dialog.close();
+        dialog.close(DONE);
         bench.changes.renamed(card, view, names().map((name, i) => [labels[i], labelNamed(name)]));
     };
     const apply = button('Rename', rename, {class: 'primary'});
@@ -66,5 +67,6 @@ export function openRenameDialog(bench, card, view) {
             button('A, B, C…', () => fill(lettersFor(labels)))),
         element('form.renames', {onsubmit: submit}, rows, element('button', {type: 'submit', hidden: true})), state,
         element('footer', {}, apply));
+    keepDraft(dialog, `rename ${card.id} ${card.problem}`);
     inputs[0]?.select();
 }

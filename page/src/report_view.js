@@ -1,5 +1,5 @@
 // The report of `explore describe` on the chain that is shown, beside the cards; and all of it on paper.
-import {$, button, code, copy, download, element, faulty, hint, replace} from './dom.js';
+import {$, button, code, copy, download, element, faulty, hint, intoView, replace} from './dom.js';
 import {blocksOfReport, latexOfReport, partsOfText} from './reports.js';
 import {fileNameOf} from './texts.js';
 import {titleOf} from './chains.js';
@@ -15,9 +15,9 @@ export class ReportView {
             if (this.text) run(event.currentTarget);
         };
         replace($('#report-box'),
-            element('header.group', {}, element('h2', {}, 'Report'), button('Copy Markdown', give(from => copy(this.text, from))),
-                button('Copy LaTeX', give(from => copy(latexOfReport(this.text), from))),
-                button('Download', give(() => download(`${fileNameOf(titleOf(this.path[0]))}.md`, this.text, 'text/markdown'))),
+            element('header.group', {}, element('h2', {}, 'Report'), button('Copy Markdown', give(from => copy(this.whole, from))),
+                button('Copy LaTeX', give(from => copy(latexOfReport(this.whole), from))),
+                button('Download', give(() => download(`${fileNameOf(titleOf(this.path[0]))}.md`, this.whole, 'text/markdown'))),
                 button('Print', () => this.print(), {title: 'the chain, its diagrams, the claim and this report on paper (Ctrl+P)'}),
                 button('×', () => this.open(false), {class: 'quiet close', 'aria-label': 'close the report'})),
             this.content);
@@ -30,7 +30,10 @@ export class ReportView {
         $('#report-box').hidden = !isOpen;
         $('#report').setAttribute('aria-expanded', String(isOpen));
         document.body.classList.toggle('reading', isOpen);
-        if (isOpen) this.fill(this.path, this.verdict);
+        if (isOpen) {
+            this.fill(this.path, this.verdict);
+            intoView($('#report-box > header'));
+        }
         else $('#report').focus();
     }
 
@@ -51,7 +54,26 @@ export class ReportView {
             return;
         }
         this.text = answer.text;
-        const blocks = blocksOfReport(answer.text);
+        this.draw();
+    }
+
+    // What is given, and the line of `explore given`, as the last part of the report.
+    get givenPart() {
+        const {given} = this.workbench, input = this.path && given.of(this.path);
+        if (!input) return '';
+        const code = text => text.trim().split('\n').map(row => `    ${row}`).join('\n');
+        const said = given.said ? `\n\nWhat \`explore given\` says of the bound with that input:\n\n${code(given.said)}` : '';
+        return `\n## What is given\n\nThe nodes know a solution of this problem (${given.nameOf(input)}):\n\n${code(input.problem)}${said}\n`;
+    }
+
+    get whole() { return this.text + this.givenPart; }
+
+    showGiven() {
+        if (this.isOpen && this.text) this.draw();
+    }
+
+    draw() {
+        const {verdict} = this, blocks = blocksOfReport(this.whole);
         replace(this.content,
             verdict.certificate ? null : hint('This chain is neither a lower nor an upper bound: the report is of its first problem.'),
             blocks.slice(0, MOST_BLOCKS).map(blockNode),

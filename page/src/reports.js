@@ -14,8 +14,8 @@ export function blocksOfReport(markdown) {
             if (line.startsWith('```')) fenced = null;
             else fenced.lines.push(line);
         } else if (line.startsWith('```')) blocks.push(fenced = {kind: 'code', lines: []});
-        else if (!line.trim()) blocks.push({kind: 'gap'});
         else if (line.startsWith('    ')) addTo(blocks, last, 'code', line.slice(4));
+        else if (!line.trim()) blocks.push({kind: 'gap'});
         else if (heading) blocks.push({kind: 'heading', level: heading[1].length, lines: [heading[2]]});
         else if (line.startsWith('- ')) addTo(blocks, last, 'list', line.slice(2));
         else addTo(blocks, last, 'paragraph', line);

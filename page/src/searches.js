@@ -1,9 +1,11 @@
 // Searches for bounds from a card, in the background, and the cards of what they find.
-import {element, hint, seconds} from './dom.js';
+import {plural, seconds} from './dom.js';
 import {Stopped} from './engine.js';
+import {faultLine} from './certificates.js';
 import {stagesOf} from './chains.js';
-import {givenInput} from './inputs.js';
+import {givenInput, raisedInput} from './inputs.js';
 import {writtenChain} from './judge.js';
+import {exchanged} from './problems.js';
 import {runTask} from './tasks.js';
 
 const MOST_STEPS = 64, MOST_LABELS = 128, MOST_MERGES = 8, MOST_PROBLEMS = 1000000;
@@ -14,6 +16,9 @@ const DEEP = 16;
 
 const isFound = answer => answer.text.startsWith('==');
 const stepsIn = certificate => certificate.split('\n== step').length - 1;
+const stepsSaid = count => plural(count, 'step');
+// 1, 2, 4 .. steps, fewer than these.
+const fewerSteps = steps => [1, 2, 4, 8, 16, 32].filter(n => n < steps);
 const twice = (number, most) => Math.min(most, Math.max(1, 2 * number));
 
 export class Searches {
@@ -21,7 +26,7 @@ export class Searches {
 
     // Each search by its name in search_actions.js, with its numbers; `goesOn` where it is asked again with more.
     async run(card, view, name, numbers, goesOn) {
-        const {k, m, l, diagram} = numbers, search = {
+        const {k, m, l} = numbers, search = {
             lower: () => goesOn ? this.grow(card, view, m) : this.search(card, view, ['lower', k, m]),
             upper: () => this.search(card, view, ['upper', k, m]),
             fixed: () => this.search(card, view, ['fixed', k, m]),
@@ -29,22 +34,50 @@ export class Searches {
             longest: () => this.longest(card, view, k, l, goesOn),
             shortest: () => this.shortest(card, view, k, l, goesOn),
             cycle: () => this.cycle(card, view, k, m, goesOn),
-            closure: () => this.closure(card, view, k, diagram),
+            closure: () => this.closure(card, view, k),
             cover: () => this.workbench.settling.cover(card, view, m),
         };
         await search[name]();
     }
 
-    // A search of `re` from the card's problem.
+    // A search of `re` from the card's problem; beside one for a lower bound the same with fewer steps.
     search(card, view, numbers) {
-        const words = numbers.map(String);
-        return this.inTask(card, view, words.join(' '), async task => {
-            const answer = await task.ask('re', words, card.problem);
-            await this.tried(view, task, words.join(' '), answer);
+        const asked = numbers.map(String), [word, k, m] = numbers;
+        const fewer = word === 'lower' ? Array.from({length: Math.max(0, k - 1)}, (_, i) => ['lower', String(i + 1), String(m)]) : [];
+        return this.inTask(card, view, asked.join(' '), async task => {
+            const {words, answer} = await this.besides(view, task, 're', asked, fewer, card.problem), title = words.join(' ');
+            await this.tried(view, task, title, answer);
             if (!isFound(answer)) return null;
-            const title = words.join(' '), offset = this.stepsAbove(card);
-            return {what: title, certificate: answer.text, cards: await this.cardsOf(answer.text, {title, offset})};
+            return {
+                what: title,
+                certificate: answer.text,
+                cards: await this.cardsOf(answer.text, {title, offset: this.stepsAbove(card)})
+            };
         });
+    }
+
+    // A long run, {words, answer}, and beside it short ones, one after another: where the long one is stopped, the last short one that
+    // found something is what comes out. `said(answer)` says what one found, or nothing.
+    async besides(view, task, program, words, fewer, input, said = answer => isFound(answer) && stepsSaid(stepsIn(answer.text))) {
+        const long = task.start(program, words, input);
+        let best = null, short = null;
+        const runShort = async () => {
+            for (const next of fewer) {
+                short = task.start(program, next, input);
+                const answer = await short.answer, what = said(answer);
+                if (!what) return;
+                best = {words: next, answer};
+                task.state = `best so far: ${what}`;
+            }
+        };
+        runShort().catch(() => {});
+        try {
+            return {words, answer: await long.answer};
+        } catch (error) {
+            if (!best || !(error instanceof Stopped)) throw error;
+            view.noteHint(`${words.join(' ')}: stopped; the best so far is kept, that of ${best.words.join(' ')}.`);
+            return best;
+        } finally { short?.stop(); }
     }
 
     // Lower bounds of 1, 2 and more steps, until none is found.
@@ -60,18 +93,20 @@ export class Searches {
                     break;
                 }
                 best = {what: words.join(' '), certificate: answer.text};
-                task.state = `best so far: ${k} ${k === 1 ? 'step' : 'steps'}`;
+                task.state = `best so far: ${stepsSaid(k)}`;
             }
             return best && {...best, cards: await this.cardsOf(best.certificate, {title: best.what, offset: this.stepsAbove(card)})};
         });
     }
 
     rounds(card, view, k) {
-        const what = `rounds ${k}`;
-        return this.inTask(card, view, what, async task => {
-            const answer = await task.ask('re', ['rounds', String(k)], card.problem);
+        const asked = ['rounds', String(k)], fewer = Array.from({length: Math.max(0, k - 1)}, (_, i) => ['rounds', String(i + 1)]);
+        return this.inTask(card, view, asked.join(' '), async task => {
+            const {words, answer} = await this.besides(view, task, 're', asked, fewer, card.problem,
+                                        ({status, text}) => status <= 1 && text.startsWith('more than ') && text.trim()),
+                  what = words.join(' ');
             this.workbench.tries.add(view, what, answer.text.trim(), performance.now() - task.started);
-            view.note(element('strong', {}, `${what}:`), ` ${answer.text.trim()}`);
+            view.note({kind: 'answer', what: `${what}:`, line: answer.text.trim()});
             await this.roundsGiven(card, view, task, k);
             return null;
         });
@@ -81,30 +116,33 @@ export class Searches {
     async roundsGiven(card, view, task, k) {
         const {cards, given, tries, words} = this.workbench, input = given.at(cards.path(card.id), card),
                                     what = `rounds ${k} given that input`;
-        if (!input || !words.has('rounds')) return;
+        if (!input || task.isStopped || !words.has('rounds')) return;
         const line = (await task.ask('explore', ['rounds', String(k)], givenInput(card.problem, input))).text.trim();
         tries.add(view, what, line);
-        view.note(element('strong', {}, `${what}:`), ` ${line}`);
+        view.note({kind: 'answer', what: `${what}:`, line});
     }
 
     // ---- Words of `explore` that read the chain down to the card, and go on from it.
 
     longest(card, view, k, l, goesOn) {
         return this.fromChain(card, view, 'longest', 'lower', goesOn, async (task, chain) => {
-            const before = stepsIn(chain);
+            const before = stepsIn(chain), further = answer => isFound(answer) && plural(stepsIn(answer.text) - before, 'further step');
             let best = null, most = before - 1;
             for (let next = [k, l]; next;) {
                 const [steps, labels] = next, words = ['longest', String(steps), String(labels)];
-                const answer = await task.ask('explore', words, chain).catch(error => this.kept(error, best));
-                if (!answer) break;
+                const fewer = best ? [] : fewerSteps(steps).map(n => ['longest', String(n), String(labels)]);
+                const found = await this.besides(view, task, 'explore', words, fewer, chain, further).catch(error => this.kept(error, best));
+                if (!found) break;
+                const {answer} = found, what = found.words.join(' ');
                 const count = isFound(answer) ? stepsIn(answer.text) : -1;
-                if (count < 0 || count > most) await this.tried(view, task, words.join(' '), answer, `${count - before} further steps`);
+                if (count < 0 || count > most) await this.tried(view, task, what, answer, plural(count - before, 'further step'));
                 if (count < 0) break;
                 if (count > most) {
-                    best = {what: words.join(' '), certificate: answer.text};
+                    best = {what, certificate: answer.text};
                     most = count;
                 }
-                task.state = `best so far: ${most - before} further steps; now ${words.join(' ')}`;
+                if (task.isStopped) break;
+                task.state = `best so far: ${plural(most - before, 'further step')}; now ${words.join(' ')}`;
                 const more = count - before === steps ? [twice(steps, MOST_STEPS), labels] : [steps, twice(labels, MOST_LABELS)];
                 next = goesOn && String(more) !== String(next) ? more : null;
             }
@@ -145,15 +183,24 @@ export class Searches {
         });
     }
 
-    // The closure of the problem, raised by the edges of a diagram if some are written, else that of what 1, 2, .. k further steps lead to.
-    closure(card, view, k, diagram = '') {
-        const words = k ? ['closure', String(k)] : ['closure'], edges = diagram.split(',').map(edge => edge.trim()).filter(edge => edge),
-              what = [words.join(' '), ...edges.length ? ['with', edges.join(', ')] : []].join(' ');
-        return this.fromChain(card, view, 'closure', 'lower', false, async (task, chain) => {
-            const answer = await task.ask('explore', words, edges.length ? [chain.trimEnd(), '== diagram', ...edges, ''].join('\n') : chain);
+    // The closure of the problem, raised by the edges {text, line} of a diagram if some are written, else that of what 1, 2, .. k further steps
+    // lead to. Answers the fault {line, text} of an edge, at its line, or nothing.
+    async closure(card, view, k, edges = []) {
+        const words = k ? ['closure', String(k)] : ['closure'], raised = edges.map(({text}) => text.split(/\s+/).join(' → ')).join(', '),
+              what = edges.length ? `${words.join(' ')} of problem ${view.number.textContent} raised by ${raised}` : words.join(' ');
+        let fault = null;
+        await this.fromChain(card, view, what, 'lower', false, async (task, chain) => {
+            const before = chain.trimEnd().split('\n').length + 1,
+                  text = edges.length ? raisedInput(chain, edges.map(edge => edge.text)) : chain;
+            const answer = await task.ask('explore', words, text), wrong = edges[faultLine(answer.text) - before - 1];
+            if (wrong) {
+                fault = {line: wrong.line, text: `${answer.text.trim().replace(/^input: line \d+: /, '')}: “${wrong.text}”`};
+                return null;
+            }
             await this.tried(view, task, what, answer);
             return isFound(answer) ? {what, certificate: answer.text} : null;
         });
+        return fault;
     }
 
     // A search that begins with the chain, of this kind; `find(task, chain)` answers {what, certificate}, or null.
@@ -173,13 +220,20 @@ export class Searches {
         const {workbench} = this, here = workbench.cards.current, title = `${what} from problem ${view.number.textContent}`;
         const found = await runTask(workbench.engine, title, search).catch(error => {
             const isStopped = error instanceof Stopped, line = isStopped ? 'stopped' : error.message;
-            view.note(hint(`${title}: ${line}${isStopped ? '.' : ''}`));
+            view.noteHint(`${title}: ${line}${isStopped ? '.' : ''}`);
             workbench.tries.add(view, what, line);
             return null;
         });
         if (!found) return;
+        if (found.given) this.give(card, found.given);
         if (found.cards.length) await workbench.found(card, here, found.what, ...found.cards);
         else if (!await this.close(card, found.certificate)) await this.noteNoStep(view, found.what, found.certificate);
+    }
+
+    // What a card's problem is given, given to its chain.
+    give(card, given) {
+        const {cards, given: field} = this.workbench, isExchanged = this.stepsAbove(card) % 2 === 1;
+        field.keep(cards.path(card.id)[0], isExchanged ? {kind: 'problem', problem: exchanged(given.problem)} : given);
     }
 
     // A search that is stopped keeps the best that it has.
@@ -202,13 +256,13 @@ export class Searches {
     // A certificate that adds no card: the line of `check`, and the text that it speaks of.
     async noteNoStep(view, what, certificate) {
         const {text} = await this.workbench.engine.ask('re', ['check'], certificate, {quiet: true});
-        view.noteText(`${what}, without a further step: ${text.trim()}`, certificate);
+        view.note({kind: 'text', what: `${what}, without a further step: ${text.trim()}`, text: certificate});
     }
 
     noteNothing(view, what, text, time) {
         const cut = /cut [1-9]/.test(text) ? ' Cut: problems whose derived problem passes a limit.' : '';
         const more = text.startsWith('not found') ? `That nothing is found says nothing of the problem.${cut}` : '';
-        view.note(element('strong', {}, what), ` ${text.split('\n', 1)[0]} `, hint(`${more} ${seconds(time)}`));
+        view.note({kind: 'answer', what, line: text.split('\n', 1)[0], more: `${more} ${seconds(time)}`});
     }
 
     stepsAbove(card) { return stagesOf(this.workbench.cards.path(card.id)).length - 1; }

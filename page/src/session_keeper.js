@@ -3,7 +3,7 @@ import {$, button, download, element, faulty, replace, say} from './dom.js';
 import {faultLine} from './certificates.js';
 import {titleOf} from './chains.js';
 import {isGraphText, readGraph} from './graphs.js';
-import {isSession} from './sessions.js';
+import {isSession, sharedIn} from './sessions.js';
 import {blockOf, problemText} from './problems.js';
 import {blocksOf, fileNameOf} from './texts.js';
 
@@ -19,8 +19,8 @@ function writtenOf(text) {
 const askFirst = event => event.preventDefault();
 
 export class Sessions {
-    // `isSaved` says whether the address, or a file, holds what is shown.
-    constructor(workbench) { Object.assign(this, {workbench, isSaved: true}); }
+    // `isSaved` says whether the address, or a file, holds what is shown, `isBusy` whether a search runs.
+    constructor(workbench) { Object.assign(this, {workbench, isSaved: true, isBusy: false}); }
 
     get engine() { return this.workbench.engine; }
 
@@ -28,7 +28,9 @@ export class Sessions {
 
     async openText(text, title) {
         try {
-            if (isSession(text)) await this.openSession(text);
+            const shared = sharedIn(text);
+            if (shared) await this.openSession(await this.unpacked(shared));
+            else if (isSession(text)) await this.openSession(text);
             else if (isGraphText(text) && this.workbench.words.has('solve')) return await this.openGraph(text, title);
             else if (/^==/m.test(text)) return await this.openCertificate(text, title);
             else return await this.openProblem(text, title);
@@ -129,10 +131,20 @@ export class Sessions {
         if (turn === this.turn) this.noteSaved(true);
     }
 
-    // Where neither the address nor a file holds what is shown, the browser asks before the page is left.
+    // Where neither the address nor a file holds what is shown, or a search runs, the browser asks before the page is left. It listens only
+    // then: a page that always listens keeps browsers from leaving it at once.
     noteSaved(isSaved) {
         this.isSaved = isSaved;
-        if (isSaved) window.removeEventListener('beforeunload', askFirst);
+        this.listen();
+    }
+
+    noteBusy(isBusy) {
+        this.isBusy = isBusy;
+        this.listen();
+    }
+
+    listen() {
+        if (this.isSaved && !this.isBusy) window.removeEventListener('beforeunload', askFirst);
         else window.addEventListener('beforeunload', askFirst);
     }
 
@@ -142,7 +154,7 @@ export class Sessions {
         if (!found) return false;
         let text = found[1];
         try {
-            text = await this.engine.work('unpackSession', found[1]);
+            text = await this.unpacked(found[1]);
             await this.openSession(text);
             return true;
         } catch (error) {
@@ -150,6 +162,10 @@ export class Sessions {
             this.tellUnread(`The session in the address can't be read: ${error.message}.`, text);
             return false;
         }
+    }
+
+    async unpacked(packed) {
+        return this.engine.work('unpackSession', packed).catch(() => { throw new Error('it is damaged: a part of it lacks, or was changed'); });
     }
 
     // Nothing is lost: the address stays, and what it holds can be kept as a file.

@@ -4,6 +4,9 @@ import {isLabel} from './texts.js';
 const FORMAT = 're-workbench-1';
 
 export const sessionText = ({cards, current}) => JSON.stringify({format: FORMAT, current, cards});
+// What Share gives: a packed session behind some words; null in any other text.
+export const sharedIn = text => /(?:^|\s|\/)[^\s]*#s=([\w-]+)\s*$/.exec(text)?.[1] || null;
+
 export const isSession = text => /^\s*\{/.test(text.slice(0, 100));
 
 const isText = value => typeof value === 'string';
@@ -46,14 +49,35 @@ export function readSession(text) {
     if (!isRecord(state) || !isText(state.format) || !state.format.startsWith('re-workbench-')) throw new Error('not a saved session');
     if (state.format !== FORMAT) throw new Error(`a session of another version of this page (${state.format}; this one reads ${FORMAT})`);
     if (!Array.isArray(state.cards)) throw new Error('not a saved session: it has no cards');
+    return {cards: placed(state.cards), current: state.current};
+}
+
+// Cards in their form, each behind its parent; else it throws.
+function placed(cards) {
     const known = new Set();
-    for (const [i, card] of state.cards.entries()) {
+    for (const [i, card] of cards.entries()) {
         if (!isCard(card)) throw new Error(`card ${i + 1} of the session has another form`);
         const isPlaced = card.kind === 'first' ? card.parent === null : known.has(card.parent);
         if (known.has(card.id) || !isPlaced) throw new Error(`card ${i + 1} of the session is out of place`);
         known.add(card.id);
     }
-    return {cards: state.cards, current: state.current};
+    return cards;
+}
+
+// The cards with what undo and redo go back to, each card once: {cards, now, done, undone}, the states as [current, places of cards].
+export function historyOf({cards, current, done, undone}) {
+    const places = new Map(), placeOf = card => {
+        if (!places.has(card)) places.set(card, places.size);
+        return places.get(card);
+    };
+    const row = state => [state.current, state.cards.map(placeOf)], now = row({cards, current}), rows = [done, undone].map(states => states.map(row));
+    return {now, done: rows[0], undone: rows[1], cards: [...places.keys()]};
+}
+
+// {now, done, undone, all}: the states with their cards, and all cards; throws where it has another form.
+export function readHistory({now, done, undone, cards}) {
+    const state = ([current, places]) => ({current, cards: placed(places.map(place => cards[place]))});
+    return {now: state(now), done: done.map(state), undone: undone.map(state), all: cards};
 }
 
 // Packing for the address of the page.
@@ -65,7 +89,7 @@ const toBase64 = bytes => {
 };
 const fromBase64 = text => Uint8Array.from(atob(text.replace(/-/g, '+').replace(/_/g, '/')), c => c.charCodeAt(0));
 
-export const packSession = async state =>
-    toBase64(await through(new TextEncoder().encode(sessionText(state)), new CompressionStream('deflate-raw')));
+export const packText = async text => toBase64(await through(new TextEncoder().encode(text), new CompressionStream('deflate-raw')));
+export const packSession = state => packText(sessionText(state));
 export const unpackSession = async packed =>
     new TextDecoder().decode(await through(fromBase64(packed), new DecompressionStream('deflate-raw')));

@@ -1,8 +1,10 @@
 // What is known of a problem: the words `settle`, `cover` and `solve` of `explore`, and the commands that show it.
+import {claimNodes} from './claims.js';
 import {button, code, element, hint} from './dom.js';
 import {openGraphDialog} from './graph_view.js';
 import {isGraphText} from './graphs.js';
 import {Stopped} from './engine.js';
+import {givenInput, inputCommand, raisedInput} from './inputs.js';
 import {commandsIn, nameLabels, readSettled} from './settled.js';
 import {runTask} from './tasks.js';
 
@@ -12,7 +14,7 @@ export class Settling {
     async settle(card, view) {
         const {workbench} = this, title = `settle problem ${view.number.textContent}`;
         const answer = await runTask(workbench.engine, title, task => task.ask('explore', ['settle'], card.problem)).catch(error => {
-            view.note(hint(`${title}: ${error instanceof Stopped ? 'stopped.' : error.message}`));
+            view.noteHint(`${title}: ${error instanceof Stopped ? 'stopped.' : error.message}`);
             return null;
         });
         if (!answer) return;
@@ -20,9 +22,14 @@ export class Settling {
             view.complain(answer.text.trim());
             return;
         }
-        const {line, shownBy} = readSettled(answer.text);
-        workbench.tries.add(view, 'settle', line);
-        view.note(element('strong', {}, 'settle: '), element('span.line', {}, line), ' ', this.buttons(card, view, shownBy));
+        for (const {line} of readSettled(answer.text)) workbench.tries.add(view, line.startsWith('with ') ? 'settle, with identifiers' : 'settle', line);
+        view.note({kind: 'settled', text: answer.text});
+    }
+
+    // What `settle` printed: its claim, with what shows it, and below it each further line, as that on unique identifiers.
+    lines(view, text) {
+        return readSettled(text).map(({line, shownBy}, i) => element('div.settled', {}, element('strong', {}, i ? '' : 'settle: '),
+            claimNodes(line), ' ', this.buttons(view.card, view, shownBy)));
     }
 
     // A button for each command that shows what is known: it opens the chain, or draws the graph. Where it was found under other names,
@@ -45,9 +52,11 @@ export class Settling {
         return searches.inTask(card, view, what, async task => {
             const named = names ? [await changes.underNames(card, view, names)] : [];
             if (named.includes(null)) return null;
-            let answer = {text: [card, ...named].at(-1).problem};
-            for (const {program, words} of commands) {
-                answer = await task.ask(program, words, answer.text);
+            let answer = {text: [card, ...named].at(-1).problem}, given;
+            for (const {program, words, colours, diagram} of commands) {
+                if (colours) given = await this.colouring(task, card, colours);
+                const {text} = answer;
+                answer = await task.ask(program, words, colours ? givenInput(text, given.problem) : diagram ? raisedInput(text, [diagram]) : text);
                 if (answer.status !== 0) break;
             }
             if (isGraphText(answer.text)) {
@@ -59,8 +68,17 @@ export class Settling {
                 return null;
             }
             const found = await searches.cardsOf(answer.text, {title: what, offset: searches.stepsAbove(card)});
-            return {what, certificate: answer.text, cards: found.length ? [...named, ...found] : []};
+            return {what, certificate: answer.text, cards: found.length ? [...named, ...found] : [], given};
         });
+    }
+
+    // A proper colouring as what is given to a card's problem.
+    async colouring(task, card, count) {
+        const {active, passive} = this.workbench.facts.of(card.problem).problem,
+              {program, words} = inputCommand(this.workbench.words, 'colouring', {active, passive}, count),
+              {status, text} = await task.ask(program, words);
+        if (status !== 0) throw new Error(`${program} ${words.join(' ')}: ${text.trim()}`);
+        return {kind: 'colouring', count, problem: text};
     }
 
     // ---- Graphs without a solution.
@@ -70,7 +88,7 @@ export class Settling {
     async showGraph(view, what, text) {
         const {line} = await this.solve(text).then(({text: said}) => ({line: said.trim().split('\n', 1)[0]}));
         this.workbench.tries.add(view, what, `a graph: ${line}`);
-        view.note(element('strong', {}, what), ' ', element('span.line', {}, line), ' ', button('Draw the graph', () => this.draw(text)));
+        view.note({kind: 'graph', what, line, text});
         this.draw(text);
     }
 

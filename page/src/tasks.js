@@ -17,6 +17,15 @@ export class Task {
         return this.answer(() => this.engine.start(program, words, input, {quiet: false, isPart: true, ...options}));
     }
 
+    // A run that may also be stopped by itself.
+    start(program, words, input) {
+        if (this.isStopped) throw new Stopped('stopped');
+        const job = this.engine.start(program, words, input, {quiet: false, isPart: true}), forget = () => this.jobs.delete(job);
+        this.jobs.add(job);
+        job.answer.then(forget, forget);
+        return job;
+    }
+
     work(work, ...args) { return this.answer(() => this.engine.startWork(work, args, {isPart: true})); }
 
     async answer(start) {

@@ -75,6 +75,9 @@ export const fileNameOf = name => name.toLowerCase().replace(/[^a-z0-9]+/g, '-')
 // Lines that aren't empty, trimmed.
 export const filledLines = text => text.split('\n').map(line => line.trim()).filter(Boolean);
 
+// The same with the number of each, from 1: [{text, line}].
+export const filledRows = text => text.split('\n').map((row, i) => ({text: row.trim(), line: i + 1})).filter(row => row.text);
+
 // Blocks of lines that aren't empty.
 export function blocksOf(text) {
     const blocks = [[]];

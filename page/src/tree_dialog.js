@@ -2,7 +2,7 @@
 import {button, code, copy, download, element, faulty, hint, replace} from './dom.js';
 import {deliveriesOf, randomFrom, readRun, ringPlaces, runInput, treeAround} from './trees.js';
 import {openWideDialog} from './dialogs.js';
-import {pictureFile, svg} from './pictures.js';
+import {inRem, pictureFile, svg} from './pictures.js';
 import {stagesOf} from './chains.js';
 
 const FEW_NODES = 60, NEAR = 3, FEW_LINES = 60;
@@ -23,7 +23,7 @@ class TreeDialog {
             rounds: stagesOf(path).length - 1,
             degrees: {active: active.degree, passive: passive.degree}
         });
-        this.state = element('div.state', {role: 'status'});
+        this.state = element('div.state', {role: 'status', 'aria-label': 'state'});
         this.picture = element('div.picture', {});
         this.table = element('div', {});
         this.whole = element('input', {type: 'checkbox', onchange: () => this.draw()});
@@ -51,13 +51,14 @@ class TreeDialog {
     }
 
     async draw() {
-        const nodes = treeAround(this.degrees, this.rounds + 1, randomFrom(this.seed));
+        const turn = this.turn = {}, nodes = treeAround(this.degrees, this.rounds + 1, randomFrom(this.seed));
         if (!nodes) {
             replace(this.state, 'The tree for so many rounds has more than 2,000 nodes.');
             return;
         }
         this.input = runInput(this.verdict.certificate, nodes, deliveriesOf(nodes, this.rounds));
         const {text} = await this.bench.engine.ask('re', ['run'], this.input).catch(error => ({text: error.message}));
+        if (turn !== this.turn) return;
         if (!text.startsWith('node')) {
             replace(this.state, faulty(text.trim()));
             return;
@@ -90,7 +91,7 @@ function drawRun(nodes, standing) {
     const [left, top] = [Math.min(...xs) - margin, Math.min(...ys) - margin],
                  [width, height] = [Math.max(...xs) + margin - left, Math.max(...ys) + margin - top];
     const box = [left, top, width, height].map(n => n.toFixed(0));
-    const picture = svg('svg', {class: 'run', viewBox: box.join(' '), width: box[2], height: box[3], role: 'img'},
+    const picture = svg('svg', {class: 'run', viewBox: box.join(' '), width: inRem(box[2]), height: inRem(box[3]), role: 'img'},
         svg('title', {}, 'The tree with what its active nodes output'));
     const edges = nodes.map((node, v) => ({node, v})).filter(({node}) => node.parent !== null);
     for (const {node, v} of edges)

@@ -1,5 +1,5 @@
 // The workbench: the cards, the chain that is shown, and what leads from card to card.
-import {$, button, copy, download, element, hint, replace, say} from './dom.js';
+import {$, copy, download, replace, say} from './dom.js';
 import {Cards} from './cards.js';
 import {numberOf, titleOf} from './chains.js';
 import {CardList} from './card_list.js';
@@ -11,6 +11,8 @@ import {Facts} from './facts.js';
 import {Given} from './given_view.js';
 import {Stopped} from './engine.js';
 import {openCertificateDialog, openNameDialog, openNoteDialog} from './dialogs.js';
+import {Keeper} from './keeper.js';
+import {Notes} from './notes.js';
 import {ReportView} from './report_view.js';
 import {firstNumbers} from './search_actions.js';
 import {Settling} from './settling.js';
@@ -35,7 +37,9 @@ export class Workbench {
         this.views = new Map();
         this.numbers = firstNumbers();
         this.tip = new Tip();
-        this.tries = new Tries(this);
+        this.keeper = new Keeper(this);
+        this.tries = new Tries(this, () => this.keeper.changed());
+        this.notes = new Notes(this, () => this.keeper.changed());
         this.given = new Given(this);
         this.claim = new Claim(this);
         this.changes = new Changes(this);
@@ -79,10 +83,10 @@ export class Workbench {
         const focused = document.activeElement, nodes = views.map(({node}) => node);
         if (nodes.length !== chain.children.length || nodes.some((node, i) => node !== chain.children[i])) replace(chain, nodes);
         if (focused !== document.activeElement && chain.contains(focused)) focused.focus({preventScroll: true});
-        if (!path.length) replace(chain, $('#welcome').content.cloneNode(true));
+        if (!path.length) replace(chain, $('#welcome').content.cloneNode(true), this.keeper.offers());
         document.title = path.length ? `${titleOf(path[0])} – re workbench` : 're workbench: round elimination with checked bounds';
         this.list.show(path);
-        this.sessions.save();
+        this.sessions.save().then(() => this.keeper.changed());
         this.given.show(path);
         this.claim.check(path);
     }
@@ -132,7 +136,7 @@ export class Workbench {
         }
         const now = this.cards.current, last = this.cards.add(card.id, ...cards);
         this.cards.select(now);
-        this.view(this.cards.get(card.id)).note(element('strong', {}, what), ' found. ', button('Show', () => this.go(last.id)));
+        this.view(this.cards.get(card.id)).note({kind: 'found', what, id: last.id});
         say(`${what}: found; the cards stand behind problem ${numberOf(this.cards.path(card.id), card)}.`);
     }
 
@@ -148,7 +152,7 @@ export class Workbench {
         try {
             return await job.answer;
         } catch (error) {
-            view.note(hint(error instanceof Stopped ? `${title}: stopped.` : `${title}: ${error.message}`));
+            view.noteHint(error instanceof Stopped ? `${title}: stopped.` : `${title}: ${error.message}`);
             return null;
         }
     }
@@ -169,8 +173,8 @@ export class Workbench {
         await this.editor.setText(await writtenText(this.facts, card));
         this.editor.focus();
     }
-    note(card) { openNoteDialog(card.note, note => this.cards.amend(card.id, {note: note || undefined})); }
-    nameChain(card) { openNameDialog(titleOf(card), title => this.cards.amend(card.id, {title: title || undefined})); }
+    note(card) { openNoteDialog(card.note, note => this.cards.amend(card.id, {note: note || undefined}), card.id); }
+    nameChain(card) { openNameDialog(titleOf(card), title => this.cards.amend(card.id, {title: title || undefined}), card.id); }
     certificate() { openCertificateDialog(this.claim.verdict, this); }
     tree() { openTreeDialog(this); }
 }

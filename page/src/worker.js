@@ -4,7 +4,7 @@ import {describe, lineStarts, mapped, without, withArrow} from './problems.js';
 import {coveringLines, grouped} from './groups.js';
 import {findRelaxation, findRenaming} from './maps.js';
 import {layout} from './layout.js';
-import {packSession, readSession, sessionText, unpackSession} from './sessions.js';
+import {packSession, packText, readHistory, readSession, sessionText, unpackSession} from './sessions.js';
 import {catalogueLine} from './catalogue.js';
 import {certificateAlone, readCertificate, stepLines} from './certificates.js';
 
@@ -20,6 +20,8 @@ const WORK = {
     findRenaming,
     layout,
     packSession,
+    packText,
+    readHistory,
     readSession,
     sessionText,
     unpackSession,

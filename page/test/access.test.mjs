@@ -58,6 +58,11 @@ function faultsShown() {
         const ratio = contrast(numbers(getComputedStyle(node).fill), ground(node.closest('figure, dialog, .card')));
         if (isShown(node) && !node.closest('.picked') && ratio < 4.5) say(node, `contrast ${ratio.toFixed(2)}`);
     }
+    for (const node of document.querySelectorAll('figure, [role=status], [role=log], [role=alert], section, aside, nav'))
+        if (isShown(node) && !node.getAttribute('aria-label') && !node.closest('.problem section') && node.parentElement.tagName !== 'ASIDE') say(node, 'a region without a name');
+    for (const node of document.querySelectorAll(':is(h1, h2, h3, h4) :is(button, input, select, a)')) say(node, 'a control in a heading');
+    for (const node of document.querySelectorAll('input, select, textarea'))
+        if (isShown(node) && (node.getAttribute('aria-label') || node.labels?.[0]?.textContent || '').trim().length < 3) say(node, 'a name that says nothing');
     const ids = [...document.querySelectorAll('[id]')].map(node => node.id);
     ids.filter((id, i) => ids.indexOf(id) !== i).forEach(id => faults.add(`twice: ${id}`));
     for (const image of document.querySelectorAll('svg[role=img]'))
@@ -141,6 +146,8 @@ async function keyboard(page, checks) {
         throw new Error(`Tab does not come to ${name}`);
     };
     await page.go();
+    await page.key('Tab');
+    checks.equal('Tab begins with a way past the editor', await page.value(at), 'To the cards');
     await tabTo('active constraint');
     await page.write('M^3\nP O^2');
     await page.key('Tab');
@@ -149,6 +156,14 @@ async function keyboard(page, checks) {
     await page.key('Enter', {modifiers: 2});
     await page.until(`${cardsAre(1)} && ${drawn}`);
     checks.check('the card has the focus', await page.value(`document.activeElement.matches('.card')`));
+    // Past the bar and the editor.
+    await page.until(`(document.querySelector('#undo').focus(), document.activeElement.id === 'undo')`);
+    await wait(200);
+    await page.key('Tab', {modifiers: 8});
+    checks.equal('a way past the editor', await page.value(at), 'To the cards');
+    checks.check('it is seen', await page.value(`document.activeElement.getBoundingClientRect().top >= 0`));
+    await page.key('Enter');
+    checks.check('it leads to the card', await page.value(`document.activeElement.matches('.card.last')`));
     await tabTo('Step', '.card.last');
     await page.key('Enter');
     await page.until(`${cardsAre(2)} && ${drawn}`);

@@ -40,7 +40,7 @@ export async function openBrowser({width = 1366, height = 768, dark = false} = {
     const child = spawn('chromium',
         [
             '--headless=new', '--no-sandbox', '--disable-gpu', '--remote-debugging-pipe', `--user-data-dir=${profile}`,
-            `--window-size=${width},${height}`, '--hide-scrollbars', 'about:blank'
+            `--window-size=${width},${height}`, 'about:blank'
         ],
         {stdio: ['ignore', 'ignore', 'ignore', 'pipe', 'pipe']});
     const {send, events} = connect(child), {targetInfos} = await send('Target.getTargets');
@@ -74,9 +74,31 @@ const codeOf = key => key === ' ' ? 'Space' : /^[a-z]$/i.test(key) ? `Key${key.t
 class Page {
     constructor(ask, events, close) { Object.assign(this, {ask, events, close}); }
 
+    // The page opened by a user who never had it open: nothing is kept from before.
     async go(address = `file://${pageFile}`) {
+        // What still runs is stopped, so that the browser doesn't ask before the page is left.
+        await this.value(`(() => { if (!globalThis.bench) return;
+            engine.tasks.clear();
+            [...engine.running, ...engine.waiting].forEach(job => job.stop());
+            bench.sessions.noteSaved(true);
+            bench.sessions.noteBusy(false); })()`);
+        const {identifier} =
+            await this.ask('Page.addScriptToEvaluateOnNewDocument', {source: 'try { localStorage.clear(); sessionStorage.clear(); } catch {}'});
+        await this.ask('Page.navigate', {url: 'about:blank'});
+        await this.open(address);
+        await this.ask('Page.removeScriptToEvaluateOnNewDocument', {identifier});
+    }
+
+    // The page opened once more, with what it kept.
+    async open(address = `file://${pageFile}`) {
         await this.ask('Page.navigate', {url: 'about:blank'});
         await this.ask('Page.navigate', {url: address});
+        await this.until('document.body?.classList.contains("ready")');
+    }
+
+    async reload() {
+        await this.value('document.body.classList.remove("ready")');
+        await this.ask('Page.reload');
         await this.until('document.body?.classList.contains("ready")');
     }
 

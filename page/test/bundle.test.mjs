@@ -1,17 +1,18 @@
 // The file: made of these sources, closed to the network, and without a way for a text to become markup.
 import {createHash} from 'crypto';
 import {spawnSync} from 'child_process';
-import {mkdtempSync, readdirSync, readFileSync, rmSync, writeFileSync} from 'fs';
+import {existsSync, mkdtempSync, readdirSync, readFileSync, rmSync, writeFileSync} from 'fs';
 import {tmpdir} from 'os';
 import {join} from 'path';
+import {deflateRawSync} from 'zlib';
 import {checked} from './checks.mjs';
-import {unpacked} from '../held.mjs';
+import {sourceIn, unpacked} from '../held.mjs';
 import {catalogueTables, html, namesOfPrograms, pageFolder, wasmOf} from './place.mjs';
 
 const text = html(), built = /This file holds <span class="build">([^]*?)<\/span>/.exec(text)[1];
 
 await checked('its size and what it holds', (checks, context) => {
-    checks.check(`under 1.2 MB: ${text.length}`, text.length < 1200000);
+    checks.check(`under 1.05 MB: ${text.length}`, text.length < 1050000);
     checks.check(`its commit is written into it: ${built}`, /from commit [0-9a-f]{40}\b/.test(built));
     checks.equal('the programs', namesOfPrograms(), ['re', 'explore']);
     for (const name of namesOfPrograms())
@@ -21,18 +22,29 @@ await checked('its size and what it holds', (checks, context) => {
 });
 
 await checked('made anew from its sources', checks => {
-    // Made anew from the sources, with the programs that it holds.
-    const folder = mkdtempSync(join(tmpdir(), 'page-')), again = join(folder, 'again.html');
-    writeFileSync(again, text);
-    spawnSync('node', [join(pageFolder, 'bundle.mjs'), again]);
-    checks.check('bundle.mjs makes the same file of the sources', readFileSync(again, 'utf8') === text);
+    const folder = mkdtempSync(join(tmpdir(), 'page-')), again = join(folder, 'again.html'), file = name => join(folder, `${name}.wasm`);
+    // Into an empty folder, of the programs as modules.
+    for (const name of namesOfPrograms()) writeFileSync(file(name), wasmOf(name));
+    const made = (...words) => {
+        const {status, stdout} = spawnSync('node', [join(pageFolder, 'bundle.mjs'), again, ...words]);
+        return `${status} ${stdout.toString().endsWith(' bytes\n')} ${existsSync(again) && readFileSync(again, 'utf8') === text}`;
+    };
+    checks.equal('bundle.mjs makes the same file in an empty folder', made(...namesOfPrograms().map(name => `${name}=${file(name)}=${sourceIn(text, name)}`)),
+        '0 true true');
+    // Over a file whose own modules were lost, of the programs that it holds.
+    writeFileSync(again, text.replace(/<script type="module">[^]*?<\/script>/, '<script type="module"></script>'));
+    checks.equal('and over a page with other modules', made(), '0 true true');
     rmSync(folder, {recursive: true});
 });
 
 await checked('the catalogue is that of the examples', checks => {
     const held = JSON.parse(/<script [^>]*id="catalogue">([^]*?)<\/script>/.exec(text)[1]), tables = catalogueTables();
-    checks.equal('its tables', Object.keys(held).sort(), Object.keys(tables).sort());
-    for (const [name, table] of Object.entries(tables)) checks.check(name, unpacked(held[name]).toString() === table);
+    for (const [name, table] of Object.entries(tables)) {
+        // One that is left out has no room.
+        if (held[name]) checks.check(name, unpacked(held[name]).toString() === table);
+        else checks.check(`${name} has no room`, text.length + deflateRawSync(table, {level: 9}).length * 4 / 3 >= 1050000);
+    }
+    checks.check('no other tables', Object.keys(held).length > 0 && Object.keys(held).every(name => tables[name]));
 });
 
 await checked('the policy: no network, no other scripts', checks => {

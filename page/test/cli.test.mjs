@@ -60,6 +60,18 @@ await checked('what a shell gives: an empty argument, streams that fail, argumen
     shell(`RE family mis 3 2 0 > /dev/full`, 'a full device');
     shell(`(sleep 0.3; echo 'A B'; sleep 0.3; printf '\\nA B') | RE read`, 'an input that comes late');
     shell(`RE family mis 6 2 0 | RE lower 2 0 | RE check`, 'a pipe of three');
+    for (const behind of ['', '; exit $?']) {
+        shell(`RE family mis 3 2 0 >&-${behind}`, 'a closed output');
+        shell(`RE read <&-${behind}`, 'a closed input');
+        shell(`RE family mis 3 2 0 <&-${behind}`, 'a closed input that is not read');
+        shell(`RE family mis 3 2 0 > /dev/null${behind}`, 'an output that is thrown away');
+        shell(`RE read < /dev/null${behind}`, 'an empty input');
+    }
+    // Streams that another program than a shell throws away are open.
+    checks.equal('ignored', spawnSync(process.execPath, [cli, 're', 'family', 'mis', '3', '2', '0'], {stdio: ['ignore', 'ignore', 'ignore']}).status, 0);
+    const alone = spawnSync(process.execPath, [cli], {input: ''});
+    checks.check(`alone it says how it is used: ${alone.stderr}`,
+        alone.status === 2 && !alone.stdout.length && alone.stderr.toString().startsWith('usage: node page/cli.mjs PROGRAM WORD.. < FILE\n'));
     checks.equal('no such program', spawnSync(process.execPath, [cli, 'what', 'check'], {input: ''}).status, 2);
 });
 

@@ -10,9 +10,14 @@ import {changesSessions} from './user/changes.mjs';
 import {failuresSessions} from './user/failures.mjs';
 import {givenSessions} from './user/given.mjs';
 import {inAndOutSessions} from './user/in_and_out.mjs';
+import {keptSessions} from './user/kept.mjs';
+import {lateSessions} from './user/late.mjs';
+import {numbersSessions} from './user/numbers.mjs';
 import {placesSessions} from './user/places.mjs';
 import {problemsSessions} from './user/problems.mjs';
 import {searchingSessions} from './user/searching.mjs';
+import {smallSessions} from './user/small.mjs';
+import {wordsSessions} from './user/words.mjs';
 import {sessionsSessions} from './user/sessions.mjs';
 import {settlingSessions} from './user/settling.mjs';
 
@@ -45,10 +50,15 @@ const sessions = {
     ...failuresSessions,
     ...givenSessions,
     ...inAndOutSessions,
+    ...keptSessions,
+    ...lateSessions,
+    ...numbersSessions,
     ...placesSessions,
     ...problemsSessions,
     ...searchingSessions,
     ...sessionsSessions,
+    ...smallSessions,
+    ...wordsSessions,
     ...settlingSessions
 };
 for (const [name, session] of Object.entries(sessions)) {

@@ -18,3 +18,15 @@ export async function teach(page, answers) {
 
 export const teachMissing = (page, answers) =>
     teach(page, Object.fromEntries(Object.entries(answers).filter(([words]) => !explored.has(words.split(' ')[0]))));
+
+// The next answers to each of these commands, `check` or `explore given`, come so late, also where the job is stopped meanwhile: they were
+// on their way.
+export const delay = (page, commands, ms, times = 1) => page.value(`(() => {
+    const late = new Map(${JSON.stringify(commands)}.map(command => [command, ${times}])), start = engine.start.bind(engine);
+    engine.start = (program, words, input, options) => {
+        const job = start(program, words, input, options), command = [words[0], words.join(' ')].find(name => late.get(name));
+        if (!command) return job;
+        late.set(command, late.get(command) - 1);
+        return {...job, stop() {}, answer: job.answer.then(answer => new Promise(resolve => setTimeout(() => resolve(answer), ${ms})))};
+    };
+})()`);

@@ -7,14 +7,18 @@ import * as chains from '../src/chains.js';
 import * as sessions from '../src/sessions.js';
 import {catalogueLine, namedForCatalogue, tableName} from '../src/catalogue.js';
 import {graphPlaces, isGraphText, readGraph, readSolution} from '../src/graphs.js';
-import {inputCommand, readFit, readGiven} from '../src/inputs.js';
+import {inputCommand, raisedInput, readFit, readGiven} from '../src/inputs.js';
 import {findRelaxation, findRenaming} from '../src/maps.js';
 import {blocksOfReport, latexOfReport, partsOfText, roundsOfGraph} from '../src/reports.js';
 import {commandsIn, nameLabels, readSettled} from '../src/settled.js';
+import {clauseFault} from '../src/certificates.js';
+import {inWords, modelOf} from '../src/claims.js';
+import {nameOfJob} from '../src/job_names.js';
+import {sharedIn} from '../src/sessions.js';
 import {wordsIn} from '../src/words.js';
 import {deliveriesOf, randomFrom, readRun, runInput, treeAround} from '../src/trees.js';
 import {checked} from './checks.mjs';
-import {answer, catalogueTables, certificatesOfGallery, example, linesOfTable, namesIn, natively, randomFrom as numbersFrom, re} from './place.mjs';
+import {answer, catalogueTables, certificatesOfGallery, claimsOfLine, example, linesOfTable, namesIn, natively, randomFrom as numbersFrom, re} from './place.mjs';
 
 // The test that runs.
 let checks = null;
@@ -202,9 +206,9 @@ await about('what is given', () => {
     is('the same without signs', readFit('yes\n1 [A]\n'), {isSolvable: true, map: [['1', '[A]']], line: 'yes'});
     is('none', readFit('no\n'), {isSolvable: false, map: [], line: 'no'});
     const refused = readGiven(
-        'refused: given that input, step 2, clause END\nyes:\n1 = [A]\naccepted: given that input, not solvable in 1 or fewer rounds\n');
+        'refused: given that input, step 2, clause END\nyes\n1 [A]\nholds: given that input, not solvable in 1 or fewer rounds\n');
     is('refused, with what holds still', [refused.accepted, refused.line, refused.still, refused.map], [
-        false, 'refused: given that input, step 2, clause END', 'accepted: given that input, not solvable in 1 or fewer rounds',
+        false, 'refused: given that input, step 2, clause END', 'holds: given that input, not solvable in 1 or fewer rounds',
         [['1', '[A]']]
     ]);
 });
@@ -228,15 +232,54 @@ await about('reports', () => {
 
 await about('what settles a problem', () => {
     is('lines', readSettled('more than 4, at most 6 (3 rounds of the graph)\nby: re lower 4 0\nby: re upper 6 1\n'),
-        {line: 'more than 4, at most 6 (3 rounds of the graph)', shownBy: ['re lower 4 0', 're upper 6 1']});
+        [{line: 'more than 4, at most 6 (3 rounds of the graph)', shownBy: ['re lower 4 0', 're upper 6 1']}]);
+    is('further lines, each with what shows it, whatever they are',
+        readSettled('not solvable in any number of rounds\nby: re fixed 4 0\nwith identifiers: order log* N\nby: explore rounds 8 given 4 colours\nanother line\n'),
+        [
+            {line: 'not solvable in any number of rounds', shownBy: ['re fixed 4 0']},
+            {line: 'with identifiers: order log* N', shownBy: ['explore rounds 8 given 4 colours']}, {line: 'another line', shownBy: []}
+        ]);
     is('a command', commandsIn('explore cycle 3 1 2000', ['re', 'explore']), [{program: 'explore', words: ['cycle', '3', '1', '2000']}]);
-    is('a pipe', commandsIn('explore merge A B | explore closure', ['re', 'explore']),
-        [{program: 'explore', words: ['merge', 'A', 'B']}, {program: 'explore', words: ['closure']}]);
+    is('a command with a colouring that is given', commandsIn('explore shortest 12 8 given 4 colours', ['re', 'explore']),
+        [{program: 'explore', words: ['shortest', '12', '8'], colours: 4}]);
+    for (const [a, b] of [['A', 'B'], [`'A'`, `'B'`]])
+        is('a pipe', commandsIn(`explore merge ${a} ${b} | explore closure`, ['re', 'explore']),
+            [{program: 'explore', words: ['merge', 'A', 'B']}, {program: 'explore', words: ['closure']}]);
+    is('labels with long names', commandsIn(`explore merge '(Far)' 'B'`, ['explore']), [{program: 'explore', words: ['merge', '(Far)', 'B']}]);
+    is('a diagram', commandsIn('explore closure with diagram (Far) C', ['explore']),
+        [{program: 'explore', words: ['closure'], diagram: '(Far) C'}]);
+    is('what a diagram raises', raisedInput('A B\n\nA B\n', ['A B']), 'A B\n\nA B\n== diagram\nA B\n');
     is('names of labels',
-        ['explore merge A B | explore closure', 're lower 2 0', 'explore step | explore closure 2'].map(
+        ['explore merge A B | explore closure', 'explore closure with diagram A B', 're lower 2 0', 'explore step | explore closure 2'].map(
             text => nameLabels(commandsIn(text, ['re', 'explore']))),
-        [true, false, false]);
-    is('no command', [commandsIn('rm file', ['re', 'explore']), commandsIn('re', ['re'])], [null, null]);
+        [true, true, false, false]);
+    is('no command', ['rm file', 're', 'explore closure of problem A', `explore merge 'A' 'B`, ''].map(text => commandsIn(text, ['re', 'explore'])),
+        [null, null, null, null, null]);
+});
+
+await about('what lines say in words', () => {
+    is('the model of a claim',
+        [
+            'accepted: not solvable in 2 or fewer rounds', 'accepted: given that input, not solvable in 2 or fewer rounds',
+            'with identifiers: at least order log N', 'accepted: solvable in 1 rounds', 'more than 4'
+        ].map(modelOf),
+        ['with port numbers alone', 'with port numbers and that input', '', '', '']);
+    is('a search that found nothing', ['not found: nodes 15, cut 0', 'not found: nodes 1, cut 3', 'not found: graphs 16', 'more than 4'].map(inWords), [
+        'not found: 15 problems looked at, none of them cut at a limit', 'not found: 1 problem looked at, 3 of them cut at a limit',
+        'not found: 16 graphs tried', 'more than 4'
+    ]);
+    is('a refusal at END says what is wrong',
+        ['lower', 'upper'].map(kind => clauseFault({clause: 'END', kind})), [
+            'END: the last problem is solvable in 0 rounds, so this is no lower bound',
+            'END: the last problem is not solvable in 0 rounds, with port numbers alone, so this is no upper bound'
+        ]);
+    is('jobs by what they do', ['groups', 'zero', 'readCertificate', 'check, lower', 'diagram passive', 'lower 8 2 from problem 1', 'step of problem 1'].map(nameOfJob),
+        [
+            'writing a problem in groups', 'asking for 0 rounds', 'reading a certificate', 'checking the chain', 'asking for a diagram',
+            'lower 8 2 from problem 1', 'step of problem 1'
+        ]);
+    is('a session that was shared', [`MIS: 2 cards. Open it.\n#s=eJw-_9\n`, 'file:///a/workbench.html#s=eJw', 'A B\n\nA B\n', '{"format": 1}'].map(sharedIn),
+        ['eJw-_9', 'eJw', null, null]);
 });
 
 await about('finite graphs', () => {
@@ -283,12 +326,18 @@ await about('the catalogue', () => {
     is('its line', catalogueLine(table, problem), {
         number: '2',
         problem: 'AAA AAB ABB / AB',
-        answer: 'not solvable in any number of rounds',
-        shownBy: ['re fixed 4 0', 'explore closure'],
+        claims: [{line: 'not solvable in any number of rounds', shownBy: ['re fixed 4 0', 'explore closure']}],
         count: 2,
         names: [['I', 'B'], ['O', 'A']],
         isInOrder: false
     });
+    const claimsOf = columns => catalogueLine(`1\tAAA AAB ABB / AB\tmore than 1\t${columns}\n`, problem).claims;
+    is('with its class', claimsOf('re lower 1 0\torder log* N\texplore rounds 8 given 4 colours'), [
+        {line: 'more than 1', shownBy: ['re lower 1 0']},
+        {line: 'with identifiers: order log* N', shownBy: ['explore rounds 8 given 4 colours']}
+    ]);
+    is('what nothing shows', claimsOf('\tat least order log N\t'),
+        [{line: 'more than 1', shownBy: []}, {line: 'with identifiers: at least order log N', shownBy: []}]);
     is('one that lacks', catalogueLine(table, answer(['read'], 'A^3\nB^3\n\nA B\n')), null);
     is('too many labels', namedForCatalogue(answer(['family', 'colouring', '3', '2', '8'])), null);
 });
@@ -296,15 +345,16 @@ await about('the catalogue', () => {
 await about('each problem of the catalogue is found under any names', () => {
     const random = numbersFrom(11);
     for (const [name, table] of Object.entries(catalogueTables())) {
-        const lines = linesOfTable(table);
+        // Of a large table some lines.
+        const lines = linesOfTable(table), each = Math.ceil(lines.length / 10000);
         const written = line => line.split(' / ').map(side => side.split(' ').map(config => [...config].join(' ')).join('\n')).join('\n\n');
         is(`${name}: each line stands under the names by which it comes first`,
-            lines.filter(([, line]) => catalogueLine(table, `${written(line)}\n`)?.problem !== line), []);
+            lines.filter(([, line], i) => i % each === 0 && catalogueLine(table, `${written(line)}\n`)?.problem !== line), []);
         for (let n = 0; n < 12; n++) {
-            const [number, line, claim, by] = lines[random(lines.length)], problem = renamedAtRandom(line, random);
+            const [number, line, ...columns] = lines[random(lines.length)], problem = renamedAtRandom(line, random);
             is(`${name}: the table of ${line}`, tableName(problems.describe(problem)), name);
             const {names, isInOrder, ...found} = catalogueLine(table, problem);
-            is(`${name}: number ${number}`, found, {number, problem: line, answer: claim, shownBy: by.split('; '), count: lines.length});
+            is(`${name}: number ${number}`, found, {number, problem: line, claims: claimsOfLine(columns), count: lines.length});
             // Its names lead to the problem of the line.
             is(`${name}: the names of number ${number}`, answer(['read'], problems.mapped(problem, names)),
                 answer(['read'], `${written(line)}\n`));

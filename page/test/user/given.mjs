@@ -33,10 +33,6 @@ const sessions = {
             await page.until(
                 `bench.claim.verdict?.certificate && ${line} === ${JSON.stringify(given(await user.certificate(), two))} && ${line}`),
             given(await user.certificate(), two));
-        // What the program doesn't print: it says so, and what was given stays.
-        await page.fill('#given input', '99');
-        await page.until(`document.querySelector('#message.fault')?.textContent.endsWith(' colouring 3 2 99: words: not a command')`);
-        checks.equal('what was given stays', await page.value('bench.cards.path()[0].given.count'), 2);
         await choose(page, 'nothing');
         await page.until(`!bench.cards.path()[0].given && !document.querySelector('#given-line').textContent`);
         checks.check('and nothing on the card',
@@ -100,7 +96,18 @@ const sessions = {
         await page.fill('dialog textarea', 'A^2', 1);
         await page.until(`!document.querySelector('dialog footer button').disabled`);
         await page.click('dialog footer button', 'Use it');
-        checks.equal('one that is no input', await page.until(`${line}?.startsWith('no') && ${line}`), 'no: not an input: B');
+        // One that is no input: the window stays, and marks the line at fault.
+        const at = `[...document.querySelectorAll('dialog .area')].map(area => area.classList.contains('faulty') ? area.style.getPropertyValue('--fault') : '')`;
+        const said = `document.querySelector('dialog .state .faulty')?.textContent`;
+        checks.check('one that is no input', (await page.until(said)).startsWith('explore given: no: not an input: B: '));
+        checks.equal('at its line', await page.value(at), ['1', '']);
+        await page.fill('dialog textarea', '[IO]^3', 0);
+        await page.fill('dialog textarea', 'I^3 O^2', 1);
+        await page.until(`!document.querySelector('dialog footer button').disabled`);
+        await page.click('dialog footer button', 'Use it');
+        checks.check('wrong degrees', (await page.until(`${said}?.includes('degrees') && ${said}`)).startsWith('explore given: no: not an input: degrees: here they are 3 and 5,'));
+        checks.equal('at a line that stands there', await page.value(at), ['', '1']);
+        checks.check('what was given stays', (await page.value('bench.cards.path()[0].given.problem')) === orientation);
     },
 
     async 'the product with what is given'(user, page, checks) {
@@ -114,7 +121,7 @@ const sessions = {
         await page.until(`bench.cards.path()[0].given`);
         const input = await page.value('bench.cards.path()[0].given.problem');
         await page.click('#given button', 'Product');
-        await page.until(`document.title.startsWith('O [IO]^2, and a colouring')`);
+        await page.until(`document.title.startsWith('O [IO]^2, and a colouring, 4 colours')`);
         const wanted = explored.has('product') ? natively('explore', ['product'], `${first}== given\n${input}`).text : product;
         checks.equal('a chain of its own', await user.problem(), wanted);
         checks.equal('the first one stays', await page.value('bench.cards.roots().length'), 2);

@@ -1,5 +1,6 @@
 // Texts that come in from the clipboard and by dropping, and the report that goes out, on the page and on paper.
 import {answer, example, natively} from '../place.mjs';
+import {explored} from '../teaching.mjs';
 import {cardsAre, drawn, MIS} from '../user.mjs';
 
 const fixed = example('sinkless-fixed.txt'), quoted = value => JSON.stringify(value);
@@ -85,6 +86,31 @@ export const inAndOutSessions = {
         await page.until(`document.querySelector('.paper pre')?.textContent === 'accepted: not solvable in 2 or fewer rounds'`);
         await page.click('#report-box .close');
         checks.check('closed', await page.value(`document.querySelector('#report-box').hidden && document.activeElement.id === 'report'`));
+    },
+
+    async 'what is given, in the report and on paper'(user, page, checks) {
+        if (!explored.has('given')) return;
+        await user.openProblem(...MIS);
+        await user.step(2);
+        await page.choose('#given-kind', 'a colouring');
+        const line = await page.until(`document.querySelector('#given-line .line')?.textContent`), input = await page.value('bench.cards.path()[0].given.problem');
+        await user.watchCopies();
+        await page.click('#report');
+        await page.until(`document.querySelector('.paper')?.textContent.includes('What is given')`);
+        const shown = `[...document.querySelectorAll('.paper pre')].map(node => node.textContent.trim())`;
+        checks.check('the line', await page.until(`${shown}.includes(${JSON.stringify(line)})`));
+        checks.equal('the problem', (await page.value(shown)).filter(text => text === input.trim()).length, 1);
+        checks.check('its name', (await page.value(`document.querySelector('.paper').textContent`)).includes('a colouring, 4 colours'));
+        await page.click('#report-box button', 'Copy Markdown');
+        const text = await user.copied();
+        checks.check('in the Markdown', text.startsWith(natively('explore', ['describe'], await user.certificate()).text) && text.includes(`    ${line}\n`));
+        await page.click('#report-box button', 'Copy LaTeX');
+        checks.check('in the LaTeX', (await user.copied()).includes(line));
+        await page.ask('Emulation.setEmulatedMedia', {media: 'print'});
+        checks.check('on paper', await page.value(`['#given-kind', '#given input', '#given-line .line'].every(selector => document.querySelector(selector).getClientRects().length)`));
+        await page.ask('Emulation.setEmulatedMedia', {media: ''});
+        await page.choose('#given-kind', 'nothing');
+        await page.until(`!document.querySelector('.paper').textContent.includes('What is given')`);
     },
 
     async 'the chain on paper'(user, page, checks) {

@@ -22,9 +22,15 @@ export const problemsSessions = {
         checks.equal('brackets', await page.value(`document.querySelectorAll('#editor textarea')[1].value`), 'M [PO]\nO O');
         await page.fill('#editor textarea', 'M^3\nP O^2 O', 0);
         await page.until(`document.querySelector('#editor .state .faulty')`);
+        checks.check('no bracket is open', !(await page.value(`document.querySelector('#editor .state').textContent`)).includes('is open'));
         checks.check('a wrong degree',
             (await page.value(`document.querySelector('#editor .state').textContent`))
                 .includes('input: line 2: wrong degree (active, line 2)'));
+        await page.fill('#editor textarea', 'M^3\nP O^2', 0);
+        for (const [text, said] of [['M [PO', 'A bracket [ is open: its ] lacks.'], ['M (PO', 'A bracket ( is open: its ) lacks.'], ['M PO]', 'A bracket ] has no [ before it.']]) {
+            await page.fill('#editor textarea', text, 1);
+            checks.check(text, await page.until(`document.querySelector('#editor .state .faulty') && document.querySelector('#editor .state').textContent.includes('${said}')`));
+        }
         // A whole problem is pasted into the first area.
         await page.fill('#editor textarea', '', 1);
         await page.fill('#editor textarea', example('problems/without-brackets.txt'), 0);
@@ -51,10 +57,6 @@ export const problemsSessions = {
             await page.until(`bench.cards.path()[0]?.title === ${quoted(words.join(' '))}`);
             checks.equal(family, await user.problem(), answer(['family', ...words]));
         }
-        await page.fill('#family-a', '7');
-        await page.click('#family-write');
-        checks.check('out of range',
-            (await page.until(`document.querySelector('#message.fault')?.textContent`)).startsWith('re family mis 7 2 0: '));
     },
 
     async '128 labels'(user, page, checks) {

@@ -1,5 +1,6 @@
 // Searches: in the background, stopped, asked again with more, and what they say meanwhile.
 import {PATIENCE, wait} from '../browser.mjs';
+import {inWords} from '../../src/claims.js';
 import {answer, natively} from '../place.mjs';
 import {explored, teachMissing} from '../teaching.mjs';
 import {cardsAre, MIS} from '../user.mjs';
@@ -18,8 +19,14 @@ export const searchingSessions = {
         checks.check('elapsed time', /\d\.\d s/.test(await page.value(`document.querySelector('#jobs .time').textContent`)));
         await page.click('#jobs button', 'Stop');
         await page.until(`document.querySelector('#jobs').hidden`);
+        // What shorter searches beside it found is kept.
+        const [kept] = [await page.until(`bench.cards.path().length > 1 && bench.claim.verdict?.accepted && bench.claim.verdict.line`)];
+        checks.check(`Stop keeps the best: ${kept}`, /not solvable in [1-9] or fewer/.test(kept));
+        checks.equal('by the program', answer(['check'], await user.certificate()).trim(), kept);
         checks.check('it is said on the card',
-            (await page.until(`document.querySelector('.card.last .remarks').textContent`)).includes('lower 8 2 from problem 0: stopped.'));
+            /lower 8 2: stopped; the best so far is kept, that of lower [1-7] 2\./.test(await page.value(`document.querySelector('.card .remarks').textContent`)));
+        await page.click('#undo');
+        await page.until(cardsAre(1));
         await user.search('lower', 4, 0);
         await user.says('accepted: not solvable in 4 or fewer rounds');
     },
@@ -83,15 +90,17 @@ export const searchingSessions = {
         await user.says(line);
         checks.check(`by the program: ${line}`, /^accepted: solvable in \d+ rounds$/.test(line));
         const words = `[...document.querySelectorAll('.card.last .ask')].map(ask => ask.dataset.search)`;
-        checks.check(
-            'not longest behind it', !(await page.value(words)).includes('longest') && (await page.value(words)).includes('shortest'));
+        const on = `[...document.querySelectorAll('.card.last .ask')].filter(ask => !ask.querySelector('button').disabled).map(ask => ask.dataset.search)`;
+        checks.check('not longest behind it', !(await page.value(on)).includes('longest') && (await page.value(on)).includes('shortest'));
+        checks.check('it stays, with the reason', (await page.value(words)).includes('longest') &&
+            /Not here: [a-z, ]*longest[a-z, ]*: a restriction \(Leave out/.test(await page.value(`document.querySelector('.card.last .search').textContent`)));
         // Behind a merge the chain is of kind lower.
         await user.openExample('no sinks no sources');
         await user.select('I', 'O');
         await user.actOnSelected('Merge into I');
         await page.until(`${cardsAre(2)} && document.querySelector('.card.last .ask')`);
         checks.check(
-            'not behind a merge', !(await page.value(words)).includes('shortest') && (await page.value(words)).includes('longest'));
+            'not behind a merge', !(await page.value(on)).includes('shortest') && (await page.value(on)).includes('longest'));
     },
 
     async 'cycle, with more until one is found'(user, page, checks) {
@@ -110,7 +119,7 @@ export const searchingSessions = {
         await user.openProblem('A B [CD]\n[AB] C D', 'A^2\nB^2\nC^2\nD^2');
         await user.search('closure', 0);
         const line = natively('explore', ['closure'], await user.problem()).text.trim();
-        checks.check(line, line.startsWith('not found: ') && (await user.note()).startsWith(`closure ${line}`));
+        checks.check(line, line.startsWith('not found: ') && (await user.note()).startsWith(`closure ${inWords(line)}`));
         await user.search('closure', 2);
         await user.says('accepted: not solvable in any number of rounds', 4 * PATIENCE);
         checks.check('behind two steps', (await user.certificate()).startsWith('== certificate 1 fixed 3\n'));
@@ -118,15 +127,23 @@ export const searchingSessions = {
         const behind = async diagram => {
             await page.click('.card.last .menu summary');
             await page.click('.card.last .menu button', 'Closure with a diagram…');
-            await page.fill('dialog input', diagram);
+            await page.fill('dialog textarea', diagram);
             await page.click('dialog button', 'Find');
         };
         await user.openProblem('A^3\nB^2 C', 'A C\nB^2');
         await behind('A C');
         await user.says('accepted: not solvable in any number of rounds');
+        checks.check('the card says which problem was raised, and how',
+            (await page.value(`document.querySelector('.card.last .title').textContent`)).includes('of problem 0 raised by A → C'));
+        // A label that the problem lacks: the window stays open, with its line marked.
         await user.openProblem('A^3\nB^2 C', 'A C\nB^2');
-        await behind('A D');
-        checks.check('a label that the problem lacks', (await user.note()).includes('with A D'));
+        await behind('A C\n\nA D');
+        const text = `${answer(['read'], 'A^3\nB^2 C\n\nA C\nB^2\n')}== diagram\nA C\nA D\n`;
+        const fault = natively('explore', ['closure', '2'], text).text.trim(), said = await page.until(`document.querySelector('dialog .state .faulty')?.textContent`);
+        checks.equal('the fault of the program, at the line that stands there', said, `line 3: ${fault.replace(/^input: line \d+: /, '')}: “A D”. `);
+        checks.equal('the line is marked', await page.value(`document.querySelector('dialog .area').style.getPropertyValue('--fault')`), '3');
+        checks.check('the labels that the card has', (await page.value(`document.querySelector('dialog .state').textContent`)).includes('labels of this problem: A, B, C.'));
+        checks.equal('no note of it', await page.value(`document.querySelectorAll('.card.last .note').length`), 0);
     },
 
     async 'longest does what a heuristic did'(user, page, checks) {

@@ -1,7 +1,8 @@
 // What is known of a problem: `settle` and the commands that show it, graphs without a solution, the catalogue, merges in a first
 // problem. Words that the program doesn't have yet are answered here in its place, so that the page is tested before it has them.
 import {catalogueLine} from '../../src/catalogue.js';
-import {answer, catalogueTables, linesOfTable, natively} from '../place.mjs';
+import {modelOf} from '../../src/claims.js';
+import {answer, catalogueTables, claimsOfLine, linesOfTable, natively} from '../place.mjs';
 import {explored, teach, teachMissing} from '../teaching.mjs';
 import {cardsAre, MIS} from '../user.mjs';
 
@@ -93,14 +94,46 @@ export const settlingSessions = {
             `!document.querySelector('dialog svg.graph') && document.querySelector('dialog .line').textContent.startsWith('input: ')`);
     },
 
+    async 'the labels of a solution stand at their ports'(user, page, checks) {
+        // Three active nodes of degree 3, each with another label at each port.
+        const labels = ['A B C', 'D E F', 'G H I'], graph = '1.1 2.2\n1.2 3.3\n1.3 2.1\n2.3 3.1\n3.2 3.2';
+        await teach(page, {solve: [0, `yes\n${labels.join('\n')}\n`]});
+        for (const lines of [graph.replace('\n3.2 3.2', ''), '1.1 1.2\n1.3 2.1\n2.2 2.3']) {
+            await page.value(`bench.settling.draw(${quoted('A B C\n\nA B\n== graph\n')} + ${quoted(`${lines}\n`)})`);
+            await page.until(`document.querySelectorAll('dialog svg.graph .end').length === ${lines.split(/\s/).length}`);
+            // Of each end the node where it begins, by its place, the port that stands next to it, and the label between.
+            const ends = await page.value(`(() => { const nodes = [...document.querySelectorAll('dialog svg.graph rect')].map(node => [node.nextElementSibling.textContent, Number(node.getAttribute('x')) + 11, Number(node.getAttribute('y')) + 11]);
+                return [...document.querySelectorAll('dialog svg.graph .end')].map(end => { const [, x, y] = /^M ([-\\d.]+) ([-\\d.]+) /.exec(end.querySelector('path').getAttribute('d')).map(Number),
+                    near = nodes.map(([name, u, v]) => [Math.hypot(x - u, y - v), name]).sort((a, b) => a[0] - b[0])[0][1],
+                    ports = [...end.querySelectorAll('.small')].map(text => [Math.hypot(text.getAttribute('x') - x, text.getAttribute('y') - y), text.textContent]).sort((a, b) => a[0] - b[0]);
+                    return [near + '.' + ports[0][1], end.querySelector('.output').textContent]; }).sort(); })()`);
+            checks.equal(lines.replaceAll('\n', ', '), ends, lines.split(/\s/).map(end => [end, labels[end.split('.')[0] - 1].split(' ')[end.split('.')[1] - 1]]).sort());
+            await page.click('dialog button.close');
+            await page.until(`!document.querySelector('dialog')`);
+        }
+    },
+
+    async 'a fault of a graph stands at its line'(user, page, checks) {
+        const problem = answer(['read'], MIS.join('\n\n'));
+        if (!explored.has('solve')) return;
+        await page.value(`bench.settling.draw(${quoted(`${problem}== graph\n${MIS_GRAPH}\n`)})`);
+        await page.until(`document.querySelector('dialog svg.graph')`);
+        await page.fill('dialog textarea', '1.1 1.2\n\n2.1 2.2\n1.3 nonsense');
+        await page.click('dialog button', 'Solve');
+        const said = natively('explore', ['solve'], `${problem}== graph\n1.1 1.2\n2.1 2.2\n1.3 nonsense\n`).text.trim();
+        checks.equal('the fault', await page.until(`document.querySelector('dialog .faulty')?.textContent`), `line 4: ${said.replace(/^input: line \d+: /, '')}`);
+        checks.equal('the line is marked', await page.value(`document.querySelector('dialog .area').style.getPropertyValue('--fault')`), '4');
+        checks.check('the window is open', await page.value(`Boolean(document.querySelector('dialog[open]'))`));
+    },
+
     async 'the line of the catalogue'(user, page, checks) {
         const shown = `document.querySelector('.card.last .catalogue')?.textContent`;
         // Problems of two and of three labels, under other names: the line is that of the table.
         for (const [name, problem, text] of [['2-3-2', ['O [IO]^2', 'I O'], 'AAA AAB ABB / AB'], ['3-3-2', MIS, 'AAA BBC / AB AC BB']]) {
-            const table = linesOfTable(catalogueTables()[name]), [number, , claim, by] = table.find(line => line[1] === text);
+            const table = linesOfTable(catalogueTables()[name]), [number, , ...columns] = table.find(line => line[1] === text);
             await user.openProblem(...problem);
             checks.equal(`its line in ${name}`, await page.until(shown),
-                `The catalogue's line, number ${number}:${claim}shown by${by.split('; ').join('')}`);
+                `The catalogue's line, number ${number}:${claimsOfLine(columns).map(({line, shownBy}) => `${line}${modelOf(line) && ` ${modelOf(line)}`}${shownBy.length ? `shown by${shownBy.join('')}` : ''}`).join('')}`);
             const title = await page.value(`document.querySelector('.card.last .catalogue .hint').title`);
             checks.check(
                 title, title.endsWith(`under these names: ${text}`) && title.includes(` ${table.length.toLocaleString('en')} problems `));
@@ -132,7 +165,7 @@ export const settlingSessions = {
         // The labels have the same order there, and other names.
         const named = 'AAA AAB ABB / AB', text = answer(['read'], 'A [AB]^2\n\nA B\n');
         await page.value(`(() => { bench.catalogue.packed['2-3-2'] = ''; bench.catalogue.tables['2-3-2'] = Promise.resolve(${
-            quoted(`1\t${named}\tmore than 1\texplore merge B A | explore step; explore longest 2 8\n`)}); })()`);
+            quoted(`1\t${named}\tmore than 1\texplore merge 'B' 'A' | explore step; explore longest 2 8\n`)}); })()`);
         await teach(page, {'merge B A': [0, natively('explore', ['step'], text).text]});
         await user.openProblem('I [IO]^2', 'I O');
         await page.click('.card.last .catalogue button', 'merge');

@@ -1,0 +1,45 @@
+// What a job does, in words: those that the page starts by itself are titled by a word of a program, or of its own work.
+
+const JOB_NAMES = {
+    'read': 'reading a problem',
+    'zero': 'asking for 0 rounds',
+    'diagram': 'asking for a diagram',
+    'universal': 'asking for the maximal rows',
+    'groups': 'writing a problem in groups',
+    'relax': 'judging a map',
+    'rename': 'judging a renaming',
+    'check': 'checking the chain',
+    'step': 'taking a step',
+    'run': 'running the algorithm',
+    'extract': 'writing the table of the algorithm',
+    'why': 'asking why it is refused',
+    'describe': 'writing the report',
+    'given': 'judging the bound with what is given',
+    'fit': 'asking for 0 rounds with what is given',
+    'product': 'making the product',
+    'solve': 'solving a graph',
+    'bridge': 'looking for a step',
+    'input': 'writing what is given',
+    'family': 'writing a problem of a family',
+    'layout': 'drawing a diagram',
+    'mapped': 'writing a changed problem',
+    'without': 'leaving labels out',
+    'withArrow': 'adding configurations',
+    'findRenaming': 'looking for a renaming',
+    'findRelaxation': 'looking for a map',
+    'lineStarts': 'counting lines',
+    'catalogueLine': 'looking in the catalogue',
+    'stepLines': 'cutting a certificate',
+    'readCertificate': 'reading a certificate',
+    'certificateAlone': 'reading a certificate',
+    'packSession': 'keeping the session',
+    'packText': 'keeping the session',
+    'readHistory': 'opening a session',
+    'unpackSession': 'opening a session',
+    'readSession': 'opening a session',
+    'sessionText': 'writing the session',
+};
+
+// Of a search, and of whatever else the user asked for, the words of the user.
+export const nameOfJob = title => Object.hasOwn(JOB_NAMES, title.split(/[ ,]/, 1)[0]) && !/ problem |\d/.test(title) ?
+    JOB_NAMES[title.split(/[ ,]/, 1)[0]] : title;

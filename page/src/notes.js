@@ -1,0 +1,69 @@
+// Notes on cards: what came out of what the user asked for. They are plain data, kept for each card, so that they outlive its view and a
+// reload. Kinds:
+//   'hint', 'fault' {text};
+//   'answer' {what, line, more}: what a command answered;
+//   'text' {what, text}: a text to copy;
+//   'settled' {text}: what `settle` printed, with a button for each thing that shows it;
+//   'graph' {what, line, text}: a graph without a solution;
+//   'found' {what, id}: cards that were found while the user was elsewhere.
+import {button, copy, element, faulty, hint, replace} from './dom.js';
+import {claimNodes, inWords, lineText, modelOf} from './claims.js';
+
+const MOST_NOTES = 40;
+
+export class Notes {
+    // `onChange()` is told when notes came or went.
+    constructor(workbench, onChange = () => {}) { Object.assign(this, {workbench, onChange, known: new Map()}); }
+
+    // Those of a card: after undo there may be another card with its number.
+    of({id, problem}) {
+        const kept = this.known.get(id);
+        return kept?.problem === problem ? kept.list : [];
+    }
+
+    add(view, note) {
+        const {id, problem} = view.card;
+        this.set(view, [note, ...this.of(view.card)].slice(0, MOST_NOTES), id, problem);
+        return view.remarks.querySelector('.note');
+    }
+
+    remove(view, note) {
+        this.set(view, this.of(view.card).filter(other => other !== note));
+        view.node.focus({preventScroll: true});
+    }
+
+    set(view, list, id = view.card.id, problem = view.card.problem) {
+        this.known.set(id, {problem, list});
+        this.show(view);
+        this.onChange();
+    }
+
+    show(view) {
+        const list = this.of(view.card), all = list.length > 1 &&
+            button(`Clear all ${list.length} notes`, () => this.set(view, []), {class: 'link clear'});
+        replace(view.remarks, list.map(note => this.node(view, note)), all);
+    }
+
+    node(view, note) {
+        const close = button('×', () => this.remove(view, note), {class: 'quiet close', 'aria-label': 'close the note'});
+        return element('div.note', {}, NODES[note.kind](note, view, this.workbench), close);
+    }
+}
+
+const NODES = {
+    hint: ({text}) => hint(text),
+    fault: ({text}) => faulty(text),
+    answer: ({what, line, more}) =>
+        [element('strong', {}, what), ' ', element('span', {title: line}, lineText(inWords(line))), hint(` ${modelOf(line)} ${more || ''}`)],
+    text: ({what, text}) => [element('strong', {}, lineText(what)), hint(` ${modelOf(what)} `),
+        button('Copy', event => copy(text, event.currentTarget), {class: 'link'}), element('pre', {tabIndex: 0}, text.trim() || '(none)')],
+    settled: ({text}, view, {settling}) => settling.lines(view, text),
+    graph: ({what, line, text}, view, {settling}) =>
+        [element('strong', {}, what), ' ', claimNodes(line), ' ', button('Draw the graph', () => settling.draw(text))],
+    found: ({what, id}, view, workbench) => [element('strong', {}, what), ' found. ', workbench.cards.get(id) ?
+        button('Show', () => workbench.go(id)) : hint('The cards are gone.')],
+};
+
+// A note in its form, out of what was kept.
+export const isNote = note => typeof note === 'object' && note !== null && Object.hasOwn(NODES, note.kind) &&
+    ['what', 'line', 'text', 'more'].every(key => note[key] === undefined || typeof note[key] === 'string');

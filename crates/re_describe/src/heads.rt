@@ -124,11 +124,7 @@ fn push_graph_part(text: &mut Vec<u8>, verdict: Verdict, passive: u8) -> Result<
 }
 
 // The title, the line of the verdict of `check` on the certificate, and what it says with port numbers.
-fn front(
-    alloc: Global,
-    certificate: &Certificate,
-    verdict: Verdict,
-) -> Result<Vec<u8>, NoMemory>
+fn front(alloc: Global, certificate: &Certificate, verdict: Verdict) -> Result<Vec<u8>, NoMemory>
     requires { verdict ≡ verdict_of certificate.now }
     ensures { IfOk result (λ text. text.items ≡ front certificate.now) }
 {

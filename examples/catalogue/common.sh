@@ -4,11 +4,13 @@
 # A problem of a list as the programs read it.
 problem_text() { printf '%s\n' "$1" | sed 's| / |\n\n|; s| |\n|g' | sed 's/./& /g; s/ $//'; }
 
-# Runs the words that a table names, as `explore merge A B | explore closure`, on standard input.
+# Runs the words that a table names, as `explore merge 'A' 'B' | explore closure` or `explore closure with diagram A B`, on standard input.
 run_words() {
     # shellcheck disable=SC2086
     case $1 in
     *' | '*) run_words "${1%% | *}" | run_words "${1#* | }";;
+    *"'"*) run_words "$(printf '%s' "$1" | tr -d "'")";;
+    *' with diagram '*) { cat; printf '== diagram\n%s\n' "${1#* with diagram }"; } | run_words "${1%% with diagram *}";;
     're '*) "$re" ${1#re };;
     'explore '*) "$explore" ${1#explore };;
     esac

@@ -17,7 +17,8 @@ import paths
 HERE = pathlib.Path(__file__).parent
 NEVER = "not solvable in any number of rounds"
 BETWEEN = "solvable, between two bounds"
-TRIED = "`rounds 8`, `fixed 4 0`, `closure 2`, `cover 4`, `merge X Y | explore closure`, `cycle 3 1 100`, `longest 8 12`, `shortest 12 8`"
+TRIED = ("`rounds 8`, `fixed 4 0`, `closure`, `cover 4`, `closure 2`, `merge X Y | explore closure`, `closure` with each diagram of one edge, `cycle 3 1 100`, "
+         "`longest 8 12`, `shortest 12 8`")
 INPUTS = ("`both`", "`sides`", "`edges`", "`colouring`, 4")
 HEAD = """# All small problems, up to the names of their labels
 
@@ -67,7 +68,8 @@ def kind_of(claim):
 
 def words_of(by):
     """The words that show an answer, without the names of labels."""
-    return re.sub(r"merge \S+ \S+", "merge X Y", by).replace("|", "\\|")
+    by = re.sub(r"diagram \S+ \S+", "diagram X Y", re.sub(r"merge \S+ \S+", "merge X Y", by))
+    return by.replace("|", "\\|")
 
 
 def class_of(known):

@@ -35,7 +35,7 @@ has `re check` judge what they name; `summary.py` wrote this page from the table
 A table holds a line for each problem: its number, its active and passive configurations, the first line of the answer (in hops, and in rounds of
 the graph where passive nodes are edges), the words that show it, the class with unique identifiers, and the words that show this. The answer is for
 nodes that know nothing but port numbers, on trees; the class is for nodes with unique identifiers below N, as N grows: `constant`, `order log* N`,
-`at least log* N` (less a constant) and `at least order log N`, beyond which this model tells nothing apart. Both are proved of what `settle` says.
+`at least order log* N` (log* N less a constant) and `at least order log N`, beyond which this model tells nothing apart. Both are proved of what `settle` says.
 What is solved in k hops may use the orientation of each edge that its ports give; from unique identifiers one comes in a round.
 
 Given an input problem (`both`, an orientation by which edges lead into each active node and out of it; two `sides`; a colouring of the `edges`; a

@@ -43,14 +43,14 @@ use Rattle.re_table.specs.Constraints.{Has}
 use Rattle.re_table.specs.GoodRows.{IsGood, is_allowed, max_rows, max_sets}
 use Rattle.re_views.proofs.Branchwise.{back-shift, backs-child}
 use Rattle.re_views.proofs.ViewLaws.{IsChild, IsView-shift, child_of, shift-shift}
-use Rattle.re_views.specs.Trees.{Child, IsTree, IsView, backs, child_at, cut, shift}
+use Rattle.re_views.specs.Trees.{Child, IsTree, IsView, Tree, backs, child_at, cut, shift}
 
 -- whether over the port of the view lies a node that knows this, and whose port i it is
 abbrev pub lies_over : ℕ → InputView → ℕ → InputView → ℕ → Bool
 lies_over T k i u q = at_port (backs u) q == i && same_input_view (known T (shift (suc T) u q)) k
 
 -- the back ports of a view are ports of the other side
-pub back_range : (d e t : ℕ) (v : InputView) → IsView d e (suc t) v → (k : ℕ) → k < d → (1 ≤ at_port (backs v) (suc k)) × (at_port (backs v) (suc k) ≤ e)
+pub back_range : {E : Type 0} (d e t : ℕ) (v : Tree E) → IsView d e (suc t) v → (k : ℕ) → k < d → (1 ≤ at_port (backs v) (suc k)) × (at_port (backs v) (suc k) ≤ e)
 back_range d e t v is k l =
     let c = child_of d e t d v is k l in
     let here : at_port (backs v) (suc k) ≡ c.0.back = backs-child k c.0 v c.1 in

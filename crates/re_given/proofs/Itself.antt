@@ -1,17 +1,19 @@
 -- What is given is solved.
-use Rattle.std.proofs.Common.{◌≡◌, ℕ, ◌<◌, inl, inr, List, [], ◌∷◌, length, subst, refl, sym, ◌∙◌, arith}
+use Rattle.std.proofs.Common.{◌≡◌, ℕ, suc, ◌<◌, inl, inr, List, [], ◌∷◌, length, subst, refl, sym, ◌∙◌, arith}
 use Rattle.std.specs.Prelude.{Contains, ◌⊎◌}
 use Rattle.std.specs.List.{AllByRecursion}
 use Rattle.std.proofs.lemmas.List.{length-map}
 use Rattle.re_config.specs.Rows.{IsChoice, singles}
-use Rattle.re_given.proofs.SlowGiven.{SolvableGiven-zero}
+use Rattle.re_given.proofs.FastGiven.{IsInput-exchanged}
+use Rattle.re_given.proofs.SlowGiven.{SolvableGiven-upper, SolvableGiven-zero}
 use Rattle.re_given.proofs.ZeroGiven.{config-Has}
 use Rattle.re_laws.proofs.Mapping.{count_of}
 use Rattle.re_table.proofs.Closure.{Choice-singles}
 use Rattle.re_given.specs.Given.{SolvableGiven, ZeroGiven}
-use Rattle.re_given.specs.Inputs.{IsInput}
+use Rattle.re_given.specs.Inputs.{IsInput, exchanged}
 use Rattle.re_labels.proofs.Membership.{Contains-cases, Contains-none}
-use Rattle.re_problem.specs.Problems.{Problem}
+use Rattle.re_problem.specs.Problems.{IsProblem, Problem}
+use Rattle.re_problem.specs.Steps.{IsUpper}
 use Rattle.re_table.specs.Constraints.{Has}
 
 -- the only choice of one label each from sets of one label
@@ -29,22 +31,29 @@ filled_singles : (config : List ℕ) → AllByRecursion (λ (s : List ℕ). 0 < 
 filled_singles [] = tt
 filled_singles (x ∷ config) = (omega arith, filled_singles config)
 
+-- an upper step from a problem to itself with its sides exchanged, by the sets of one label
+pub IsUpper-itself : (problem : Problem) → IsProblem problem → IsUpper problem (exchanged problem) (λ x. x ∷ [])
+IsUpper-itself problem is = record {
+  active_degree = refl;
+  passive_degree = refl;
+  good = λ config held.
+      let has : Has problem.passive config = config-Has problem.labels problem.passive config is.passive held in
+      record {
+        count = length-map config (λ x. x ∷ []) ∙ count_of problem.labels problem.passive config is.passive has;
+        filled = filled_singles config;
+        choice = λ labels chosen. subst (Has problem.passive) (sym (only_choice config labels chosen)) has;
+      };
+  choice = λ config held. (config, Choice-singles config, config-Has problem.labels problem.active config is.active held);
+}
+
 pub ZeroGiven-itself : (input : Problem) → IsInput input input → ZeroGiven input input
-ZeroGiven-itself input is = (
-  λ x. x ∷ [],
-  record {
-    active_degree = refl;
-    passive_degree = refl;
-    good = λ config held.
-        let has : Has input.passive config = config-Has input.labels input.passive config is.is_problem.passive held in
-        record {
-          count = length-map config (λ x. x ∷ []) ∙ count_of input.labels input.passive config is.is_problem.passive has;
-          filled = filled_singles config;
-          choice = λ labels chosen. subst (Has input.passive) (sym (only_choice config labels chosen)) has;
-        };
-    choice = λ config held. (config, Choice-singles config, config-Has input.labels input.active config is.is_problem.active held);
-  },
-)
+ZeroGiven-itself input is = (λ x. x ∷ [], IsUpper-itself input is.is_problem)
 
 pub SolvableGiven-itself : (input : Problem) → IsInput input input → SolvableGiven input input 0
 SolvableGiven-itself input is = SolvableGiven-zero input input is (ZeroGiven-itself input is)
+
+-- what is solvable given an input problem takes one round more with the sides of both exchanged
+pub SolvableGiven-exchanged : (problem input : Problem) (T : ℕ) → IsProblem problem → IsInput problem input → SolvableGiven problem input T → SolvableGiven (exchanged problem) (exchanged input) (suc T)
+SolvableGiven-exchanged problem input T is is_input h =
+    let turned : IsProblem (exchanged problem) = record { active = is.passive; passive = is.active } in
+    SolvableGiven-upper (exchanged problem) problem (exchanged input) (λ x. x ∷ []) T (IsInput-exchanged problem (exchanged problem) input is_input refl refl) (IsUpper-itself (exchanged problem) turned) h

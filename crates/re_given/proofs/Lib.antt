@@ -11,6 +11,7 @@ pub mod GrownInputs
 pub mod Itself
 pub mod JoinedInputs
 pub mod KnownViews
+pub mod LabelledViews
 pub mod MappingGiven
 pub mod MoreGiven
 pub mod NamedInputs

@@ -5,7 +5,7 @@ use Rattle.re_config.specs.Configs.{support_of}
 use Rattle.re_config.specs.Orders.{multisets}
 use Rattle.re_given.proofs.Colourings.{IsInput-colouring, filtered_constraint}
 use Rattle.re_given.proofs.FastGiven.{IsInput-exchanged}
-use Rattle.re_given.specs.InputExamples.{coloured_edges, one_out, oriented, oriented_both, sides, tested}
+use Rattle.re_given.specs.InputExamples.{coloured_edges, edge_colouring, one_out, oriented, oriented_both, sides, tested}
 use Rattle.re_given.specs.Inputs.{IsInput, exchanged}
 use Rattle.re_given.specs.Unavoidable.{colouring}
 use Rattle.re_labels.proofs.Places.{each_degree}
@@ -71,3 +71,8 @@ IsInput-edges problem is =
 pub IsInput-sides : (problem : Problem) → IsProblem problem → problem.passive.degree ≡ 2 → IsInput problem (sides problem.active.degree)
 IsInput-sides problem is edge =
     subst (λ p. IsInput problem (colouring problem.active.degree p 2)) edge (IsInput-colouring problem 2 is (omega (arith, edge)))
+
+pub edge_colouring_input : (problem : Problem) (c : ℕ) → IsProblem problem → problem.active.degree ≤ c → IsInput problem (edge_colouring problem.active.degree problem.passive.degree c)
+edge_colouring_input problem c is enough =
+    let turned : IsProblem (exchanged problem) = record { active = is.passive; passive = is.active } in
+    IsInput-exchanged (exchanged problem) problem (colouring problem.passive.degree problem.active.degree c) (IsInput-colouring (exchanged problem) c turned enough) refl refl

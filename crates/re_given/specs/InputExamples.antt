@@ -2,6 +2,7 @@
 use Rattle.std.specs.Prelude.{ℕ, ◌==◌, Bool, true, List, length, filter, count_by}
 use Rattle.re_config.specs.Configs.{support_of}
 use Rattle.re_config.specs.Orders.{multisets}
+use Rattle.re_given.specs.Inputs.{exchanged}
 use Rattle.re_given.specs.Unavoidable.{colouring}
 use Rattle.re_problem.specs.Problems.{Problem}
 
@@ -21,6 +22,11 @@ sides a = colouring a 2 2
 -- passive node have one colour
 abbrev pub coloured_edges : ℕ → ℕ → Problem
 coloured_edges a p = tested a (λ edges. length (support_of edges) == length edges) (λ edges. length (support_of edges) == 1) a p
+
+-- a proper colouring of the passive nodes with c colours, of edges where p is 2: the edges of a passive node have one label, its colour, and those
+-- of an active node different ones
+abbrev pub edge_colouring : ℕ → ℕ → ℕ → Problem
+edge_colouring a p c = exchanged (colouring p a c)
 
 -- whether exactly one of the edges leads out of its active node: it has label 1, and an edge that leads into it label 0
 abbrev pub one_out : List ℕ → Bool

@@ -2,7 +2,7 @@
 use Rattle.std.specs.Prelude.{◌≡◌, ℕ, suc, ◌↔◌, ◌+◌, ◌-◌, ◌*◌, ◌^◌, ◌≤◌, ◌<◌, List, ◌∷◌}
 use Rattle.std.specs.List.{AllByRecursion}
 use Rattle.re_given.specs.Given.{SolvableGiven, SolvesGivenBy, ZeroGiven}
-use Rattle.re_given.specs.InputExamples.{coloured_edges, oriented, oriented_both, sides}
+use Rattle.re_given.specs.InputExamples.{coloured_edges, edge_colouring, oriented, oriented_both, sides}
 use Rattle.re_given.specs.InputViews.{Fits, InputView}
 use Rattle.re_given.specs.Inputs.{IsInput, exchanged, exchanged_by, nothing}
 use Rattle.re_given.specs.Unavoidable.{IsUnavoidable, colouring, reached}
@@ -66,6 +66,11 @@ InputRelaxationLaw = (problem input next : Problem) (image : ℕ → ℕ) (T : �
 abbrev pub RelativeLaw : Type 0
 RelativeLaw = (problem input given : Problem) (S T : ℕ) → IsProblem problem → IsInput problem input → IsInput input given →
     SolvableGiven input given S → SolvableGiven problem input T → SolvableGiven problem given (S + T + 1)
+
+-- what is solvable given an input problem takes at most one round more with the sides of both exchanged
+abbrev pub ExchangedGivenLaw : Type 0
+ExchangedGivenLaw = (problem input : Problem) (T : ℕ) → IsProblem problem → IsInput problem input →
+    SolvableGiven problem input T → SolvableGiven (exchanged problem) (exchanged input) (T + 1)
 
 -- a view that fits is the cut of a deeper one that fits
 abbrev pub DeeperFitsLaw : Type 0
@@ -175,6 +180,11 @@ SidesInputLaw = (problem : Problem) → IsProblem problem → problem.passive.de
 -- a colouring of the edges
 abbrev pub EdgesInputLaw : Type 0
 EdgesInputLaw = (problem : Problem) → IsProblem problem → IsInput problem (coloured_edges problem.active.degree problem.passive.degree)
+
+-- and one with at least a colours
+abbrev pub EdgeColouringInputLaw : Type 0
+EdgeColouringInputLaw = (problem : Problem) (c : ℕ) → IsProblem problem → problem.active.degree ≤ c →
+    IsInput problem (edge_colouring problem.active.degree problem.passive.degree c)
 
 -- an orientation, and one by which edges lead into each active node and out of it
 abbrev pub OrientationInputLaw : Type 0

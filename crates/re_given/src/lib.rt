@@ -3,7 +3,7 @@
 
 mod examples;
 
-ghost use Rattle.re_given.specs.Laws.{ColouredPairsLaw, ColouringInputLaw, ColouringLaw, ComposedLaw, DeeperFitsLaw, EdgesInputLaw, FewerLabelsLaw, FitLaw, FixedPointColouredLaw, FixedPointGivenLaw, FixedPointUnavoidableLaw, InputRelaxationLaw, ItselfGivenLaw, LoopGivenLaw, LoopUnavoidableLaw, LowerBoundColouredLaw, LowerBoundColouredPairsLaw, LowerBoundGivenLaw, LowerBoundUnavoidableLaw, MappingGivenLaw, MoreColoursLaw, MoreRoundsGivenLaw, NothingGivenLaw, NothingInputLaw, OrientationInputLaw, RelativeLaw, RelaxationGivenLaw, RoundsGivenLaw, ShorterBoundColouredLaw, ShiftFitsLaw, ShorterBoundUnavoidableLaw, SidesInputLaw, SpeedupGivenLaw, TableGivenLaw, UnavoidableLaw, UngivenLaw, UpperBoundGivenLaw, UpperStepGivenLaw, ZeroGivenLaw};
+ghost use Rattle.re_given.specs.Laws.{ColouredPairsLaw, ColouringInputLaw, ColouringLaw, ComposedLaw, DeeperFitsLaw, EdgeColouringInputLaw, EdgesInputLaw, ExchangedGivenLaw, FewerLabelsLaw, FitLaw, FixedPointColouredLaw, FixedPointGivenLaw, FixedPointUnavoidableLaw, InputRelaxationLaw, ItselfGivenLaw, LoopGivenLaw, LoopUnavoidableLaw, LowerBoundColouredLaw, LowerBoundColouredPairsLaw, LowerBoundGivenLaw, LowerBoundUnavoidableLaw, MappingGivenLaw, MoreColoursLaw, MoreRoundsGivenLaw, NothingGivenLaw, NothingInputLaw, OrientationInputLaw, RelativeLaw, RelaxationGivenLaw, RoundsGivenLaw, ShorterBoundColouredLaw, ShiftFitsLaw, ShorterBoundUnavoidableLaw, SidesInputLaw, SpeedupGivenLaw, TableGivenLaw, UnavoidableLaw, UngivenLaw, UpperBoundGivenLaw, UpperStepGivenLaw, ZeroGivenLaw};
 ghost use Rattle.re_given.specs.ProductLaws.{ProductConfigsLaw, ProductGivenLaw, ProductMappingLaw, ProductPartsLaw, ProductProblemLaw, ProductRelaxationLaw};
 
 pub use examples::{orientation_given_law, sinkless_coloured_law, sinkless_edge_coloured_law};
@@ -58,6 +58,11 @@ pub fn composed_law()
 /// The same given a third problem.
 pub fn relative_law()
     ensures { RelativeLaw }
+{}
+
+/// What is solvable given an input problem takes at most one round more with the sides of both exchanged.
+pub fn exchanged_given_law()
+    ensures { ExchangedGivenLaw }
 {}
 
 /// A view that fits is the cut of a deeper one that fits, so what an algorithm is asked at is seen in some tree.
@@ -173,6 +178,11 @@ pub fn sides_input_law()
 /// A proper colouring of the edges is an input problem of each problem of its degrees.
 pub fn edges_input_law()
     ensures { EdgesInputLaw }
+{}
+
+/// And with at least a colours, where a is the active degree.
+pub fn edge_colouring_input_law()
+    ensures { EdgeColouringInputLaw }
 {}
 
 /// An orientation is an input problem, and one by which edges lead into each active node and out of it.

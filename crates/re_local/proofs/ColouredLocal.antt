@@ -49,7 +49,7 @@ part_left : (xs ys : List ℕ) → IsPart xs (xs ++ ys)
 part_left [] ys = part_empty ys
 part_left (x ∷ xs) ys = held (part_left xs ys)
 
-part_right : (xs ys : List ℕ) → IsPart ys (xs ++ ys)
+pub part_right : (xs ys : List ℕ) → IsPart ys (xs ++ ys)
 part_right [] ys = whole ys
   where
     whole : (ys : List ℕ) → IsPart ys ys
@@ -69,7 +69,7 @@ part_rest (x ∷ xs) us vs = held (part_rest xs us vs)
 
 module _ (a p N : ℕ) (some : 1 ≤ a) where
   -- an identifier stands on all edges of its node
-  alike : (labels : List ℕ) (y z : ℕ) → Has (identified a p N).active labels → Contains labels y → Contains labels z → y ≡ z
+  pub alike : (labels : List ℕ) (y z : ℕ) → Has (identified a p N).active labels → Contains labels y → Contains labels z → y ≡ z
   alike labels y z has at at' =
       let (x, there, is) = Contains-map_cases (replicate a) (count_from 0 N) (sorted labels) has in
       let one : (w : ℕ) → Contains labels w → w ≡ x = λ w h. AllByRecursion-contains (λ y. y ≡ x) (replicate a x) w (all_alike a x) (subst (λ (c : List ℕ). Contains c w) (sym is) (Contains-Rearranged w (Rearranged-sorted labels) h)) in

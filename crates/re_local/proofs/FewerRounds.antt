@@ -47,7 +47,7 @@ part_different (held {x = x} h) d = (λ at. d.0 (part_contains x h at), part_dif
 
 -- what is cut shows less
 mutual
-  behind_active-cut : (t : ℕ) (x : InputView) → IsPart (behind_active (cut t x)) (behind_active x)
+  pub behind_active-cut : (t : ℕ) (x : InputView) → IsPart (behind_active (cut t x)) (behind_active x)
   behind_active-cut zero x = part_empty (behind_active x)
   behind_active-cut (suc t) leaf = none
   behind_active-cut (suc t) end = none

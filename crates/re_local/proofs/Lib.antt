@@ -1,6 +1,7 @@
 pub mod ColouredLocal
 pub mod Complete
 pub mod CompleteLimit
+pub mod ComposedLocal
 pub mod FewerRounds
 pub mod IdentifierInputs
 pub mod LocalBounds

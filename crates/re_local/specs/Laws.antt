@@ -21,6 +21,11 @@ abbrev pub ColouredLocalLaw : Type 0
 ColouredLocalLaw = (problem : Problem) (N T : ℕ) → IsProblem problem →
     SolvableGiven problem (colouring problem.active.degree problem.passive.degree N) T → SolvableLocal problem N T
 
+-- where the input problem has a local algorithm of S rounds, what T rounds solve given it has one of at most S + T + 1
+abbrev pub ComposedLocalLaw : Type 0
+ComposedLocalLaw = (problem input : Problem) (N S T : ℕ) → IsInput problem input →
+    SolvableLocal input N S → SolvableGiven problem input T → SolvableLocal problem N (S + T + 1)
+
 -- more rounds make it no harder
 abbrev pub MoreRoundsLocalLaw : Type 0
 MoreRoundsLocalLaw = (problem : Problem) (N T : ℕ) → SolvableLocal problem N T → SolvableLocal problem N (T + 1)

@@ -2,7 +2,7 @@
 #![tactic(auto)]
 
 ghost use Rattle.re_local.specs.Examples.{SinklessLocalLaw};
-ghost use Rattle.re_local.specs.Laws.{ColouredLocalLaw, CompleteLaw, CompleteLimitLaw, FewerIdentifiersLaw, FewerRoundsLaw, FixedPointLocalLaw, IdentifiersInputLaw, IdentifiersLaw, LabelledLaw, LocalGivenLaw, MoreRoundsLocalLaw, ShorterBoundLocalLaw, VirtualGivenLaw, VirtualInputLaw, VirtualUnavoidableLaw};
+ghost use Rattle.re_local.specs.Laws.{ColouredLocalLaw, CompleteLaw, CompleteLimitLaw, ComposedLocalLaw, FewerIdentifiersLaw, FewerRoundsLaw, FixedPointLocalLaw, IdentifiersInputLaw, IdentifiersLaw, LabelledLaw, LocalGivenLaw, MoreRoundsLocalLaw, ShorterBoundLocalLaw, VirtualGivenLaw, VirtualInputLaw, VirtualUnavoidableLaw};
 ghost use Rattle.re_local.specs.Shown.{LinearRoomLaw, LogarithmicRoomLaw, NoRoomLaw, NodesSeenLaw};
 
 /// What a local algorithm solves is solved where the labels of identifiers are known too.
@@ -13,6 +13,11 @@ pub fn labelled_law()
 /// Identifiers are a proper colouring, so what is solvable given one has a local algorithm.
 pub fn coloured_local_law()
     ensures { ColouredLocalLaw }
+{}
+
+/// Where an input problem has a local algorithm of S rounds, what is solvable in T rounds given it has one of S + T + 1.
+pub fn composed_local_law()
+    ensures { ComposedLocalLaw }
 {}
 
 /// More identifiers make it no easier.

@@ -1,0 +1,4 @@
+pub mod EdgeBounds
+pub mod EdgeClasses
+pub mod EdgeColours
+pub mod FewEdgeColours

@@ -1,0 +1,3 @@
+pub mod EdgeBounds
+pub mod EdgeClasses
+pub mod Laws

@@ -1,0 +1,47 @@
+//! Few colours of passive nodes, edges where these have two ends, and so bounds above for local algorithms, in order log* N rounds of N identifiers; the
+//! class of what is solvable given so few, and what certificates say of it: laws alone, no code.
+#![tactic(auto)]
+
+ghost use Rattle.re_edge_colours.specs.EdgeBounds.{NoEdgeColouredLaw, UpperBoundEdgeColouredLaw};
+ghost use Rattle.re_edge_colours.specs.EdgeClasses.{EdgeColouredLaw, OrderEdgeColouredLaw};
+ghost use Rattle.re_edge_colours.specs.Laws.{EdgesColouredLaw, FewEdgeColoursLaw, FewEdgeColoursLocalLaw};
+
+/// In one hop active nodes with unique identifiers below N colour the passive nodes properly with N^p colours: by the p identifiers around each. So they
+/// colour edges with N^2, where p is 2.
+pub fn edges_coloured_law()
+    ensures { EdgesColouredLaw }
+{}
+
+/// A proper colouring of the passive nodes with N colours gives one with one more than a passive node meets others, in order log* N hops: with 2 a - 1
+/// edge colours, where p is 2.
+pub fn few_edge_colours_law()
+    ensures { FewEdgeColoursLaw }
+{}
+
+/// What is solvable in k hops given a proper colouring of the passive nodes with so few colours has a local algorithm, one with unique identifiers, of
+/// 2 log* N + k + K rounds, where identifiers are below N and K depends on the degrees alone.
+pub fn few_edge_colours_local_law()
+    ensures { FewEdgeColoursLocalLaw }
+{}
+
+/// What is solvable given a proper colouring of the passive nodes with one colour more than a passive node meets others takes at most the order of log* N
+/// rounds: given 2 a - 1 edge colours, where passive nodes are edges.
+pub fn edge_coloured_law()
+    ensures { EdgeColouredLaw }
+{}
+
+/// What is solvable given so few edge colours, but in no number of rounds with port numbers alone, takes the order of log* N rounds.
+pub fn order_edge_coloured_law()
+    ensures { OrderEdgeColouredLaw }
+{}
+
+/// An upper bound of k steps that is valid given so few edge colours has a local algorithm of 2 log* N + k + K rounds, where identifiers are below N and K
+/// depends on the degrees alone.
+pub fn upper_bound_edge_coloured_law()
+    ensures { UpperBoundEdgeColouredLaw }
+{}
+
+/// No number of rounds solves what is accepted as a fixed point given so few edge colours.
+pub fn no_edge_coloured_law()
+    ensures { NoEdgeColouredLaw }
+{}

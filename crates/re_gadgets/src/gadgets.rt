@@ -1,6 +1,6 @@
 //! Gadgets: parts of graphs with free ends, each an edge that leads out of the part.
-use crate::multisets::{Multiset, is_part, set_of};
-use crate::relations::{holds_in, relation_of, turned};
+use crate::multisets::{Multiset, is_part, set_of, split_at_own};
+use crate::relations::{relation_of, turned};
 use re_labels::{LabelSet, NoMemory, Side};
 use std::alloc::Global;
 
@@ -130,8 +130,31 @@ pub(crate) fn node_of(
     }
 }
 
-// Whether a strand with the first relation allows no more than one with the second one, from one of its ends on.
-fn strand_allows(
+// Whether the first set has no more of a problem's own labels, and no fewer of the others.
+fn has_less(own: LabelSet, few: LabelSet, many: LabelSet) -> bool {
+    few.meet(own).within(many) && many.within(few.union(own))
+}
+
+// The same of the labels to which each label is related.
+fn relates_less(own: LabelSet, rows: &[LabelSet], others: &[LabelSet]) -> bool {
+    for (row, other) in rows.iter().zip(others) {
+        if !has_less(own, *row, *other) {
+            return false;
+        }
+    }
+    true
+}
+
+// The same of multisets.
+fn has_fewer(own: LabelSet, few: &[Multiset], many: &[Multiset]) -> bool {
+    let (first, others) = split_at_own(few, own);
+    let (second, rest) = split_at_own(many, own);
+    is_part(first, second) && is_part(rest, others)
+}
+
+// The same of strands with these relations, from one of their ends on.
+fn leads_less(
+    own: LabelSet,
     sides: (Side, Side),
     ends: (Side, Side),
     rows: &[LabelSet],
@@ -141,26 +164,54 @@ fn strand_allows(
     if sides != ends {
         return false;
     }
-    holds_in(rows, others) || (sides.0 == sides.1 && holds_in(columns, others))
+    relates_less(own, rows, others) || (sides.0 == sides.1 && relates_less(own, columns, others))
 }
 
-/// Whether the first gadget allows no more than the second one, with ends on the same sides: so it can stand in its place in a graph without a solution.
-pub(crate) fn allows_less(few: &Allowed, many: &Allowed) -> bool {
+/// Whether the first gadget, with ends on the same sides, allows no more of a problem's own labels than the second one, and no fewer of the others, which
+/// are those of the input problem: so it can stand in its place in a graph on which only the input problem has a solution.
+pub(crate) fn allows_less(own: LabelSet, few: &Allowed, many: &Allowed) -> bool {
     match (few, many) {
         (Allowed::Node(side, ends, first), Allowed::Node(other, count, second)) => {
-            *side == *other && *ends == *count && is_part(first.as_slice(), second.as_slice())
+            *side == *other
+                && *ends == *count
+                && has_fewer(own, first.as_slice(), second.as_slice())
         }
         (Allowed::Strand(left, right, rows, columns), Allowed::Strand(first, second, others, _)) =>
-            strand_allows(
-                (*left, *right),
-                (*first, *second),
-                rows.as_slice(),
-                columns.as_slice(),
-                others.as_slice(),
-            ),
+            {
+                leads_less(
+                    own,
+                    (*left, *right),
+                    (*first, *second),
+                    rows.as_slice(),
+                    columns.as_slice(),
+                    others.as_slice(),
+                )
+            }
         (Allowed::Tail(side, set), Allowed::Tail(other, all)) => {
-            *side == *other && set.within(*all)
+            *side == *other && has_less(own, *set, *all)
         }
         _ => false,
+    }
+}
+
+// Whether each row has such labels alone.
+fn are_within(rows: &[LabelSet], own: LabelSet) -> bool {
+    for row in rows {
+        if !row.within(own) {
+            return false;
+        }
+    }
+    true
+}
+
+/// Whether the gadget allows other labels than these.
+pub(crate) fn has_others(own: LabelSet, allowed: &Allowed) -> bool {
+    match allowed {
+        Allowed::Node(_, _, multisets) => {
+            let (_, others) = split_at_own(multisets.as_slice(), own);
+            !others.is_empty()
+        }
+        Allowed::Strand(_, _, rows, _) => !are_within(rows.as_slice(), own),
+        Allowed::Tail(_, set) => !set.within(own),
     }
 }

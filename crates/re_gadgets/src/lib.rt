@@ -10,5 +10,5 @@ mod relations;
 mod searching;
 mod writing;
 
-pub use finding::{MAX_GRAPHS, MAX_TRIES, find_gadgets};
+pub use finding::{MAX_GRAPHS, MAX_TRIES, find_gadgets, find_gadgets_given};
 pub use searching::{MAX_KEPT, MAX_MADE, MAX_STEPS};

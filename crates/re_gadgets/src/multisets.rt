@@ -9,11 +9,11 @@ use std::alloc::Global;
 /// A multiset of at most 6 labels as a number: a byte for each label, in ascending order, the least in the lowest byte.
 pub(crate) type Multiset = u64;
 
-/// The number of the labels of a configuration.
-pub(crate) fn multiset_of(config: &Config) -> Multiset {
+/// The number of the labels of a configuration, where labels count from this one on.
+pub(crate) fn multiset_of(config: &Config, from: u8) -> Multiset {
     let mut number = 0u64;
     for label in config.labels().iter().rev() {
-        number = (number << 8) | u64::from(*label);
+        number = (number << 8) | u64::from(label.saturating_add(from));
     }
     number
 }
@@ -141,4 +141,25 @@ pub(crate) fn is_part(few: &[Multiset], many: &[Multiset]) -> bool {
         }
     }
     place == few.len()
+}
+
+// How many multisets stand in front of the first one whose labels aren't in the set.
+fn own_count(multisets: &[Multiset], own: LabelSet) -> usize {
+    let mut count = 0usize;
+    for multiset in multisets {
+        if !is_in(own, label_at(*multiset, 0)) {
+            return count;
+        }
+        count = count.saturating_add(1);
+    }
+    count
+}
+
+/// The multisets of labels in the set, and those of others, which stand behind them.
+pub(crate) fn split_at_own(multisets: &[Multiset], own: LabelSet) -> (&[Multiset], &[Multiset]) {
+    let count = own_count(multisets, own);
+    match (multisets.get(..count), multisets.get(count..)) {
+        (Some(first), Some(others)) => (first, others),
+        _ => (multisets, &multisets[..0]),
+    }
 }

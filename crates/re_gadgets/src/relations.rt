@@ -79,24 +79,15 @@ pub(crate) fn chained(
     Ok(rows)
 }
 
-/// Whether some label is related to itself.
-pub(crate) fn has_loop(rows: &[LabelSet]) -> bool {
+/// The labels that are related to themselves.
+pub(crate) fn loops(rows: &[LabelSet]) -> LabelSet {
+    let mut all = LabelSet::empty();
     for (label, row) in (0..MAX_LABELS).zip(rows) {
-        if is_in(*row, label) {
-            return true;
+        if label < MAX_LABELS && row.has(label) {
+            all = all.insert(label);
         }
     }
-    false
-}
-
-/// Whether the second relation holds wherever the first one does.
-pub(crate) fn holds_in(rows: &[LabelSet], others: &[LabelSet]) -> bool {
-    for (row, other) in rows.iter().zip(others) {
-        if !row.within(*other) {
-            return false;
-        }
-    }
-    true
+    all
 }
 
 // For each label that the row reaches as a second one, and each third one, the first labels of the triples.

@@ -1,9 +1,9 @@
 //! The search over gadgets.
-use crate::gadgets::{Allowed, Gadget, Made, allows_less, node_of};
+use crate::gadgets::{Allowed, Gadget, Made, allows_less, has_others, node_of};
 use crate::joining::{Numbered, node_ends, push_at_node, push_series};
-use crate::multisets::multiset_of;
+use crate::multisets::{Multiset, multiset_of};
 use re_graph::MAX_NODES;
-use re_labels::{NoMemory, Side};
+use re_labels::{LabelSet, MAX_LABELS, NoMemory, Side};
 use re_problem::Problem;
 use re_table::Constraint;
 use std::alloc::Global;
@@ -21,8 +21,11 @@ pub const MAX_STEPS: usize = 50_000_000;
 #[derive(Drop)]
 pub(crate) struct Search {
     pub alloc: Global,
-    /// How many labels the problem has.
+    /// How many labels the problem and the input problem have.
     pub labels: u8,
+    /// Which of them are the problem's, and whether there is an input problem.
+    pub own: LabelSet,
+    pub is_given: bool,
     /// All gadgets that were made and not left out.
     pub gadgets: Vec<Gadget>,
     /// Those that are kept.
@@ -33,46 +36,97 @@ pub(crate) struct Search {
     most: usize,
 }
 
-// What the node with all its ends free allows.
-fn whole_node(
-    alloc: Global,
-    labels: u8,
-    side: Side,
-    constraint: &Constraint,
-) -> Result<Allowed, NoMemory> {
-    let mut multisets = Vec::new(alloc);
-    for config in constraint.configs() {
-        multisets.push(multiset_of(config))?;
+// The first labels, so many.
+fn first_labels(count: u8) -> LabelSet {
+    let mut set = LabelSet::empty();
+    for label in 0..count.min(MAX_LABELS) {
+        set = set.insert(label);
     }
-    multisets.sort_unstable();
-    node_of(alloc, labels, side, constraint.degree(), multisets)
+    set
+}
+
+// Appends the multisets of a constraint whose labels count from this one on.
+fn push_multisets(
+    multisets: &mut Vec<Multiset>,
+    constraint: &Constraint,
+    from: u8,
+) -> Result<(), NoMemory> {
+    for config in constraint.configs() {
+        multisets.push(multiset_of(config, from))?;
+    }
+    Ok(())
+}
+
+// How many labels a problem has, and none where there is no problem.
+fn labels_in(problem: Option<&Problem>) -> u8 {
+    match problem {
+        Some(problem) => problem.names().len().min(128) as u8,
+        None => 0,
+    }
+}
+
+// The constraint of the side.
+fn side_of(problem: &Problem, side: Side) -> &Constraint {
+    match side {
+        Side::Active => problem.active(),
+        Side::Passive => problem.passive(),
+    }
 }
 
 impl Search {
-    /// The search of at most so many steps that begins with the two nodes of the problem.
-    pub fn new(alloc: Global, problem: &Problem, most: usize) -> Result<Search, NoMemory> {
-        let labels = problem.names().len().min(128) as u8;
+    // Makes the node of this side with all its ends free.
+    fn put_node(
+        &mut self,
+        problem: &Problem,
+        input: Option<&Problem>,
+        side: Side,
+    ) -> Result<(), NoMemory> {
+        let mut multisets = Vec::new(self.alloc);
+        let constraint = side_of(problem, side);
+        push_multisets(&mut multisets, constraint, 0)?;
+        if let Some(input) = input {
+            let from = labels_in(Some(problem));
+            push_multisets(&mut multisets, side_of(input, side), from)?;
+        }
+        multisets.sort_unstable();
+        let degree = constraint.degree();
+        let allowed = node_of(self.alloc, self.labels, side, degree, multisets)?;
+        let nodes = match side {
+            Side::Active => 1,
+            Side::Passive => 0,
+        };
+        Ok(
+            self.gadgets.push(Gadget {
+                allowed,
+                nodes,
+                made: Made::Node(side),
+            })?,
+        )
+    }
+
+    /// The search of at most so many steps that begins with the two nodes of the problem. Labels of the input problem count on from the problem's, so
+    /// that in a connected graph all labels are of one of them. Where both have more than `MAX_LABELS` labels, no step is made.
+    pub fn new(
+        alloc: Global,
+        problem: &Problem,
+        input: Option<&Problem>,
+        most: usize,
+    ) -> Result<Search, NoMemory> {
+        let own = labels_in(Some(problem));
+        let labels = own.saturating_add(labels_in(input));
         let mut search = Search {
             alloc,
-            labels,
+            labels: labels.min(MAX_LABELS),
+            own: first_labels(own),
+            is_given: input.is_some(),
             gadgets: Vec::new(alloc),
             kept: Vec::new(alloc),
             graphs: Vec::new(alloc),
             steps: 0,
-            most,
+            most: if labels > MAX_LABELS { 0 } else { most },
         };
-        let active = whole_node(alloc, labels, Side::Active, problem.active())?;
-        search.gadgets.push(Gadget {
-            allowed: active,
-            nodes: 1,
-            made: Made::Node(Side::Active),
-        })?;
-        let passive = whole_node(alloc, labels, Side::Passive, problem.passive())?;
-        search.gadgets.push(Gadget {
-            allowed: passive,
-            nodes: 0,
-            made: Made::Node(Side::Passive),
-        })?;
+        search.put_node(problem, input, Side::Active)?;
+        search.put_node(problem, input, Side::Passive)?;
         Ok(search)
     }
 
@@ -92,11 +146,11 @@ impl Search {
         Some(Numbered { place, gadget })
     }
 
-    /// Whether a kept gadget allows no more.
+    /// Whether a kept gadget is no worse.
     pub fn is_needless(&self, allowed: &Allowed) -> bool {
         for place in self.kept.as_slice() {
             if let Some(gadget) = self.gadgets.as_slice().get(*place) {
-                if allows_less(&gadget.allowed, allowed) {
+                if allows_less(self.own, &gadget.allowed, allowed) {
                     return true;
                 }
             }
@@ -104,10 +158,11 @@ impl Search {
         false
     }
 
-    // Whether there is room for the gadget, and no kept one allows no more.
+    // Whether there is room for the gadget, it allows labels of the input problem, if there is one, and no kept one is better.
     fn has_use(&self, gadget: &Gadget) -> bool {
         self.gadgets.len() < MAX_MADE
             && gadget.nodes <= MAX_NODES
+            && (!self.is_given || has_others(self.own, &gadget.allowed))
             && !self.is_needless(&gadget.allowed)
     }
 

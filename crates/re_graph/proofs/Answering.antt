@@ -1,9 +1,13 @@
 -- What the walk over labels tells of solutions.
-use Rattle.std.proofs.Common.{◌≡◌, ◌*◌, ℕ, List, IfNone, IfSome, MatchOption, Option, None, Some, sym, ◌∙◌, subst, true≢false}
+use Rattle.std.proofs.Common.{◌≡◌, ◌*◌, ℕ, List, IfNone, IfOk, IfSome, MatchOption, Option, None, Some, Result, Ok, Err, sym, ◌∙◌, subst, true≢false}
 use Rattle.re_cover.specs.Graphs.{IsGraphOf, PortGraph}
+use Rattle.re_cover.specs.GivenGraphs.{NoSolutionGivenLaw}
 use Rattle.re_cover.proofs.Outputs.{no_solution_law}
+use Rattle.re_given.specs.Given.{SolvableGiven}
+use Rattle.re_given.specs.Inputs.{IsInput}
 use Rattle.re_graph.proofs.Meaning.{passes_law}
-use Rattle.re_graph.specs.Solving.{IsAnswer, IsCover, passes_on, solution_walk}
+use Rattle.re_graph.specs.Solving.{AreSolution, IsAnswer, IsCover, passes_on, solution_walk}
+use Rattle.re_graph.specs.declared.covers.Cover.{Cover}
 use Rattle.re_laws.specs.Algorithms.{Solvable}
 use Rattle.re_problem.specs.Problems.{IsProblem, Problem}
 use Rattle.re_walks.proofs.WalkLemmas.{walk_law}
@@ -42,3 +46,15 @@ meant problem graph tries is of items (Some v) e = tt
 pub cover-means : (problem : Problem) (o : Option PortGraph) → IfSome o (IsCover problem) → IfSome o (λ _. (T : ℕ) → Solvable problem T → ⊥)
 cover-means problem None h = h
 cover-means problem (Some graph) h = none-means problem graph h.0 h.1
+
+-- what one without a solution means on which an input problem has one
+pub given-cover-means : NoSolutionGivenLaw → (problem input : Problem) (o : Option Cover) → IsInput problem input → IfSome o (λ cover. IsCover problem cover.graph) → IfSome o (λ cover. AreSolution input cover.graph cover.labels.items)
+    → IfSome o (λ _. (T : ℕ) → SolvableGiven problem input T → ⊥)
+given-cover-means law problem input None is h given = h
+given-cover-means law problem input (Some cover) is h given = λ T. law problem input cover.graph _ T h.0 is given.solution h.1
+
+-- the same of what a search gives back
+pub found-means : {V E : Type 0} → NoSolutionGivenLaw → (problem input : Problem) (covers : V → Option Cover) (r : Result V E) → IsInput problem input → IfOk r (λ v. IfSome (covers v) (λ cover. IsCover problem cover.graph))
+    → IfOk r (λ v. IfSome (covers v) (λ cover. AreSolution input cover.graph cover.labels.items)) → IfOk r (λ v. IfSome (covers v) (λ _. (T : ℕ) → SolvableGiven problem input T → ⊥))
+found-means law problem input covers (Ok v) is h given = given-cover-means law problem input (covers v) is h given
+found-means law problem input covers (Err e) is h given = h

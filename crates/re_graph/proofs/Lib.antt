@@ -4,3 +4,4 @@ mod EndSearch
 mod Fronts
 mod Meaning
 mod Worked
+mod Judged

@@ -113,7 +113,7 @@ kept-joined passive d m flat lists (ends ∷ nodes) same all has =
     (kept-joined passive d m flat lists nodes same all.1 has.1)
 
 -- the labels of a configuration are as many as its degree, and below n
-config-of : (n : ℕ) (constraint : Constraint) (labels : List ℕ) → IsConstraint n constraint → Has constraint labels → (length labels ≡ constraint.degree) × AllByRecursion (λ label. label < n) labels
+pub config-of : (n : ℕ) (constraint : Constraint) (labels : List ℕ) → IsConstraint n constraint → Has constraint labels → (length labels ≡ constraint.degree) × AllByRecursion (λ label. label < n) labels
 config-of n constraint labels is has =
     let config : IsConfig constraint.degree n (sorted labels) = AllByRecursion-contains (IsConfig constraint.degree n) constraint.configs (sorted labels) is.configs has in
     (sym (length-sorted labels) ∙ config.count, AllByRecursion-Rearranged (λ label. label < n) (Rearranged-sym (Rearranged-sorted labels)) config.below)

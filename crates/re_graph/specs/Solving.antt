@@ -58,6 +58,11 @@ IsAnswer problem graph (Some labels) = IsSolution problem graph (labels_of probl
 abbrev pub IsCover : Problem → PortGraph → Type 0
 IsCover problem graph = IsGraphOf problem graph × ((labels : List (List ℕ)) → IsSolution problem graph labels → ⊥)
 
+-- labels, written one behind the other, that are a solution
+pub record AreSolution (problem : Problem) (graph : PortGraph) (labels : List ℕ) : Type 0 where
+  pub assignment : IsAssignment problem.labels (graph.nodes * problem.active.degree) labels
+  pub solution : IsSolution problem graph (labels_of problem.active.degree graph.nodes labels)
+
 -- beginnings of what passes do, what passes with all its labels is a solution, and each solution passes
 pub record PassesLaw (problem : Problem) (graph : PortGraph) : Type 0 where
   pub beginnings : BeginningsPass (passes_on problem graph) problem.labels (graph.nodes * problem.active.degree)

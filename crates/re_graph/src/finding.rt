@@ -1,13 +1,15 @@
 //! The search for a graph without a solution.
-ghost use Rattle.re_graph.specs.Solving.{IsCover};
+ghost use Rattle.re_given.specs.Given.{SolvableGiven};
+ghost use Rattle.re_given.specs.Inputs.{IsInput};
+ghost use Rattle.re_graph.specs.Solving.{AreSolution, IsCover};
 ghost use Rattle.re_laws.specs.Algorithms.{Solvable};
 ghost use Rattle.re_problem.specs.NamedProblems.{unnamed};
 ghost use Rattle.std.specs.Prelude.{◌≡◌, ◌≤◌, ◌+◌, IfOk, IfSome, ℕ, length};
 
+use crate::covers::{Cover, cover_of};
 use crate::graph::{Graph, PassiveEnds};
-use crate::solving::{SolveFault, solve};
 use arrayvec::ArrayVec;
-use re_cover::GraphEnd;
+use re_cover::{GraphEnd, no_solution_given_law};
 use re_labels::{Degrees, NoMemory};
 use re_problem::Problem;
 use re_walks::follow;
@@ -24,6 +26,15 @@ pub const MAX_TRIES: u32 = 100_000;
 pub struct Found {
     /// The graph, where one was found.
     pub graph: Option<Graph>,
+    /// How many graphs were looked at.
+    pub graphs: u32,
+}
+
+/// What a search given an input problem came to: a graph with a solution of the input problem, and how many graphs were looked at.
+#[derive(Drop)]
+pub struct FoundCover {
+    /// The graph and the solution, where one was found.
+    pub cover: Option<Cover>,
     /// How many graphs were looked at.
     pub graphs: u32,
 }
@@ -147,34 +158,39 @@ fn graph_for(
     Ok(Graph::build(degrees, nodes, passive))
 }
 
-// The graph of the list, where it has no solution.
-fn without_solution(
+// The graph of the list, where the problem has no solution on it, and the input problem, if any, has one.
+fn cover_for(
     alloc: Global,
     problem: &Problem,
+    input: Option<&Problem>,
     nodes: u8,
     list: &[u8],
-) -> Result<Option<Graph>, NoMemory>
-    ensures cover { IfOk result (λ graph. IfSome graph (IsCover (unnamed problem.now))) }
-    ensures nodes { IfOk result (λ graph. IfSome graph (λ graph. graph.nodes ≡ nodes)) }
+) -> Result<Option<Cover>, NoMemory>
+    requires { IfSome input (λ input. IsInput (unnamed problem.now) (unnamed input.now)) }
+    ensures cover { IfOk result (λ cover. IfSome cover (λ cover. IsCover (unnamed problem.now) cover.graph)) }
+    ensures given { IfOk result (λ cover. IfSome cover (λ cover. IfSome input.entry (λ input. AreSolution (unnamed input.now) cover.graph cover.labels.items))) }
+    ensures nodes { IfOk result (λ cover. IfSome cover (λ cover. cover.graph.nodes ≡ nodes)) }
 {
     let degrees = problem.degrees();
     let Some(graph) = graph_for(alloc, degrees, nodes, list)? else {
         return Ok(None);
     };
-    let _graph = graph.passive();
-    match solve(alloc, problem, &graph, MAX_TRIES) {
-        Ok(None) => Ok(Some(graph)),
-        Ok(Some(_)) => Ok(None),
-        Err(SolveFault::TooManyTries) => Ok(None),
-        Err(SolveFault::NoMemory) => Err(NoMemory),
-    }
+    cover_of(alloc, problem, input, graph, MAX_TRIES)
 }
 
 // The first graph with so many active nodes.
-fn find_with(alloc: Global, problem: &Problem, nodes: u8, before: u32) -> Result<Found, NoMemory>
-    requires { nodes ≤ 8 }
-    ensures cover { IfOk result (λ found. IfSome found.graph (IsCover (unnamed problem.now))) }
-    ensures nodes { IfOk result (λ found. IfSome found.graph (λ graph. graph.nodes ≡ nodes)) }
+fn find_with(
+    alloc: Global,
+    problem: &Problem,
+    input: Option<&Problem>,
+    nodes: u8,
+    before: u32,
+) -> Result<FoundCover, NoMemory>
+    requires few { nodes ≤ 8 }
+    requires input { IfSome input (λ input. IsInput (unnamed problem.now) (unnamed input.now)) }
+    ensures cover { IfOk result (λ found. IfSome found.cover (λ cover. IsCover (unnamed problem.now) cover.graph)) }
+    ensures given { IfOk result (λ found. IfSome found.cover (λ cover. IfSome input.entry (λ input. AreSolution (unnamed input.now) cover.graph cover.labels.items))) }
+    ensures nodes { IfOk result (λ found. IfSome found.cover (λ cover. cover.graph.nodes ≡ nodes)) }
 {
     let degrees = problem.degrees();
     let places = nodes as usize * degrees.active as usize;
@@ -184,50 +200,73 @@ fn find_with(alloc: Global, problem: &Problem, nodes: u8, before: u32) -> Result
         let mut passes = goes_on(list.as_slice(), degrees);
         if passes && list.len() >= places {
             graphs = graphs.saturating_add(1);
-            let found = without_solution(alloc, problem, nodes, list.as_slice())?;
-            if found.is_some() {
-                return Ok(Found {
-                    graph: found,
-                    graphs,
-                });
+            let cover = cover_for(alloc, problem, input, nodes, list.as_slice())?;
+            if cover.is_some() {
+                return Ok(FoundCover { cover, graphs });
             }
             passes = false;
         }
         if !follow(&mut list, nodes, passes)? {
-            return Ok(Found {
-                graph: None,
+            return Ok(FoundCover {
+                cover: None,
                 graphs,
             });
         }
     }
-    Ok(Found {
-        graph: None,
+    Ok(FoundCover {
+        cover: None,
         graphs,
     })
 }
 
 // The first graph of at most so many active nodes.
-fn find_any(alloc: Global, problem: &Problem, most: u8) -> Result<Found, NoMemory>
-    requires { most ≤ 8 }
-    ensures cover { IfOk result (λ found. IfSome found.graph (IsCover (unnamed problem.now))) }
-    ensures few { IfOk result (λ found. IfSome found.graph (λ graph. graph.nodes ≤ most)) }
+fn find_any(
+    alloc: Global,
+    problem: &Problem,
+    input: Option<&Problem>,
+    most: u8,
+) -> Result<FoundCover, NoMemory>
+    requires few { most ≤ 8 }
+    requires input { IfSome input (λ input. IsInput (unnamed problem.now) (unnamed input.now)) }
+    ensures cover { IfOk result (λ found. IfSome found.cover (λ cover. IsCover (unnamed problem.now) cover.graph)) }
+    ensures given { IfOk result (λ found. IfSome found.cover (λ cover. IfSome input.entry (λ input. AreSolution (unnamed input.now) cover.graph cover.labels.items))) }
+    ensures few { IfOk result (λ found. IfSome found.cover (λ cover. cover.graph.nodes ≤ most)) }
 {
     let degrees = problem.degrees();
     let mut graphs = 0;
     for nodes in 1..most + 1 {
         let places = nodes as usize * degrees.active as usize;
         if degrees.passive > 0 && places % degrees.passive as usize == 0 {
-            let found = find_with(alloc, problem, nodes, graphs)?;
-            if found.graph.is_some() {
+            let found = find_with(alloc, problem, input, nodes, graphs)?;
+            if found.cover.is_some() {
                 return Ok(found);
             }
             graphs = found.graphs;
         }
     }
-    Ok(Found {
-        graph: None,
+    Ok(FoundCover {
+        cover: None,
         graphs,
     })
+}
+
+// The same without an input problem.
+fn find_alone(alloc: Global, problem: &Problem, most: u8) -> Result<Found, NoMemory>
+    requires { most ≤ 8 }
+    ensures cover { IfOk result (λ found. IfSome found.graph (IsCover (unnamed problem.now))) }
+    ensures few { IfOk result (λ found. IfSome found.graph (λ graph. graph.nodes ≤ most)) }
+{
+    let FoundCover { cover, graphs } = find_any(alloc, problem, None, most)?;
+    match cover {
+        Some(cover) => Ok(Found {
+            graph: Some(cover.graph),
+            graphs,
+        }),
+        None => Ok(Found {
+            graph: None,
+            graphs,
+        }),
+    }
 }
 
 /// A graph of at most so many active nodes on which the problem has no solution, so that no number of rounds solves it. Graphs with fewer nodes come
@@ -239,5 +278,25 @@ pub fn find_cover(alloc: Global, problem: &Problem, most: u8) -> Result<Found, N
     ensures few { IfOk result (λ found. IfSome found.graph (λ graph. graph.nodes ≤ most)) }
     ensures means { IfOk result (λ found. IfSome found.graph (λ _. (T : ℕ) → Solvable (unnamed problem.now) T → ⊥)) }
 {
-    find_any(alloc, problem, most)
+    find_alone(alloc, problem, most)
+}
+
+/// A graph of at most so many active nodes on which the problem has no solution and the input problem has one, so that no number of rounds solves
+/// the problem given the input problem. Graphs come as in `find_cover`; on each, `MAX_TRIES` tries are made for the first solution of the input
+/// problem, and where there is one as many for one of the problem. Where no graph is found, nothing is known.
+pub fn find_cover_given(
+    alloc: Global,
+    problem: &Problem,
+    input: &Problem,
+    most: u8,
+) -> Result<FoundCover, NoMemory>
+    requires few { most ≤ 8 }
+    requires input { IsInput (unnamed problem.now) (unnamed input.now) }
+    ensures found { IfOk result (λ found. IfSome found.cover (λ cover. IsCover (unnamed problem.now) cover.graph)) }
+    ensures given { IfOk result (λ found. IfSome found.cover (λ cover. AreSolution (unnamed input.now) cover.graph cover.labels.items)) }
+    ensures few { IfOk result (λ found. IfSome found.cover (λ cover. cover.graph.nodes ≤ most)) }
+    ensures means { IfOk result (λ found. IfSome found.cover (λ _. (T : ℕ) → SolvableGiven (unnamed problem.now) (unnamed input.now) T → ⊥)) }
+{
+    no_solution_given_law();
+    find_any(alloc, problem, Some(input), most)
 }

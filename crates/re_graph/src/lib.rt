@@ -1,8 +1,10 @@
 //! Finite graphs as data, the search for a solution on one, and their texts.
 #![tactic(auto)]
 
+mod covers;
 mod finding;
 mod graph;
+mod judging;
 mod passing;
 mod printing;
 mod solving;
@@ -11,8 +13,10 @@ mod standing;
 ghost use Rattle.re_graph.specs.Examples.{IndependentSetLaw};
 ghost use Rattle.re_graph.specs.Solving.{SolutionWalkLaw};
 
-pub use finding::{Found, find_cover};
+pub use covers::{Cover, cover_of};
+pub use finding::{Found, FoundCover, find_cover, find_cover_given};
 pub use graph::{Graph, MAX_NODES, MAX_PASSIVE, PassiveEnds};
+pub use judging::{LabelsFault, labels_fault};
 pub use printing::push_graph;
 pub use re_cover::GraphEnd;
 pub use solving::{SolveFault, solve};

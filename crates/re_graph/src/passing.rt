@@ -14,8 +14,8 @@ use re_problem::Problem;
 use re_table::Constraint;
 use re_walks::is_begun;
 
-// Whether these labels are a configuration.
-fn is_config(constraint: &Constraint, labels: &[u8]) -> bool
+/// Whether these labels are a configuration.
+pub(crate) fn is_config(constraint: &Constraint, labels: &[u8]) -> bool
     requires count { length labels.now ≡ constraint.now.degree }
     requires labels { AllByRecursion (λ label. label < MAX_LABELS) labels.now }
     ensures { result ≡ has_config constraint.now labels.now }

@@ -1,4 +1,8 @@
+pub mod Answered
+pub mod GivenMeant
+pub mod GivenParts
 pub mod Inputs
+pub mod LabelSteps
 pub mod LineSteps
 pub mod Meant
 pub mod Nodes

@@ -9,10 +9,11 @@ use Rattle.re_laws.specs.Algorithms.{Solvable}
 use Rattle.re_problem.specs.NamedProblems.{NamedProblem, unnamed}
 use Rattle.re_problem.specs.Problems.{IsProblem}
 use Rattle.re_walks.specs.Walking.{Walk, cut, found, nowhere}
-use Rattle.re_graph_words.specs.GraphWords.{AnswerMeans, solution_outcome, walked}
+use Rattle.re_graph_words.specs.SolveWords.{AnswerMeans, none_line}
+use Rattle.re_graph_words.specs.Solutions.{solution_outcome, walked_with}
 use Rattle.re_graph_words.specs.declared.solving.TheConstants.{MAX_TRIES}
 
-means-found : (problem : NamedProblem) (graph : PortGraph) (outcome : Outcome) (labels : List ℕ) → outcome ≡ walked problem graph (found labels) → IsAnswer (unnamed problem) graph (Some labels)
+means-found : (problem : NamedProblem) (graph : PortGraph) (outcome : Outcome) (labels : List ℕ) → outcome ≡ walked_with none_line problem graph (found labels) → IsAnswer (unnamed problem) graph (Some labels)
     → AnswerMeans problem graph outcome
 means-found problem graph outcome labels e solution =
     let status = ap (λ (o : Outcome). o.status) e in
@@ -26,7 +27,7 @@ means-found problem graph outcome labels e solution =
       never = λ no. absurd (let wrong : Done ≡ No = sym status ∙ no in cc);
     }
 
-means-none : (problem : NamedProblem) (graph : PortGraph) (outcome : Outcome) → outcome ≡ walked problem graph nowhere → IsAnswer (unnamed problem) graph None
+means-none : (problem : NamedProblem) (graph : PortGraph) (outcome : Outcome) → outcome ≡ walked_with none_line problem graph nowhere → IsAnswer (unnamed problem) graph None
     → ((T : ℕ) → Solvable (unnamed problem) T → ⊥) → AnswerMeans problem graph outcome
 means-none problem graph outcome e none never =
     let status = ap (λ (o : Outcome). o.status) e in
@@ -36,7 +37,7 @@ means-none problem graph outcome e none never =
       never = λ no. never;
     }
 
-means-cut : (problem : NamedProblem) (graph : PortGraph) (outcome : Outcome) → outcome ≡ walked problem graph cut → AnswerMeans problem graph outcome
+means-cut : (problem : NamedProblem) (graph : PortGraph) (outcome : Outcome) → outcome ≡ walked_with none_line problem graph cut → AnswerMeans problem graph outcome
 means-cut problem graph outcome e =
     let status = ap (λ (o : Outcome). o.status) e in
     record {
@@ -46,11 +47,11 @@ means-cut problem graph outcome e =
     }
 
 -- what the first solution, or none, means
-pub meant : (problem : NamedProblem) (graph : PortGraph) → IsProblem (unnamed problem) → IsGraphOf (unnamed problem) graph → (outcome : Outcome) → outcome ≡ solution_outcome problem graph
+pub meant : (problem : NamedProblem) (graph : PortGraph) → IsProblem (unnamed problem) → IsGraphOf (unnamed problem) graph → (outcome : Outcome) → outcome ≡ solution_outcome none_line problem graph
     → AnswerMeans problem graph outcome
 meant problem graph is of outcome e = by (solution_walk (unnamed problem) graph MAX_TRIES) refl e
   where
-    by : (w : Walk) → solution_walk (unnamed problem) graph MAX_TRIES ≡ w → outcome ≡ walked problem graph w → AnswerMeans problem graph outcome
+    by : (w : Walk) → solution_walk (unnamed problem) graph MAX_TRIES ≡ w → outcome ≡ walked_with none_line problem graph w → AnswerMeans problem graph outcome
     by (found labels) came e = means-found problem graph outcome labels e (some-answer (unnamed problem) graph MAX_TRIES labels is of came)
     by nowhere came e =
         let none = none-answer (unnamed problem) graph MAX_TRIES is of came in

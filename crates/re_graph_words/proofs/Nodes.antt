@@ -4,7 +4,7 @@ use Rattle.std.proofs.lemmas.List.{length-take-le}
 use Rattle.std.specs.Prelude.{codes}
 use Rattle.re_cert_text.specs.CertificateLines.{image_text}
 use Rattle.re_graph.specs.Solving.{labels_of}
-use Rattle.re_graph_words.specs.GraphWords.{node_lines}
+use Rattle.re_graph_words.specs.Solutions.{node_lines}
 
 pub some-nodes : (nodes : ℕ) → nodes ≢ 0 → 0 < nodes
 some-nodes zero ne = absurd (ne refl)

@@ -1,6 +1,13 @@
 pub mod Faults
+pub mod GivenCovers
+pub mod GivenInputs
+pub mod GivenReading
+pub mod GivenSolutions
 pub mod GraphInputs
 pub mod GraphLines
 pub mod GraphWords
+pub mod NotFound
 pub mod Reading
+pub mod Solutions
+pub mod SolveWords
 pub mod Words

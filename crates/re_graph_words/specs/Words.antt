@@ -25,5 +25,5 @@ IsGraphWord (Cover nodes) = (1 ≤ nodes) × (nodes ≤ 64)
 -- the lines of help
 unfoldable pub graph_help : List ℕ
 graph_help =
-    codes "solve: reads a problem, a line == graph and the lines of a graph, gives a solution on it, or that there is none\n"
-    ++ codes "cover M: reads a problem, gives a graph of at most M active nodes without a solution\n"
+    codes "solve: reads a problem, or one with a line == given and an input problem, a line == graph and the lines of a graph, gives a solution on it, or that there is none\n"
+    ++ codes "cover M: reads a problem, or one with a line == given and an input problem, gives a graph of at most M active nodes without a solution\n"

@@ -1,22 +1,26 @@
 //! What the words answer.
 ghost use Rattle.re_frame.specs.Outcomes.{outcome_of, status_of};
 ghost use Rattle.re_frame.specs.Runs.{MaySay};
-ghost use Rattle.re_graph_words.specs.GraphWords.{MayCoverRead, MayGive};
+ghost use Rattle.re_graph_words.specs.GraphWords.{MayCoverBy, MayCoverRead, MayGive};
 ghost use Rattle.re_graph_words.specs.Words.{IsGraphWord};
 ghost use Rattle.re_io.specs.declared.read.TheConstants.{MAX_BYTES};
 ghost use Rattle.re_problem.specs.ProblemTexts.{first_fault, lines_of, problem_of};
-ghost use Rattle.std.specs.Prelude.{◌≡◌, ◌≤◌, IfOk, length, true};
+ghost use Rattle.re_two_texts.specs.TwoTexts.{has_line as has_given};
+ghost use Rattle.std.specs.Prelude.{◌≡◌, ◌≤◌, IfOk, codes, length, true};
 
 use crate::covering::cover_output;
+use crate::given_covering::given_cover_output;
 use crate::solving::solve_output;
 use crate::words::GraphWord;
 use re_frame::{Finding, Output, fault_output};
+use re_given_words::GIVEN;
 use re_labels::NoMemory;
 use re_problem::{TextFault, read_problem};
+use re_two_texts::has_line;
 use std::alloc::Global;
 
-// What `cover` gives to a text.
-fn cover_text_output(alloc: Global, most: u8, text: &[u8]) -> Result<Output, NoMemory>
+// What `cover` gives to the text of a problem.
+fn problem_text_output(alloc: Global, most: u8, text: &[u8]) -> Result<Output, NoMemory>
     requires most { most ≤ 64 }
     requires few { length text.now ≤ MAX_BYTES }
     ensures { IfOk result (λ output. MayCoverRead (first_fault 0 1 (lines_of text.now)) (problem_of (lines_of text.now)) most (outcome_of output)) }
@@ -25,6 +29,19 @@ fn cover_text_output(alloc: Global, most: u8, text: &[u8]) -> Result<Output, NoM
         Ok(problem) => cover_output(alloc, &problem, most),
         Err(TextFault::Bad(fault)) => Ok(fault_output(alloc, fault)?),
         Err(TextFault::NoMemory) => Err(NoMemory),
+    }
+}
+
+// What `cover` gives to a text.
+fn cover_text_output(alloc: Global, most: u8, text: &[u8]) -> Result<Output, NoMemory>
+    requires most { most ≤ 64 }
+    requires few { length text.now ≤ MAX_BYTES }
+    ensures { IfOk result (λ output. MayCoverBy (has_given (codes "given") text.now) most text.now (outcome_of output)) }
+{
+    if has_line(GIVEN, text) {
+        given_cover_output(alloc, most, text)
+    } else {
+        problem_text_output(alloc, most, text)
     }
 }
 

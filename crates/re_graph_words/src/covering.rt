@@ -1,7 +1,8 @@
 //! What `cover` answers.
 ghost use Rattle.re_frame.specs.Outcomes.{outcome_of, refused as refused_with};
 ghost use Rattle.re_graph.specs.Solving.{IsCover};
-ghost use Rattle.re_graph_words.specs.GraphWords.{MayCover, cover_text, not_found_line};
+ghost use Rattle.re_graph_words.specs.GraphWords.{MayCover, cover_text};
+ghost use Rattle.re_graph_words.specs.NotFound.{not_found_line};
 ghost use Rattle.re_laws.specs.Algorithms.{Solvable};
 ghost use Rattle.re_problem.specs.NamedProblems.{unnamed};
 ghost use Rattle.std.specs.Prelude.{◌≡◌, ◌≤◌, ℕ, IfOk, IfSome};
@@ -16,10 +17,10 @@ use re_problem::{Problem, push_problem};
 use std::alloc::Global;
 
 /// The most active nodes of a graph that is found by listing graphs.
-const MAX_LISTED: u8 = 8;
+pub(crate) const MAX_LISTED: u8 = 8;
 
-// The output where no graph was found.
-fn not_found(alloc: Global, graphs: u32) -> Result<Output, NoMemory>
+/// The output where no graph was found.
+pub(crate) fn not_found(alloc: Global, graphs: u32) -> Result<Output, NoMemory>
     ensures { IfOk result (λ output. outcome_of output ≡ refused_with (not_found_line graphs)) }
 {
     let mut text = begun(alloc, "not found: graphs ")?;

@@ -2,7 +2,9 @@
 ghost use Rattle.re_frame.specs.Outcomes.{done as done_with, outcome_of};
 ghost use Rattle.re_graph.specs.Solving.{labels_of, solution_walk};
 ghost use Rattle.re_graph_words.specs.GraphInputs.{graph_input};
-ghost use Rattle.re_graph_words.specs.GraphWords.{AnswerMeans, IsSolved, node_lines, solution_outcome, walked};
+ghost use Rattle.re_graph_words.specs.SolveWords.{AnswerMeans, IsSolved, ReadMeans, none_line, read_outcome, solve_outcome};
+ghost use Rattle.re_graph_words.specs.Solutions.{node_lines, solution_outcome, walked_with};
+ghost use Rattle.re_two_texts.specs.TwoTexts.{has_line as has_given};
 ghost use Rattle.re_io.specs.declared.read.TheConstants.{MAX_BYTES};
 ghost use Rattle.re_problem.specs.NamedProblems.{unnamed};
 ghost use Rattle.re_walks.specs.Walking.{found};
@@ -11,13 +13,16 @@ ghost use Rattle.re_cert_text.specs.CertificateLines.{image_text};
 ghost use Rattle.std.specs.Prelude.{◌≡◌, ◌<◌, ◌≤◌, ◌*◌, ◌++◌, IfOk, OnOk, codes, drop, length, take};
 
 use crate::faults::{ReadFault, graph_fault_output};
+use crate::given_solving::given_output;
 use crate::texts::{GraphText, read_graph_text};
 use re_cert::RowImage;
 use re_cert_text::push_image;
 use re_frame::{Answer, Output, begun, done, refused};
+use re_given_words::GIVEN;
 use re_graph::{Graph, SolveFault, solve};
 use re_labels::{Names, NoMemory};
 use re_problem::Problem;
+use re_two_texts::has_line;
 use std::alloc::Global;
 
 /// The most tries of a search for a solution.
@@ -53,8 +58,8 @@ fn other_labels(labels: &[u8], count: u8) -> &[u8]
     &labels[count as usize..]
 }
 
-// Appends the lines of so many nodes of this degree, whose labels stand one behind the other.
-fn push_nodes(
+/// Appends the lines of so many nodes of this degree, whose labels stand one behind the other.
+pub(crate) fn push_nodes(
     text: &mut Vec<u8>,
     names: &Names,
     degree: u8,
@@ -77,13 +82,14 @@ fn push_nodes(
 // The output with a solution.
 fn found_output(
     alloc: Global,
+    none: &str,
     problem: &Problem,
     graph: &Graph,
     labels: &[u8],
 ) -> Result<Output, NoMemory>
     requires count { length labels.now ≡ graph.now.nodes * problem.now.active.degree }
     requires named { AllByRecursion (λ label. label < length problem.now.names) labels.now }
-    ensures { IfOk result (λ output. outcome_of output ≡ walked problem.now graph.now (found labels.now)) }
+    ensures { IfOk result (λ output. outcome_of output ≡ walked_with none.now problem.now graph.now (found labels.now)) }
 {
     let degree = problem.active().degree();
     let mut text = begun(alloc, "yes:\n")?;
@@ -91,18 +97,20 @@ fn found_output(
     Ok(done(text))
 }
 
-// What is given to a problem and a graph.
-fn solution_output(alloc: Global, problem: &Problem, graph: &Graph) -> Result<Output, NoMemory>
+/// What is given to a problem and a graph, with this line where there is no solution.
+pub(crate) fn solution_output(
+    alloc: Global,
+    none: &str,
+    problem: &Problem,
+    graph: &Graph,
+) -> Result<Output, NoMemory>
     requires active { graph.now.active_degree ≡ problem.now.active.degree }
     requires passive { graph.now.passive_degree ≡ problem.now.passive.degree }
-    ensures { IfOk result (λ output. outcome_of output ≡ solution_outcome problem.now graph.now) }
+    ensures { IfOk result (λ output. outcome_of output ≡ solution_outcome none.now problem.now graph.now) }
 {
     match solve(alloc, problem, graph, MAX_TRIES) {
-        Ok(Some(labels)) => found_output(alloc, problem, graph, labels.as_slice()),
-        Ok(None) => Ok(refused(begun(
-            alloc,
-            "no: no solution on this graph, so not solvable in any number of rounds\n",
-        )?)),
+        Ok(Some(labels)) => found_output(alloc, none, problem, graph, labels.as_slice()),
+        Ok(None) => Ok(refused(begun(alloc, none)?)),
         Err(SolveFault::TooManyTries) => Ok(Output {
             answer: Answer::Limit,
             text: begun(alloc, "limit: more than 1000000 tries\n")?,
@@ -115,23 +123,40 @@ fn solution_output(alloc: Global, problem: &Problem, graph: &Graph) -> Result<Ou
 fn judged_output(alloc: Global, problem: &Problem, graph: &Graph) -> Result<Output, NoMemory>
     requires active { graph.now.active_degree ≡ problem.now.active.degree }
     requires passive { graph.now.passive_degree ≡ problem.now.passive.degree }
-    ensures answer { IfOk result (λ output. outcome_of output ≡ solution_outcome problem.now graph.now) }
+    ensures answer { IfOk result (λ output. outcome_of output ≡ solution_outcome none_line problem.now graph.now) }
     ensures means { IfOk result (λ output. AnswerMeans problem.now graph.now (outcome_of output)) }
 {
     let _problem = problem.names();
     let _graph = graph.passive();
-    solution_output(alloc, problem, graph)
+    solution_output(
+        alloc,
+        "no: no solution on this graph, so not solvable in any number of rounds\n",
+        problem,
+        graph,
+    )
 }
 
-/// What `solve` gives to a text.
-#[tactic(auto, unfolding(crate::specs::GraphWords::solve_outcome))]
-pub(crate) fn solve_output(alloc: Global, text: &[u8]) -> Result<Output, NoMemory>
+// What `solve` gives to a text of a problem and a graph.
+fn graph_output(alloc: Global, text: &[u8]) -> Result<Output, NoMemory>
     requires { length text.now ≤ MAX_BYTES }
-    ensures { IfOk result (λ output. IsSolved text.now (outcome_of output)) }
+    ensures answer { IfOk result (λ output. outcome_of output ≡ read_outcome (graph_input text.now)) }
+    ensures means { IfOk result (λ output. ReadMeans (graph_input text.now) (outcome_of output)) }
 {
     match read_graph_text(alloc, text) {
         Ok(GraphText { problem, graph }) => judged_output(alloc, &problem, &graph),
         Err(ReadFault::Bad(fault)) => graph_fault_output(alloc, fault),
         Err(ReadFault::NoMemory) => Err(NoMemory),
+    }
+}
+
+/// What `solve` gives to a text.
+pub(crate) fn solve_output(alloc: Global, text: &[u8]) -> Result<Output, NoMemory>
+    requires { length text.now ≤ MAX_BYTES }
+    ensures { IfOk result (λ output. IsSolved text.now (outcome_of output)) }
+{
+    if has_line(GIVEN, text) {
+        given_output(alloc, text)
+    } else {
+        graph_output(alloc, text)
     }
 }

@@ -13,8 +13,8 @@ use re_problem::{InputFault, Problem, TextFault};
 use re_two_texts::{cut_at, read_problem_at};
 use std::alloc::Global;
 
-// The name of the line in front of the graph.
-const GRAPH: &[u8] = b"graph";
+/// The name of the line in front of the graph.
+pub(crate) const GRAPH: &[u8] = b"graph";
 
 /// A problem and a graph of its degrees.
 #[derive(Drop)]
@@ -23,8 +23,8 @@ pub struct GraphText {
     pub graph: Graph,
 }
 
-// The fault of the problem's text.
-fn text_fault(fault: TextFault) -> ReadFault
+/// The fault of the problem's text.
+pub(crate) fn text_fault(fault: TextFault) -> ReadFault
     ensures { TextRefuses fault result }
 {
     match fault {

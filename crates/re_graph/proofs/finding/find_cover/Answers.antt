@@ -4,4 +4,4 @@ use Rattle.re_graph.proofs.finding.find_cover.Goals as goal
 use Rattle.re_problem.specs.NamedProblems.{unnamed}
 
 pub returns-clause-means : goal.returns-clause-means
-returns-clause-means c = IfOk-weaker c.find_any.result _ _ (λ found f. cover-means (unnamed c.args.problem.now) found.graph f) c.find_any.ensures.cover
+returns-clause-means c = IfOk-weaker c.find_alone.result _ _ (λ found f. cover-means (unnamed c.args.problem.now) found.graph f) c.find_alone.ensures.cover

@@ -5,7 +5,7 @@ use Rattle.std.specs.Prelude.{codes}
 use Rattle.re_cert_text.specs.CertificateLines.{image_text}
 use Rattle.re_graph.specs.Solving.{labels_of}
 use Rattle.re_walks.proofs.ConfigBeginnings.{low-drop, low-take}
-use Rattle.re_graph_words.specs.GraphWords.{node_lines}
+use Rattle.re_graph_words.specs.Solutions.{node_lines}
 use Rattle.re_graph_words.proofs.Nodes.{first-count, first-length, one-node, other-count, some-nodes}
 use Rattle.re_graph_words.proofs.solving.+push_nodes.Goals as goal
 

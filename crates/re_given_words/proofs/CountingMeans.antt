@@ -17,14 +17,14 @@ use Rattle.re_search.specs.Laws.{NonePassed}
 use Rattle.re_step.proofs.NameLemmas.{unnamed-derived}
 use Rattle.re_step.specs.Derivations.{named_derived, step_limit}
 use Rattle.re_walks.specs.Walking.{found, nowhere}
-use Rattle.re_given_words.specs.Counting.{AllFew, CountMeans, IsBeside, IsCounted, Solves, Tells, walk_after}
+use Rattle.re_given_words.specs.Counting.{AllFew, CountMeans, IsBeside, IsCounted, IsToldAhead, MayTell, Solves, Tells, walk_after}
 use Rattle.re_given_words.specs.declared.counting.Counted.{Counted}
-use Rattle.re_given_words.specs.declared.counting.Counted.TheVariants.{Exactly, MoreThan, Passed, Tried}
+use Rattle.re_given_words.specs.declared.counting.Counted.TheVariants.{Exactly, MoreThan, Passed, Stopped, Tried}
 use Rattle.re_given_words.specs.declared.counting.Told.TheVariants.{Enough, Few}
 use Rattle.re_given_words.specs.declared.fitting.TheConstants.{MAX_TRIES}
 
 -- ---- the problems on the way
-derived_is : (problem : Problem) (k : ℕ) → IsProblem problem → IsProblem (derived_by k problem)
+pub derived_is : (problem : Problem) (k : ℕ) → IsProblem problem → IsProblem (derived_by k problem)
 derived_is problem zero is = is
 derived_is problem (suc k) is = IsProblem-derived (derived_by k problem) (derived_is problem k is)
 
@@ -86,3 +86,17 @@ module _ (problem : Problem) (is : IsProblem problem) where
   count_means input most (MoreThan rounds) beside (l, few, passed) = λ T low. all_too_few input (suc rounds) beside few T (omega arith)
   count_means input most (Passed rounds limit) beside (l, at, few, passed) = λ T low. all_too_few input (suc rounds) beside few T (omega arith)
   count_means input most (Tried rounds) beside (l, untold, few, passed) = all_too_few input rounds beside few
+  count_means input most (Stopped rounds steps passed) beside counts = absurd counts
+
+  -- what is told ahead
+  ahead_means : (most : ℕ) (counted : Counted) → IsToldAhead problem most counted → CountMeans problem None counted
+  ahead_means most (Exactly rounds) told = (enough None rounds tt told.1, all_too_few None rounds tt told.2)
+  ahead_means most (MoreThan rounds) told = λ T low. all_too_few None (suc rounds) tt told.1 T (omega arith)
+  ahead_means most (Passed rounds limit) told = absurd told
+  ahead_means most (Tried rounds) told = absurd told
+  ahead_means most (Stopped rounds steps limit) told = λ T low. all_too_few None (suc rounds) tt told.1 T (omega arith)
+
+  pub told_means : (input : Option Problem) (most : ℕ) (counted : Counted) → IsBeside problem input → MayTell problem input most counted → CountMeans problem input counted
+  told_means input most counted beside (inl counts) = count_means input most counted beside counts
+  told_means None most counted beside (inr told) = ahead_means most counted told
+  told_means (Some input) most counted beside (inr told) = absurd told

@@ -5,7 +5,7 @@ use Rattle.std.specs.Fmt.{decimal}
 use Rattle.re_problem.specs.NamedProblems.{IsNamedProblem, NamedProblem, unnamed}
 use Rattle.re_problem.specs.declared.fault.InputFault.{InputFault as Fault}
 use Rattle.re_problem.specs.declared.fault.InputFault.TheVariants as text_fault
-use Rattle.re_cert.specs.Bounds.{Bound, is_lower, last_problem, problem_at}
+use Rattle.re_cert.specs.Bounds.{Bound, is_fixed, is_lower, last_problem, problem_at}
 use Rattle.re_cert.specs.declared.certificate.Kind.{Kind}
 use Rattle.re_cert.specs.declared.certificate.Kind.TheVariants.{Fixed, Lower, Upper}
 use Rattle.re_chain_texts.proofs.WordsGiven.{fault_not_done, none_fails}
@@ -17,11 +17,12 @@ use Rattle.re_check.specs.declared.verdict.Verdict.TheVariants.{Accepted, Refuse
 use Rattle.re_fit.proofs.Judged.{judged-none}
 use Rattle.re_fit.proofs.Told.{fit_walk_law}
 use Rattle.re_fit.specs.InputProblems.{input_fault}
-use Rattle.re_fit.specs.Laws.{TellsGiven}
+use Rattle.re_fit.specs.Fits.{sets_for}
+use Rattle.re_fit.specs.Laws.{IsFitting, TellsGiven}
 use Rattle.re_fit.specs.declared.inputs.InputFault.{InputFault}
 use Rattle.re_fit.specs.declared.inputs.InputFault.TheVariants.{Degrees, Empty, OneSide}
 use Rattle.re_frame.specs.Check.{clause_name, is_final, verdict_outcome}
-use Rattle.re_frame.specs.Outcomes.{Outcome, refused}
+use Rattle.re_frame.specs.Outcomes.{Outcome, done, refused}
 use Rattle.re_frame.specs.TextFaults.{fault_outcome, fault_status}
 use Rattle.re_frame.specs.declared.status.Status.TheVariants.{Done, Limit, No}
 use Rattle.re_given.proofs.ChainGiven.{SolvableGiven-none}
@@ -29,15 +30,15 @@ use Rattle.re_given.proofs.SlowGiven.{SolvableGiven-zero}
 use Rattle.re_given.specs.Given.{SolvableGiven, ZeroGiven}
 use Rattle.re_given.specs.Inputs.{IsInput}
 use Rattle.re_given_bounds.proofs.BoundChains.{behind-last}
-use Rattle.re_given_bounds.specs.GivenBounds.{IsOver, MeansGiven}
+use Rattle.re_given_bounds.specs.GivenBounds.{EndsGiven, IsOver, MeansGiven}
 use Rattle.re_two_texts.specs.TwoTexts.{back_problem, front_bound, two_fault}
 use Rattle.re_walks.specs.Walking.{Walk, cut, found, nowhere}
 use Rattle.re_given_words.proofs.EndNumbers.{end-high, end-low, kept}
-use Rattle.re_given_words.proofs.Held.{back_before, fixed_holds, input_there, lower_holds, named_at, upper_holds}
+use Rattle.re_given_words.proofs.Held.{back_before, fixed_holds, input_there, last_zero, lower_holds, named_at, upper_holds}
 use Rattle.re_given_words.specs.InputFaults.{fault_line, or_input_fault}
 use Rattle.re_given_words.specs.Meanings.{AnswerLaw, AnswerMeans, FitMeans, IsJudged, VerdictMeans}
 use Rattle.re_given_words.specs.Verdicts.{bound_outcome, end_number, end_outcome, fit_with, fixed_with, given_outcome, kept_steps, lower_with, or_back, sound_outcome, upper_with}
-use Rattle.re_given_words.specs.Walks.{input_at, walk_at}
+use Rattle.re_given_words.specs.Walks.{fit_text, input_at, walk_at}
 use Rattle.re_given_words.specs.declared.words.BoundWord.{BoundWord}
 use Rattle.re_given_words.specs.declared.words.BoundWord.TheVariants.{Fit, Given}
 use Rattle.re_given_words.specs.declared.fitting.TheConstants.{MAX_TRIES}
@@ -128,6 +129,15 @@ module _ (input : NamedProblem) (bound : Bound) (over : IsOver bound) (is : IsIn
       ((SolvableGiven-none (unnamed (problem_at bound (length bound.steps))) (input_at input (length bound.steps)) (named_at bound (length bound.steps) over).problem (input_there bound input (length bound.steps) over all_steps steps is)).0 solvable)
   fit_no cut e says solvable = limit_isnt_no (ap (λ (o : Outcome). o.status) says)
 
+  fit_shown : (w : Walk) → walk_at input bound (length bound.steps) ≡ w → (fit_with input bound w).status ≡ Done → (problem : NamedProblem) → problem_at bound (length bound.steps) ≡ problem
+      → (sets : List (List ℕ)) × IsFitting (unnamed problem) (input_at input (length bound.steps)) sets × (fit_with input bound w ≡ done (fit_text problem input sets))
+  fit_shown (found labels) e says problem same =
+      let fits = subst (TellsGiven (unnamed (problem_at bound (length bound.steps))) (input_at input (length bound.steps))) e (tells (length bound.steps) all_steps) in
+      let sets : List (List ℕ) = sets_for (input_at input (length bound.steps)) labels in
+      (sets, subst (λ (p : NamedProblem). IsFitting (unnamed p) (input_at input (length bound.steps)) sets) same fits, ap (λ (p : NamedProblem). done (fit_text p input sets)) same)
+  fit_shown nowhere e says problem same = absurd (no_isnt says)
+  fit_shown cut e says problem same = absurd (limit_isnt says)
+
   -- `given`
   abbrev Holds : Kind → Type 0
   Holds kind = MeansGiven kind (length bound.steps) (unnamed bound.first) (unnamed input)
@@ -159,6 +169,43 @@ module _ (input : NamedProblem) (bound : Bound) (over : IsOver bound) (is : IsIn
       let number : ℕ = end_number input bound (length bound.steps) in
       fixed_done e number (end-low input bound (length bound.steps) (omega (arith, before))) (end-high input bound (length bound.steps)) (walk_at input bound number) refl says
 
+  -- a refusal
+  abbrev Ends : Kind → Type 0
+  Ends kind = EndsGiven kind (unnamed (last_problem bound)) (input_at input (length bound.steps))
+
+  zero_last : ZeroThere (length bound.steps) → ZeroGiven (unnamed (last_problem bound)) (input_at input (length bound.steps))
+  zero_last there = subst (λ (p : NamedProblem). ZeroGiven (unnamed p) (input_at input (length bound.steps))) (behind-last bound.first bound.steps) there
+
+  last_there : ZeroGiven (unnamed (last_problem bound)) (input_at input (length bound.steps)) → ZeroThere (length bound.steps)
+  last_there there = subst (λ (p : NamedProblem). ZeroGiven (unnamed p) (input_at input (length bound.steps))) (sym (behind-last bound.first bound.steps)) there
+
+  lower_fails : (w : Walk) → walk_at input bound (length bound.steps) ≡ w → (lower_with input bound w).status ≡ No → Ends Lower → ⊥
+  lower_fails (found labels) came says ends = ends (zero_last (some_there (length bound.steps) all_steps labels came))
+  lower_fails nowhere came says ends = done_isnt_no says
+  lower_fails cut came says ends = limit_isnt_no says
+
+  upper_fails : (w : Walk) → walk_at input bound (length bound.steps) ≡ w → (upper_with bound w).status ≡ No → Ends Upper → ⊥
+  upper_fails (found labels) came says ends = done_isnt_no says
+  upper_fails nowhere came says ends = none_there (length bound.steps) all_steps came (last_there ends)
+  upper_fails cut came says ends = limit_isnt_no says
+
+  back_fails : (b : Bool) → (or_back b bound).status ≡ No → b ≡ true → ⊥
+  back_fails true says e = done_isnt_no says
+  back_fails false says e = cc
+
+  fixed_fails : bound.kind ≡ Fixed → (number : ℕ) → bound.back ≤ number → number ≤ length bound.steps → (w : Walk) → walk_at input bound number ≡ w → (fixed_with input bound number w).status ≡ No → Ends Fixed → meets_back bound ≡ true → ⊥
+  fixed_fails e number low high (found labels) came says ends back = last_zero bound input over is steps e number low high (some_there number high labels came) ends
+  fixed_fails e number low high nowhere came says ends back = back_fails (meets_back bound) says back
+  fixed_fails e number low high cut came says ends back = limit_isnt_no says
+
+  end_fails : (kind : Kind) → bound.kind ≡ kind → (end_outcome kind input bound).status ≡ No → Ends kind → (is_fixed kind ≡ true → meets_back bound ≡ true) → ⊥
+  end_fails Lower e says ends back = lower_fails (walk_at input bound (length bound.steps)) refl says ends
+  end_fails Upper e says ends back = upper_fails (walk_at input bound (length bound.steps)) refl says ends
+  end_fails Fixed e says ends back =
+      let before = back_before bound over.fits e in
+      let number : ℕ = end_number input bound (length bound.steps) in
+      fixed_fails e number (end-low input bound (length bound.steps) (omega (arith, before))) (end-high input bound (length bound.steps)) (walk_at input bound number) refl says ends (back refl)
+
   kept_holds : bound.kind ≡ Lower → (number : ℕ) → kept_steps input bound (length bound.steps) ≡ Some number → MeansGiven Lower number (unnamed bound.first) (unnamed input)
   kept_holds e number is_kept =
       let here = kept input bound (length bound.steps) number is_kept in
@@ -180,8 +227,17 @@ module _ (input : NamedProblem) (bound : Bound) (input_is : IsNamedProblem input
       → SolvableGiven (unnamed problem) (input_at input (length bound.steps)) 0
   at_last problem e solvable = subst (λ (p : NamedProblem). SolvableGiven (unnamed p) (input_at input (length bound.steps)) 0) e solvable
 
+  -- where nothing comes before, the answer is that to a bound each step of which meets its clauses
+  alone : (word : BoundWord) → input_fault bound.first input ≡ None → steps_refusal bound ≡ None → given_outcome word input bound ≡ sound_outcome word input bound
+  alone word none met =
+      ap (λ f. or_input_fault input f (or_refusal (steps_refusal bound) (sound_outcome word input bound))) none ∙ ap (λ r. or_refusal r (sound_outcome word input bound)) met
+
   fit_means : FitMeans input bound (given_outcome Fit input bound)
   fit_means = record {
+    shown = λ says.
+        let (none, met, done_so) = before_done Fit says in
+        let (sets, fits, lines) = fit_shown input bound over (is_input none) (meets met) (walk_at input bound (length bound.steps)) refl done_so (last_problem bound) (behind-last bound.first bound.steps) in
+        record { sets = sets; fits = fits; lines = alone Fit none met ∙ lines };
     yes = λ says.
         let (none, met, done) = before_done Fit says in
         at_last (last_problem bound) (behind-last bound.first bound.steps) (fit_yes input bound over (is_input none) (meets met) (walk_at input bound (length bound.steps)) refl done);
@@ -196,6 +252,10 @@ module _ (input : NamedProblem) (bound : Bound) (input_is : IsNamedProblem input
     holds = λ says.
         let (none, met, done) = before_done Given says in
         end_done input bound over (is_input none) (meets met) bound.kind refl done;
+    fails = λ says none valid.
+        let met : steps_refusal bound ≡ None = ap (option_map refusal_of) valid.steps in
+        let alone_says : (end_outcome bound.kind input bound).status ≡ No = sym (ap (λ (o : Outcome). o.status) (alone Given none met)) ∙ says in
+        end_fails input bound over (is_input none) valid.steps bound.kind refl alone_says valid.ends valid.back;
     kept = λ says e none met number is_kept. kept_holds input bound over (is_input none) (meets met) e number is_kept;
   }
 
@@ -231,11 +291,13 @@ fault_isnt_no_line fault outcome e says = fault_isnt_no fault (sym (ap (λ (o : 
 
 fault_means : (word : BoundWord) (input : NamedProblem) (bound : Bound) (fault : Fault) (outcome : Outcome) → outcome ≡ fault_outcome fault → AnswerMeans word input bound outcome
 fault_means Fit input bound fault outcome e = record {
+  shown = λ says. absurd (fault_not_done fault (sym (ap (λ (o : Outcome). o.status) e) ∙ says));
   yes = λ says. absurd (fault_not_done fault (sym (ap (λ (o : Outcome). o.status) e) ∙ says));
   no = λ says. absurd (fault_isnt_no_line fault outcome e says);
 }
 fault_means Given input bound fault outcome e = record {
   holds = λ says. absurd (fault_not_done fault (sym (ap (λ (o : Outcome). o.status) e) ∙ says));
+  fails = λ says. absurd (fault_isnt_no fault (sym (ap (λ (o : Outcome). o.status) e) ∙ says));
   kept = λ says. absurd (fault_isnt_no fault (sym (ap (λ (o : Outcome). o.status) e) ∙ says));
 }
 

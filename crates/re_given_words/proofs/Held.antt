@@ -23,6 +23,7 @@ use Rattle.re_clauses.specs.declared.clause.Clause.{Clause}
 use Rattle.re_clauses.specs.declared.clause.Clause.TheVariants.{Back as Back', End as End'}
 use Rattle.re_given.proofs.AvoidedInputs.{loop_given}
 use Rattle.re_given.proofs.ChainGiven.{IsInput-lower, IsInput-upper_chain, exchanged_by-add, lower_bound_given, upper_bound_given}
+use Rattle.re_given.proofs.SlowGiven.{SolvableGiven-zero}
 use Rattle.re_given.proofs.Ungiven.{SolvableGiven-ungiven}
 use Rattle.re_given.specs.Given.{ZeroGiven}
 use Rattle.re_given.specs.Inputs.{IsInput, exchanged_by}
@@ -84,6 +85,7 @@ module _ (bound : Bound) (input : NamedProblem) (over : IsOver bound) (is : IsIn
     to_middle : IsLowerChain (unnamed bound.first) bound.back (unnamed (problem_at bound bound.back))
     onward : IsLowerChain (unnamed (problem_at bound bound.back)) j (unnamed (problem_at bound number))
     last : IsLowerChain (unnamed (problem_at bound number)) k (unnamed (last_problem bound))
+    whole : number + k ≡ length bound.steps
 
   loop_of : bound.kind ≡ Fixed → (number : ℕ) → bound.back ≤ number → number ≤ length bound.steps → Loop number
   loop_of e number low high =
@@ -103,6 +105,7 @@ module _ (bound : Bound) (input : NamedProblem) (over : IsOver bound) (is : IsIn
         onward = subst (λ n. IsLowerChain (unnamed (problem_at bound bound.back)) j (unnamed (problem_at bound n))) there (lower_between bound.kind bound.first 1 bound.steps bound.back j lower fit over.next steps (omega (arith, there, high)));
         last = subst (λ (p : NamedProblem). IsLowerChain (unnamed (problem_at bound number)) k (unnamed p)) (behind-last bound.first bound.steps)
             (subst (λ n. IsLowerChain (unnamed (problem_at bound number)) k (unnamed (problem_at bound n))) whole (lower_between bound.kind bound.first 1 bound.steps number k lower fit over.next steps (omega (arith, whole))));
+        whole = whole;
       }
 
   relaxed : meets_back bound ≡ true → IsRelaxed (unnamed (last_problem bound)) (unnamed (problem_at bound bound.back)) (image_at (map (λ (pair : ℕ × ℕ). pair.1) bound.renaming))
@@ -116,6 +119,18 @@ module _ (bound : Bound) (input : NamedProblem) (over : IsOver bound) (is : IsIn
       let loop = loop_of e number low high in
       loop_given over.first.problem is loop.to_middle loop.onward loop.last loop.some (relaxed meets)
       (λ zero_there. none (subst (λ n. ZeroGiven (unnamed (problem_at bound number)) (exchanged_by n (unnamed input))) loop.there zero_there)) T
+
+  -- where one of them from that on is zero, the last one is too
+  pub last_zero : bound.kind ≡ Fixed → (number : ℕ) → bound.back ≤ number → number ≤ length bound.steps → ZeroAt number → (ZeroGiven (unnamed (last_problem bound)) (input_at input (length bound.steps)) → ⊥) → ⊥
+  last_zero e number low high zero_there none =
+      let loop = loop_of e number low high in
+      let here : Problem = unnamed (problem_at bound number) in
+      let at_here : Problem = input_at input number in
+      let here_is : IsProblem here = (named_at bound number over).problem in
+      let here_input : IsInput here at_here = input_there bound input number over high steps is in
+      let turns : loop.k + number ≡ length bound.steps = omega (arith, loop.whole) in
+      let same : exchanged_by loop.k at_here ≡ input_at input (length bound.steps) = sym (exchanged_by-add loop.k number (unnamed input)) ∙ ap (λ n. exchanged_by n (unnamed input)) turns in
+      lower_bound_given here_is here_input loop.last (λ there. none (subst (ZeroGiven (unnamed (last_problem bound))) same there)) 0 (omega arith) (SolvableGiven-zero here at_here here_input zero_there)
 
   -- there the last problem isn't solvable without communication, since then that to which it goes back would be
   last_not_zero : bound.kind ≡ Fixed → meets_back bound ≡ true → (number : ℕ) → bound.back ≤ number → number ≤ length bound.steps → (ZeroAt number → ⊥) → Zero (unnamed (last_problem bound)) → ⊥

@@ -7,3 +7,4 @@ mod Held
 mod ProductMeaning
 mod RoundsAnswers
 mod Saying
+mod AheadCounts

@@ -6,16 +6,16 @@ use Rattle.re_frame.specs.TextFaults.{fault_outcome}
 use Rattle.re_problem.specs.NamedProblems.{NamedProblem, unnamed}
 use Rattle.re_problem.specs.Problems.{IsProblem}
 use Rattle.re_problem.specs.declared.fault.InputFault.{InputFault as Fault}
-use Rattle.re_given_words.proofs.CountingMeans.{count_means}
-use Rattle.re_given_words.specs.Counting.{IsBeside, IsCounted, IsCountedLine, counted_outcome}
+use Rattle.re_given_words.proofs.CountingMeans.{told_means}
+use Rattle.re_given_words.specs.Counting.{IsBeside, IsCountedLine, MayTell, counted_outcome}
 use Rattle.re_given_words.specs.RoundsTexts.{MayCount, MayCountBeside, MayCountRead, beside_fault, rounds_fault, rounds_input, rounds_problem}
 use Rattle.re_given_words.specs.declared.counting.Counted.{Counted}
 
 -- ---- the line of what is counted
 pub counted_line : (problem : NamedProblem) (input : Option NamedProblem) (most : ℕ) (counted : Counted) (outcome : Outcome) → IsProblem (unnamed problem) → IsBeside (unnamed problem) (option_map unnamed input)
-    → IsCounted (unnamed problem) (option_map unnamed input) most counted → outcome ≡ counted_outcome counted → IsCountedLine problem input most outcome
-counted_line problem input most counted outcome is beside counts e =
-    record { counted = counted; line = e; counts = counts; means = count_means (unnamed problem) is (option_map unnamed input) most counted beside counts }
+    → MayTell (unnamed problem) (option_map unnamed input) most counted → outcome ≡ counted_outcome counted → IsCountedLine problem input most outcome
+counted_line problem input most counted outcome is beside told e =
+    record { counted = counted; line = e; told = told; means = told_means (unnamed problem) is (option_map unnamed input) most counted beside told }
 
 -- ---- the answer
 pub may_count : (most : ℕ) (bytes : List ℕ) (problem : NamedProblem) (input : Option NamedProblem) (outcome : Outcome) → rounds_fault bytes ≡ None → problem ≡ rounds_problem bytes → input ≡ rounds_input bytes

@@ -28,7 +28,7 @@ use Rattle.re_given_words.specs.RoundsTexts.{MayCount, MayCountBeside, MayCountR
 use Rattle.re_given_words.specs.Verdicts.{bound_outcome, end_number, end_outcome, fit_with, fixed_with, given_outcome, lower_with, or_back, sound_outcome, upper_with}
 use Rattle.re_given_words.specs.Walks.{walk_at}
 use Rattle.re_given_words.specs.declared.counting.Counted.{Counted}
-use Rattle.re_given_words.specs.declared.counting.Counted.TheVariants.{Exactly, MoreThan, Passed, Tried}
+use Rattle.re_given_words.specs.declared.counting.Counted.TheVariants.{Exactly, MoreThan, Passed, Stopped, Tried}
 use Rattle.re_given_words.specs.declared.words.BoundWord.{BoundWord}
 use Rattle.re_given_words.specs.declared.words.BoundWord.TheVariants.{Fit, Given}
 use Rattle.re_given_words.specs.declared.words.GivenWord.{GivenWord}
@@ -92,6 +92,7 @@ counted_says (Exactly rounds) = tt
 counted_says (MoreThan rounds) = tt
 counted_says (Passed rounds limit) = tt
 counted_says (Tried rounds) = tt
+counted_says (Stopped rounds steps limit) = tt
 
 beside_says : (fault : Option InputFault) (problem : NamedProblem) (input : Option NamedProblem) (most : ℕ) (outcome : Outcome) → MayCountBeside fault problem input most outcome → MaySay outcome.status true
 beside_says (Some fault) problem input most outcome may = says_as outcome _ may refl

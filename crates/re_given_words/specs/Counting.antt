@@ -1,5 +1,5 @@
 -- The word `rounds`: in how many rounds a problem is solvable, alone or given an input problem.
-use Rattle.std.specs.Prelude.{◌≡◌, ℕ, zero, suc, ◌<◌, ◌≤◌, List, ◌++◌, codes, Option, None, Some, option_map}
+use Rattle.std.specs.Prelude.{◌≡◌, ℕ, zero, suc, ◌<◌, ◌≤◌, ◌⊎◌, List, ◌++◌, codes, Option, None, Some, option_map}
 use Rattle.std.specs.Fmt.{decimal}
 use Rattle.re_fit.specs.Fits.{fit_walk}
 use Rattle.re_frame.specs.Outcomes.{Outcome, done, limit}
@@ -13,10 +13,11 @@ use Rattle.re_problem.specs.Problems.{Problem}
 use Rattle.re_problem.specs.Zero.{Zero}
 use Rattle.re_search.specs.Laws.{NonePassed}
 use Rattle.re_step.specs.Derivations.{step_limit}
+use Rattle.re_step.specs.declared.derivation.StepLimit.{StepLimit}
 use Rattle.re_walks.specs.Walking.{Walk, cut, found, nowhere}
 use Rattle.re_given_words.specs.declared.fitting.TheConstants.{MAX_TRIES}
 use Rattle.re_given_words.specs.declared.counting.Counted.{Counted}
-use Rattle.re_given_words.specs.declared.counting.Counted.TheVariants.{Exactly, MoreThan, Passed, Tried}
+use Rattle.re_given_words.specs.declared.counting.Counted.TheVariants.{Exactly, MoreThan, Passed, Stopped, Tried}
 use Rattle.re_given_words.specs.declared.counting.Told.{Told}
 use Rattle.re_given_words.specs.declared.counting.Told.TheVariants.{Enough, Few, Untold}
 
@@ -48,6 +49,37 @@ IsCounted problem input most (MoreThan rounds) = (rounds ≡ most) × AllFew pro
 IsCounted problem input most (Passed rounds passed) =
     (rounds < most) × (step_limit (derived_by rounds problem) ≡ Some passed) × AllFew problem input (suc rounds) × NonePassed problem rounds
 IsCounted problem input most (Tried rounds) = (rounds ≤ most) × Tells problem input rounds Untold × AllFew problem input rounds × NonePassed problem rounds
+IsCounted problem input most (Stopped rounds steps passed) = ⊥
+
+-- ---- what is told ahead of a step that passes a limit
+-- the problem that is derived as often is this one, where the step behind it passes a limit
+abbrev pub IsLast : Problem → Problem → Counted → Type 0
+IsLast problem current (Exactly rounds) = Unit {0}
+IsLast problem current (MoreThan rounds) = Unit {0}
+IsLast problem current (Passed rounds passed) = current ≡ derived_by rounds problem
+IsLast problem current (Tried rounds) = Unit {0}
+IsLast problem current (Stopped rounds steps passed) = Unit {0}
+
+-- a step before so many rounds passes this limit, and none before it passes one
+abbrev pub IsPassed : Problem → ℕ → StepLimit → ℕ → Type 0
+IsPassed problem steps passed rounds = (steps < rounds) × (step_limit (derived_by steps problem) ≡ Some passed) × NonePassed problem steps
+
+-- the least rounds that are enough; or that all up to the most are too few; or that all up to fewer are
+abbrev pub IsToldAhead : Problem → ℕ → Counted → Type 0
+IsToldAhead problem most (Exactly rounds) = (rounds ≤ most) × Tells problem None rounds Enough × AllFew problem None rounds × (steps : ℕ) × (passed : StepLimit) × IsPassed problem steps passed rounds
+IsToldAhead problem most (MoreThan rounds) = (rounds ≡ most) × AllFew problem None (suc rounds) × (steps : ℕ) × (passed : StepLimit) × IsPassed problem steps passed rounds
+IsToldAhead problem most (Passed rounds passed) = ⊥
+IsToldAhead problem most (Tried rounds) = ⊥
+IsToldAhead problem most (Stopped rounds steps passed) = (rounds < most) × AllFew problem None (suc rounds) × IsPassed problem steps passed (suc rounds)
+
+-- the same alone
+abbrev pub IsAhead : Problem → Option Problem → ℕ → Counted → Type 0
+IsAhead problem None most counted = IsToldAhead problem most counted
+IsAhead problem (Some input) most counted = ⊥
+
+-- as it is counted, or, alone, told ahead of a step that passes a limit
+abbrev pub MayTell : Problem → Option Problem → ℕ → Counted → Type 0
+MayTell problem input most counted = IsCounted problem input most counted ⊎ IsAhead problem input most counted
 
 -- ---- what it means for algorithms
 -- so many rounds solve the problem, alone or given the input problem
@@ -61,6 +93,7 @@ CountMeans problem input (Exactly rounds) = Solves problem input rounds × ((T :
 CountMeans problem input (MoreThan rounds) = (T : ℕ) → T ≤ rounds → Solves problem input T → ⊥
 CountMeans problem input (Passed rounds passed) = (T : ℕ) → T ≤ rounds → Solves problem input T → ⊥
 CountMeans problem input (Tried rounds) = (T : ℕ) → T < rounds → Solves problem input T → ⊥
+CountMeans problem input (Stopped rounds steps passed) = (T : ℕ) → T ≤ rounds → Solves problem input T → ⊥
 
 -- the input problem, where there is one, is one of the problem
 abbrev pub IsBeside : Problem → Option Problem → Type 0
@@ -73,6 +106,7 @@ IsLow (Exactly rounds) = Unit {0}
 IsLow (MoreThan rounds) = Unit {0}
 IsLow (Passed rounds passed) = rounds < 64
 IsLow (Tried rounds) = Unit {0}
+IsLow (Stopped rounds steps passed) = steps < 64
 
 -- ---- lines
 -- that the tries don't suffice, behind what is known
@@ -85,10 +119,11 @@ counted_outcome (Exactly rounds) = done (codes "exactly " ++ decimal rounds ++ c
 counted_outcome (MoreThan rounds) = done (codes "more than " ++ decimal rounds ++ codes "\n")
 counted_outcome (Passed rounds passed) = limit (codes "more than " ++ decimal rounds ++ codes ", then: " ++ limit_line (suc rounds) passed)
 counted_outcome (Tried rounds) = limit (tried_line rounds)
+counted_outcome (Stopped rounds steps passed) = limit (codes "more than " ++ decimal rounds ++ codes ", then: " ++ limit_line (suc steps) passed)
 
 -- the line of what is counted
 pub record IsCountedLine (problem : NamedProblem) (input : Option NamedProblem) (most : ℕ) (outcome : Outcome) : Type 0 where
   pub counted : Counted
   pub line : outcome ≡ counted_outcome counted
-  pub counts : IsCounted (unnamed problem) (option_map unnamed input) most counted
+  pub told : MayTell (unnamed problem) (option_map unnamed input) most counted
   pub means : CountMeans (unnamed problem) (option_map unnamed input) counted

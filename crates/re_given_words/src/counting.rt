@@ -1,14 +1,16 @@
 //! What `rounds` counts.
 ghost use Rattle.re_frame.specs.Outcomes.{outcome_of};
-ghost use Rattle.re_given_words.specs.Counting.{IsBeside, IsCounted, IsLow, Tells, counted_outcome};
+ghost use Rattle.re_given_words.specs.Counting.{IsBeside, IsCounted, IsLast, IsLow, MayTell, Tells, counted_outcome};
 ghost use Rattle.re_labels.specs.declared.TheConstants.{MAX_LABELS};
 ghost use Rattle.re_problem.specs.Derived.{derived_by};
 ghost use Rattle.re_problem.specs.NamedProblems.{unnamed};
+ghost use Rattle.re_problem.specs.Problems.{IsProblem as IsPlain, Problem as Plain};
 ghost use Rattle.re_step.specs.Derivations.{named_derived, step_limit};
 ghost use Rattle.std.specs.Fmt.{decimal};
 ghost use Rattle.std.specs.Prelude.{◌≡◌, ◌≤◌, ◌<◌, ◌++◌, IfOk, IfSome, None, Some, option_map};
 
 use crate::fitting::{FitAnswer, fit_answer, tries_output};
+use re_ahead::{Ahead, look_ahead};
 use re_frame::{Answer, Output, begun, done, limit_output, push_number, push_words};
 use re_labels::{MAX_LABELS, NoMemory};
 use re_problem::Problem;
@@ -45,6 +47,8 @@ pub enum Counted {
     Passed(u8, StepLimit),
     /// Not fewer than so many, of which the tries don't suffice to tell.
     Tried(u8),
+    /// More than so many, told without the problem that is derived as often, where the step behind so many passes this limit.
+    Stopped(u8, u8, StepLimit),
 }
 
 // What is told of so many rounds by the problem that is derived as often, given the input problem.
@@ -89,6 +93,7 @@ fn tell(alloc: Global, texts: &RoundsTexts, current: &Problem, rounds: u8) -> Re
 fn derive(alloc: Global, current: &mut Problem) -> Result<Option<StepLimit>, NoMemory>
     ensures limit { IfOk result (λ passed. passed ≡ step_limit (unnamed current.old)) }
     ensures derived { IfOk result (λ passed. passed ≡ None → current.new ≡ named_derived (unnamed current.old)) }
+    ensures kept { IfOk result (λ passed. IfSome passed (λ limit. current.new ≡ current.old)) }
 {
     match step(alloc, current) {
         Ok(derived) => {
@@ -97,6 +102,43 @@ fn derive(alloc: Global, current: &mut Problem) -> Result<Option<StepLimit>, NoM
         }
         Err(StepFault::Limit(limit)) => Ok(Some(limit)),
         Err(StepFault::NoMemory) => Err(NoMemory),
+    }
+}
+
+// The same as `count_within`. The problem is that of the texts at first, and where a step passes a limit, it is the one before it.
+fn count_on(
+    alloc: Global,
+    texts: &RoundsTexts,
+    current: &mut Problem,
+    most: u8,
+    labels: u8,
+) -> Result<Option<Counted>, NoMemory>
+    requires beside { IsBeside (unnamed texts.now.problem) (option_map unnamed texts.now.input) }
+    requires most { most ≤ 64 }
+    requires first { current.old ≡ texts.now.problem }
+    ensures counted { IfOk result (λ found. IfSome found (IsCounted (unnamed texts.now.problem) (option_map unnamed texts.now.input) most)) }
+    ensures low { IfOk result (λ found. IfSome found IsLow) }
+    ensures none { IfOk result (λ found. found ≡ None → labels < MAX_LABELS) }
+    ensures last { IfOk result (λ found. IfSome found (IsLast (unnamed texts.now.problem) (unnamed current.new))) }
+{
+    for rounds in 0..most {
+        match tell(alloc, texts, current, rounds)? {
+            Told::Enough => return Ok(Some(Counted::Exactly(rounds))),
+            Told::Untold => return Ok(Some(Counted::Tried(rounds))),
+            Told::Few => {}
+        }
+        if current.names().len() > labels as usize {
+            return Ok(None);
+        }
+        match derive(alloc, current)? {
+            Some(limit) => return Ok(Some(Counted::Passed(rounds, limit))),
+            None => {}
+        }
+    }
+    match tell(alloc, texts, current, most)? {
+        Told::Enough => Ok(Some(Counted::Exactly(most))),
+        Told::Untold => Ok(Some(Counted::Tried(most))),
+        Told::Few => Ok(Some(Counted::MoreThan(most))),
     }
 }
 
@@ -117,36 +159,97 @@ pub fn count_within(
     ensures none { IfOk result (λ found. found ≡ None → labels < MAX_LABELS) }
 {
     let mut current = texts.problem.copy()?;
-    for rounds in 0..most {
-        match tell(alloc, texts, &current, rounds)? {
-            Told::Enough => return Ok(Some(Counted::Exactly(rounds))),
-            Told::Untold => return Ok(Some(Counted::Tried(rounds))),
-            Told::Few => {}
+    count_on(alloc, texts, &mut current, most, labels)
+}
+
+// What is told ahead of a step that passes a limit, behind as many steps as there are rounds that are too few.
+fn count_ahead(
+    alloc: Global,
+    current: &Problem,
+    rounds: u8,
+    limit: StepLimit,
+    most: u8,
+) -> Result<Counted, NoMemory>
+    requires below { rounds < most }
+    requires most { most ≤ 64 }
+    ensures told { (problem : Plain) → IsPlain problem → unnamed current.now ≡ derived_by rounds problem → IsCounted problem None most (Counted.Passed rounds limit) → IfOk result (MayTell problem None most) }
+    ensures low { IfOk result IsLow }
+{
+    let left = most - rounds;
+    match look_ahead(alloc, current, left)? {
+        Ahead::Exactly(more) => {
+            let enough = rounds + more;
+            Ok(Counted::Exactly(enough))
         }
-        if current.names().len() > labels as usize {
-            return Ok(None);
+        Ahead::MoreThan(more) => {
+            let few = rounds + more;
+            if few == most {
+                return Ok(Counted::MoreThan(few));
+            }
+            Ok(Counted::Stopped(few, rounds, limit))
         }
-        match derive(alloc, &mut current)? {
-            Some(limit) => return Ok(Some(Counted::Passed(rounds, limit))),
-            None => {}
-        }
-    }
-    match tell(alloc, texts, &current, most)? {
-        Told::Enough => Ok(Some(Counted::Exactly(most))),
-        Told::Untold => Ok(Some(Counted::Tried(most))),
-        Told::Few => Ok(Some(Counted::MoreThan(most))),
     }
 }
 
-/// The same, however many labels the problems have.
+// How many rounds the problem takes, where the step behind so many passes a limit.
+fn count_passed(
+    alloc: Global,
+    texts: &RoundsTexts,
+    current: &Problem,
+    rounds: u8,
+    limit: StepLimit,
+    most: u8,
+) -> Result<Counted, NoMemory>
+    requires problem { IsPlain (unnamed texts.now.problem) }
+    requires most { most ≤ 64 }
+    requires below { rounds < most }
+    requires here { unnamed current.now ≡ derived_by rounds (unnamed texts.now.problem) }
+    requires counted { IsCounted (unnamed texts.now.problem) (option_map unnamed texts.now.input) most (Counted.Passed rounds limit) }
+    ensures told { IfOk result (MayTell (unnamed texts.now.problem) (option_map unnamed texts.now.input) most) }
+    ensures low { IfOk result IsLow }
+{
+    match &texts.input {
+        Some(_) => Ok(Counted::Passed(rounds, limit)),
+        None => count_ahead(alloc, current, rounds, limit, most),
+    }
+}
+
+// How many rounds the problem takes, where it is counted up to a step that passes a limit.
+fn count_behind(
+    alloc: Global,
+    texts: &RoundsTexts,
+    current: &Problem,
+    counted: Counted,
+    most: u8,
+) -> Result<Counted, NoMemory>
+    requires problem { IsPlain (unnamed texts.now.problem) }
+    requires most { most ≤ 64 }
+    requires counted { IsCounted (unnamed texts.now.problem) (option_map unnamed texts.now.input) most counted }
+    requires low { IsLow counted }
+    requires last { IsLast (unnamed texts.now.problem) (unnamed current.now) counted }
+    ensures told { IfOk result (MayTell (unnamed texts.now.problem) (option_map unnamed texts.now.input) most) }
+    ensures low { IfOk result IsLow }
+{
+    match counted {
+        Counted::Passed(rounds, limit) => {
+            count_passed(alloc, texts, current, rounds, limit, most)
+        }
+        _ => Ok(counted),
+    }
+}
+
+/// The same, however many labels the problems have. Alone, where a step passes a limit, `re_ahead::look_ahead` goes on from the problem
+/// before it.
 pub(crate) fn count(alloc: Global, texts: &RoundsTexts, most: u8) -> Result<Counted, NoMemory>
     requires beside { IsBeside (unnamed texts.now.problem) (option_map unnamed texts.now.input) }
     requires most { most ≤ 64 }
-    ensures counted { IfOk result (IsCounted (unnamed texts.now.problem) (option_map unnamed texts.now.input) most) }
+    ensures told { IfOk result (MayTell (unnamed texts.now.problem) (option_map unnamed texts.now.input) most) }
     ensures low { IfOk result IsLow }
 {
-    match count_within(alloc, texts, most, MAX_LABELS)? {
-        Some(counted) => Ok(counted),
+    let _names = texts.problem.names();
+    let mut current = texts.problem.copy()?;
+    match count_on(alloc, texts, &mut current, most, MAX_LABELS)? {
+        Some(counted) => count_behind(alloc, texts, &current, counted, most),
         None => unreachable!(),
     }
 }
@@ -161,13 +264,18 @@ fn numbered(alloc: Global, words: &str, number: u8, behind: &str) -> Result<Vec<
     Ok(text)
 }
 
-// The output of a limit of a step, behind what is known.
-fn passed_output(alloc: Global, rounds: u8, limit: StepLimit) -> Result<Output, NoMemory>
-    requires { rounds < 64 }
-    ensures { IfOk result (λ output. outcome_of output ≡ counted_outcome (Counted.Passed rounds limit)) }
+// The output of a limit of the step behind so many, behind what is known.
+fn stopped_output(
+    alloc: Global,
+    rounds: u8,
+    steps: u8,
+    limit: StepLimit,
+) -> Result<Output, NoMemory>
+    requires { steps < 64 }
+    ensures { IfOk result (λ output. outcome_of output ≡ counted_outcome (Counted.Stopped rounds steps limit)) }
 {
     let mut text = numbered(alloc, "more than ", rounds, ", then: ")?;
-    let line = limit_output(alloc, rounds + 1, limit)?;
+    let line = limit_output(alloc, steps + 1, limit)?;
     text.extend_from_slice(line.text.as_slice())?;
     Ok(Output {
         answer: Answer::Limit,
@@ -202,7 +310,8 @@ pub(crate) fn counted_output(alloc: Global, counted: Counted) -> Result<Output, 
     match counted {
         Counted::Exactly(rounds) => Ok(done(numbered(alloc, "exactly ", rounds, "\n")?)),
         Counted::MoreThan(rounds) => Ok(done(numbered(alloc, "more than ", rounds, "\n")?)),
-        Counted::Passed(rounds, limit) => passed_output(alloc, rounds, limit),
+        Counted::Passed(rounds, limit) => stopped_output(alloc, rounds, rounds, limit),
+        Counted::Stopped(rounds, steps, limit) => stopped_output(alloc, rounds, steps, limit),
         Counted::Tried(rounds) => tried_output(alloc, rounds),
     }
 }

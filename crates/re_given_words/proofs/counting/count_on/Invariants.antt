@@ -4,7 +4,7 @@ use Rattle.re_problem.specs.Derived.{derived_by}
 use Rattle.re_problem.specs.NamedProblems.{unnamed}
 use Rattle.re_search.specs.Laws.{NonePassed}
 use Rattle.re_given_words.specs.Counting.{AllFew}
-use Rattle.re_given_words.proofs.counting.count_within.Given as goal
+use Rattle.re_given_words.proofs.counting.count_on.Given as goal
 
 abbrev pub invariant-loop-rounds : goal.invariant-loop-rounds
 invariant-loop-rounds l = record {

@@ -1,10 +1,10 @@
-use Rattle.std.proofs.Common.{◌∙◌, ap, arith, subst, sym}
-use Rattle.std.specs.Prelude.{option_map}
+use Rattle.std.proofs.Common.{◌≡◌, ◌∙◌, ap, arith, subst, sym}
+use Rattle.std.specs.Prelude.{IfSome, option_map}
 use Rattle.re_problem.specs.NamedProblems.{unnamed}
 use Rattle.re_step.specs.Derivations.{step_limit}
 use Rattle.re_given_words.proofs.CountingMeans.{few_next, few_suc, next_is, passed_next}
 use Rattle.re_given_words.specs.Counting.{Tells}
-use Rattle.re_given_words.proofs.counting.count_within.Goals as goal
+use Rattle.re_given_words.proofs.counting.count_on.Goals as goal
 
 pub returns-in-Some-clause-counted : goal.returns-in-Some-clause-counted
 returns-in-Some-clause-counted c = (
@@ -22,3 +22,8 @@ loop-rounds-preserved c = record {
       (subst (Tells (unnamed c.args.texts.now.problem) (option_map unnamed c.args.texts.now.input) c.loop-rounds.rounds) c.in-Few.is c.in_ok-tell.ensures);
   limit = passed_next (unnamed c.args.texts.now.problem) c.loop-rounds.rounds (unnamed c.loop-rounds.current) c.loop-rounds.invariant.here (sym c.in_ok-limit.ensures.limit ∙ c.in-None.is) c.loop-rounds.invariant.limit;
 }
+
+pub returns-in-Some-clause-last : goal.returns-in-Some-clause-last
+returns-in-Some-clause-last c =
+    let kept = subst (λ o. IfSome o (λ limit. c.derive.new.current ≡ c.loop-rounds.current)) c.in-Some.is c.in_ok-limit.ensures.kept in
+    ap unnamed kept ∙ c.loop-rounds.invariant.here

@@ -1,0 +1,4 @@
+pub mod OneRound
+pub mod RoundsLaws
+pub mod RowTests
+pub mod TwoRounds

@@ -1,0 +1,30 @@
+use Rattle.std.proofs.Common.{◌-◌, arith, subst}
+use Rattle.re_ahead.specs.Ahead.{IsTold}
+use Rattle.re_problem.specs.NamedProblems.{unnamed}
+use Rattle.re_given_words.proofs.AheadCounts.{told-all, told-exactly, told-stopped}
+use Rattle.re_given_words.proofs.counting.count_ahead.Goals as goal
+
+pub overflow_add-enough : goal.overflow_add-enough
+overflow_add-enough c =
+    let told = subst (IsTold (unnamed c.args.current.now) (c.args.most - c.args.rounds)) c.in-Exactly.is c.in_ok-more.ensures in
+    omega (arith, told.1, c.requires.below, c.requires.most)
+
+pub overflow_add-few : goal.overflow_add-few
+overflow_add-few c =
+    let told = subst (IsTold (unnamed c.args.current.now) (c.args.most - c.args.rounds)) c.in-MoreThan.is c.in_ok-more.ensures in
+    omega (arith, told.0, c.requires.below, c.requires.most)
+
+pub returns-in-Exactly-clause-told : goal.returns-in-Exactly-clause-told
+returns-in-Exactly-clause-told c = λ problem is here counts.
+    told-exactly problem is (unnamed c.args.current.now) c.args.rounds c.args.most c.args.limit here counts c.in-Exactly.more
+    (subst (IsTold (unnamed c.args.current.now) (c.args.most - c.args.rounds)) c.in-Exactly.is c.in_ok-more.ensures)
+
+pub returns-else-few-most-clause-told : goal.returns-else-few-most-clause-told
+returns-else-few-most-clause-told c = λ problem is here counts.
+    told-stopped problem is (unnamed c.args.current.now) c.args.rounds c.args.most c.args.limit here counts c.in-MoreThan.more
+    (subst (IsTold (unnamed c.args.current.now) (c.args.most - c.args.rounds)) c.in-MoreThan.is c.in_ok-more.ensures) c.if-few-most.false
+
+pub returns-then-few-most-clause-told : goal.returns-then-few-most-clause-told
+returns-then-few-most-clause-told c = λ problem is here counts.
+    told-all problem is (unnamed c.args.current.now) c.args.rounds c.args.most c.args.limit here counts c.in-MoreThan.more
+    (subst (IsTold (unnamed c.args.current.now) (c.args.most - c.args.rounds)) c.in-MoreThan.is c.in_ok-more.ensures) c.if-few-most.true

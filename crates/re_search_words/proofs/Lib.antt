@@ -1,3 +1,3 @@
-mod Saying
+pub mod Saying
 mod Shortening
 mod WordCounts

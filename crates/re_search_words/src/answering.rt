@@ -25,8 +25,8 @@ use re_longest::{Longest, Shortest, find_longest, find_shortest};
 use re_problem::{Problem, TextFault, print_active};
 use std::alloc::Global;
 
-// The line for a problem that the configuration at this place shows to be solvable without communication.
-fn solvable(alloc: Global, problem: &Problem, place: usize) -> Result<Output, NoMemory>
+/// The line for a problem that the configuration at this place shows to be solvable without communication.
+pub fn solvable(alloc: Global, problem: &Problem, place: usize) -> Result<Output, NoMemory>
     requires { zero_place (unnamed problem.now) ≡ Some place }
     ensures { IfOk result (λ output. outcome_of output ≡ refused_with (solvable_line problem.now place)) }
 {
@@ -37,8 +37,8 @@ fn solvable(alloc: Global, problem: &Problem, place: usize) -> Result<Output, No
     Ok(refused(text))
 }
 
-// The line of a search without success.
-fn not_found(alloc: Global, nodes: u32, cut: u32) -> Result<Output, NoMemory>
+/// The line of a search without success.
+pub fn not_found(alloc: Global, nodes: u32, cut: u32) -> Result<Output, NoMemory>
     ensures { IfOk result (λ output. outcome_of output ≡ refused_with (not_found_line nodes cut)) }
 {
     let mut text = begun(alloc, "not found: nodes ")?;
@@ -49,8 +49,8 @@ fn not_found(alloc: Global, nodes: u32, cut: u32) -> Result<Output, NoMemory>
     Ok(refused(text))
 }
 
-// The line for more problems than may be looked at.
-fn too_many(alloc: Global, nodes: u32) -> Result<Output, NoMemory>
+/// The line for more problems than may be looked at.
+pub fn too_many(alloc: Global, nodes: u32) -> Result<Output, NoMemory>
     ensures { IfOk result (λ output. outcome_of output ≡ limited_by (too_many_line nodes)) }
 {
     let mut text = begun(alloc, "limit: more than ")?;

@@ -4,4 +4,5 @@
 mod answering;
 mod words;
 
+pub use answering::{not_found, solvable, too_many};
 pub use words::{SearchWord, search_help, search_word};

@@ -1,0 +1,88 @@
+//! What the word answers.
+ghost use Rattle.re_cert.specs.Bounds.{last_problem};
+ghost use Rattle.re_cert.specs.declared.certificate.Kind.TheVariants.{Fixed};
+ghost use Rattle.re_cert.specs.declared.certificate.TheConstants.{MAX_STEPS};
+ghost use Rattle.re_chain_texts.specs.ChainTexts.{text_chain};
+ghost use Rattle.re_chain_texts.specs.OverChains.{steps_refusal};
+ghost use Rattle.re_frame.specs.Outcomes.{outcome_of};
+ghost use Rattle.re_io.specs.declared.read.TheConstants.{MAX_BYTES};
+ghost use Rattle.re_problem.specs.NamedProblems.{unnamed};
+ghost use Rattle.re_problem.specs.Zero.{zero_place};
+ghost use Rattle.re_relaxed.specs.Words.{MayGive};
+ghost use Rattle.re_search_words.specs.MayGive.{MayFindBehind, MayGiveAt, MayGiveSound};
+ghost use Rattle.re_search_words.specs.declared.words.SearchWord.TheVariants.{Cycle};
+ghost use Rattle.std.specs.Prelude.{◌≡◌, ◌≤◌, IfOk, length};
+
+use crate::finding::find_relaxed;
+use crate::types::Relaxed;
+use crate::words::RelaxedWord;
+use re_cert::{Certificate, Kind};
+use re_chain_texts::{certificate_output, read_chain, steps_refusal};
+use re_frame::{Finding, Output, begun, fault_output, refused, verdict_output};
+use re_labels::NoMemory;
+use re_problem::TextFault;
+use re_search_words::{not_found, solvable, too_many};
+use std::alloc::Global;
+
+// What the word gives to a chain of kind lower.
+fn relaxed_output(alloc: Global, chain: &Certificate, nodes: u32) -> Result<Output, NoMemory>
+    ensures { IfOk result (λ output. MayFindBehind (zero_place (unnamed (last_problem chain.now))) (Cycle MAX_STEPS 0 nodes) chain.now (outcome_of output)) }
+{
+    match find_relaxed(alloc, chain, nodes)? {
+        Relaxed::Found(certificate) => certificate_output(alloc, &certificate),
+        Relaxed::Solvable(place) => solvable(alloc, chain.last(), place),
+        Relaxed::NotFound { nodes: seen, cut } => not_found(alloc, seen, cut),
+        Relaxed::TooMany => too_many(alloc, nodes),
+    }
+}
+
+// What the word gives to a chain each step of which meets its clauses.
+fn chain_output(alloc: Global, chain: &Certificate, nodes: u32) -> Result<Output, NoMemory>
+    requires { chain.now.kind ≡ Fixed → ⊥ }
+    ensures { IfOk result (λ output. MayGiveAt chain.now.kind (Cycle MAX_STEPS 0 nodes) chain.now (outcome_of output)) }
+{
+    match chain.kind() {
+        Kind::Lower => relaxed_output(alloc, chain, nodes),
+        Kind::Upper => Ok(refused(begun(alloc, "no: not a lower chain\n")?)),
+        Kind::Fixed => unreachable!(),
+    }
+}
+
+// What the word gives to a chain.
+fn sound_output(alloc: Global, chain: &Certificate, nodes: u32) -> Result<Output, NoMemory>
+    requires { chain.now.kind ≡ Fixed → ⊥ }
+    ensures { IfOk result (λ output. MayGiveSound (steps_refusal chain.now) (Cycle MAX_STEPS 0 nodes) chain.now (outcome_of output)) }
+{
+    match steps_refusal(chain) {
+        Some(verdict) => Ok(verdict_output(alloc, verdict)?),
+        None => chain_output(alloc, chain, nodes),
+    }
+}
+
+// What the word gives to a text.
+#[tactic(auto, unfolding(crate::specs::Words::MayGive, re_search_words::specs::MayGive::MayGive))]
+fn text_output(alloc: Global, word: RelaxedWord, text: &[u8]) -> Result<Output, NoMemory>
+    requires { length text.now ≤ MAX_BYTES }
+    ensures { IfOk result (λ output. MayGive word text.now (outcome_of output)) }
+{
+    match read_chain(alloc, text) {
+        Ok(chain) => sound_output(alloc, &chain, word.nodes),
+        Err(TextFault::Bad(fault)) => Ok(fault_output(alloc, fault)?),
+        Err(TextFault::NoMemory) => Err(NoMemory),
+    }
+}
+
+impl Finding for RelaxedWord {
+    ghost use Rattle.std.specs.Prelude.{true};
+    ghost use Rattle.re_relaxed.specs.Words.{MayGive};
+
+    ghost fits = { λ _. Unit {0} };
+
+    ghost may = { MayGive };
+
+    ghost judging = { λ _. true };
+
+    fn find(&self, alloc: Global, text: Vec<u8>) -> Result<Output, NoMemory> {
+        text_output(alloc, *self, text.as_slice())
+    }
+}

@@ -17,8 +17,8 @@ import paths
 HERE = pathlib.Path(__file__).parent
 NEVER = "not solvable in any number of rounds"
 BETWEEN = "solvable, between two bounds"
-TRIED = ("`rounds 8`, `fixed 4 0`, `closure`, `cover 4`, `closure 2`, `merge X Y | explore closure`, `closure` with each diagram of one edge, `cycle 3 1 100`, "
-         "`longest 8 12`, `shortest 12 8`")
+TRIED = ("`rounds 8`, `fixed 4 0`, `closure`, `cover 64`, `closure 2`, `merge X Y | explore closure`, `closure` with each diagram of one edge, where the first "
+         "four derived problems are small `cycle 8 1 300`, `longest 8 12`, `shortest 12 8`")
 INPUTS = ("`both`", "`sides`", "`edges`", "`colouring`, 4")
 HEAD = """# All small problems, up to the names of their labels
 

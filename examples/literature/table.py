@@ -4,14 +4,14 @@
     examples/literature/table.py EXPLORE [N] > examples/literature/README.md
 
 EXPLORE is the program; N is the number behind `settle`, if any. A row has the problem, who published its class, that class, what `settle` says,
-and the seconds it took. Where an answer contradicts what is published, the row and the exit code say so.
+and the seconds of processor time it took. Where an answer contradicts what is published, the row and the exit code say so.
 
 The published classes are those of deterministic algorithms with unique identifiers on trees, for the degrees of the row: `constant`, `log*` (the
 order of log* n), `easy` (at most that), `log` (at least the order of log n, which problems of order n are too).
 """
+import resource
 import subprocess
 import sys
-import time
 from itertools import combinations
 
 LINIAL = "Linial 1992"
@@ -156,13 +156,13 @@ def agrees(published, line):
 
 
 def settled(explore, words, active, passive):
-    """The lines of the answer, and the seconds."""
+    """The lines of the answer, and the seconds of processor time."""
     text = "\n".join([*active, "", *passive]) + "\n"
-    start = time.monotonic()
+    start = resource.getrusage(resource.RUSAGE_CHILDREN).ru_utime
     run = subprocess.run([explore, "settle", *words], input=text, stdout=subprocess.PIPE, text=True)
     if run.returncode not in (0, 1):
         sys.exit(f"table.py: exit code {run.returncode}: {run.stdout}")
-    return run.stdout.splitlines(), time.monotonic() - start
+    return run.stdout.splitlines(), resource.getrusage(resource.RUSAGE_CHILDREN).ru_utime - start
 
 
 def main():
@@ -170,7 +170,7 @@ def main():
         sys.exit(__doc__)
     explore, words = sys.argv[1], sys.argv[2:]
     print("# What is published, and what `settle` says\n")
-    print("Made by `examples/literature/table.py`, which has each problem's text and says what the columns are. Seconds are of one core.\n")
+    print("Made by `examples/literature/table.py`, which has each problem's text and says what the columns are. Seconds are of processor time.\n")
     print("| Problem | Published by | Published class | `settle` | with identifiers | s |")
     print("|---|---|---|---|---|---|")
     wrong = exact = 0

@@ -1,5 +1,5 @@
 -- What each of the words shows where it finds something.
-use Rattle.std.proofs.Common.{◌≡◌, ℕ, zero, suc, ◌+◌, ◌≤◌, ◌<◌, true, List, [], ◌∷◌, length, refl, subst, sym, ap, ◌∙◌, arith, Ok, None, Option, Some}
+use Rattle.std.proofs.Common.{◌≡◌, ℕ, zero, suc, ◌*◌, ◌≤◌, ◌<◌, true, List, [], ◌∷◌, length, refl, subst, sym, ap, ◌∙◌, arith, Ok, None, Option, Some}
 use Rattle.re_cert.specs.Bounds.{Bound, is_bound, last_problem}
 use Rattle.re_cert.specs.declared.certificate.Kind.TheVariants as kind
 use Rattle.re_chain.specs.Merging.{merge_limit, merge_refusal, merged}
@@ -16,7 +16,11 @@ use Rattle.re_longest.specs.Answers as longest
 use Rattle.re_longest.specs.UpperAnswers.{AnswersAt}
 use Rattle.re_longest.specs.declared.finding.Longest.TheVariants as longest_answer
 use Rattle.re_longest.specs.declared.shortening.Shortest.TheVariants as shortest_answer
+use Rattle.re_laws.proofs.ZeroRounds.{Solvable-zero}
+use Rattle.re_laws.specs.Algorithms.{Solvable}
+use Rattle.re_problem.proofs.ZeroPlaces.{no-place}
 use Rattle.re_problem.specs.NamedProblems.{NamedProblem, unnamed}
+use Rattle.re_problem.specs.Problems.{IsProblem}
 use Rattle.re_problem.specs.Zero.{zero_place}
 use Rattle.re_search.specs.Searches.{Answers, FindsTrue, FindsValid}
 use Rattle.re_search.specs.declared.types.Search.{Search}
@@ -24,26 +28,55 @@ use Rattle.re_search.specs.declared.types.Search.TheVariants.{Found}
 use Rattle.re_classes.specs.Classes.{IsAboveLog}
 use Rattle.re_settle.proofs.Fixed.{above_log_on, found_first}
 use Rattle.re_settle.specs.Claims.{Holds}
-use Rattle.re_settle.specs.Ways.{ClosesBehind, ClosesMerged, IsFixedPoint, IsKnown, IsTried}
+use Rattle.re_settle.specs.Ways.{ClosesBehind, HasText, IsFixedPoint, IsKnown, IsTried, ShowsZero}
 use Rattle.re_settle.specs.declared.types.Claim.TheVariants.{AtMost, MoreThan, Never}
-use Rattle.re_settle.specs.declared.types.Way.TheVariants.{Closure, Cycle, Fixed, Longest, Lower, Merge, Raised, Shortest}
+use Rattle.re_settle.specs.declared.types.Way.TheVariants.{Closure, Cycle, Fixed, Longest, Lower, Merge, Raised, Shortest, Upper, Zero}
 
 -- ---- searches of `re`
-pub lower_known : (problem : NamedProblem) (steps rounds : ℕ) (search : Search) (bound : Bound) → search ≡ Found bound → steps ≤ 8 → Answers kind.Lower steps 0 problem (Ok search)
-    → FindsTrue kind.Lower problem (Ok search) → rounds ≡ length bound.steps → IsKnown problem (MoreThan rounds) (Lower steps 0)
-lower_known problem steps rounds search bound is few answers told count = subst (λ k. IsKnown problem (MoreThan k) (Lower steps 0)) (sym count) (record {
-  shown = record { tried = (few, refl); shows = (length bound.steps, refl, (bound, subst (λ s. Answers kind.Lower steps 0 problem (Ok s)) is answers, refl)) };
+pub lower_known : (times : ℕ) (problem : NamedProblem) (steps rounds : ℕ) (search : Search) (bound : Bound) → search ≡ Found bound → steps ≤ 8
+    → Answers kind.Lower steps 0 problem (Ok search) → FindsTrue kind.Lower problem (Ok search) → HasText bound → rounds ≡ length bound.steps
+    → IsKnown times problem (MoreThan rounds) (Lower steps 0)
+lower_known times problem steps rounds search bound is few answers told text count = subst (λ k. IsKnown times problem (MoreThan k) (Lower steps 0)) (sym count) (record {
+  shown = record {
+    tried = (few, refl);
+    shows = (length bound.steps, refl, record { bound = bound; finds = subst (λ s. Answers kind.Lower steps 0 problem (Ok s)) is answers; count = refl; text = text });
+  };
   holds = subst (λ s. FindsTrue kind.Lower problem (Ok s)) is told;
 })
 
+pub upper_known : (times : ℕ) (problem : NamedProblem) (steps rounds : ℕ) (search : Search) (bound : Bound) → search ≡ Found bound → steps ≤ 9
+    → Answers kind.Upper steps 0 problem (Ok search) → FindsTrue kind.Upper problem (Ok search) → HasText bound → rounds ≡ length bound.steps
+    → IsKnown times problem (AtMost rounds) (Upper steps 0)
+upper_known times problem steps rounds search bound is few answers told text count = subst (λ k. IsKnown times problem (AtMost k) (Upper steps 0)) (sym count) (record {
+  shown = record {
+    tried = (few, refl);
+    shows = (length bound.steps, refl, record { bound = bound; finds = subst (λ s. Answers kind.Upper steps 0 problem (Ok s)) is answers; count = refl; text = text });
+  };
+  holds = subst (λ s. FindsTrue kind.Upper problem (Ok s)) is told;
+})
+
+-- a problem that isn't solvable without communication takes more than 0 rounds
+pub zero_known : (times : ℕ) (problem : NamedProblem) → IsProblem (unnamed problem) → zero_place (unnamed problem) ≡ None → IsKnown times problem (MoreThan 0) Zero
+zero_known times problem is none = record {
+  shown = record { tried = tt; shows = subst (λ place. ShowsZero place (MoreThan 0)) (sym none) refl };
+  holds = λ T few solvable. cannot (subst (Solvable (unnamed problem)) (no_more T few) solvable);
+}
+  where
+    no_more : (T : ℕ) → T ≤ 0 → T ≡ 0
+    no_more T few = omega arith
+
+    cannot : Solvable (unnamed problem) 0 → ⊥
+    cannot solvable = (no-place (unnamed problem) None (sym none)).0 refl ((Solvable-zero (unnamed problem) is).0 solvable)
+
 -- a fixed point is a bound of order log N too
-pub fixed_known : (problem : NamedProblem) (search : Search) (bound : Bound) → search ≡ Found bound → is_bound bound ≡ true → IsOverProblems bound
-    → Answers kind.Fixed 4 0 problem (Ok search) → FindsValid kind.Fixed (Ok search) → FindsTrue kind.Fixed problem (Ok search) → IsFixedPoint problem (Fixed 4 0)
-fixed_known problem search bound is fits over answers valid told =
+pub fixed_known : (times : ℕ) (problem : NamedProblem) (search : Search) (bound : Bound) → search ≡ Found bound → is_bound bound ≡ true → IsOverProblems bound
+    → Answers kind.Fixed 4 0 problem (Ok search) → FindsValid kind.Fixed (Ok search) → FindsTrue kind.Fixed problem (Ok search) → HasText bound
+    → IsFixedPoint times problem (Fixed 4 0)
+fixed_known times problem search bound is fits over answers valid told text =
     let found : Answers kind.Fixed 4 0 problem (Ok (Found bound)) = subst (λ s. Answers kind.Fixed 4 0 problem (Ok s)) is answers in
     record {
       known = record {
-        shown = record { tried = (refl, refl); shows = (refl, (length bound.steps, (bound, found, refl))) };
+        shown = record { tried = (refl, refl); shows = (refl, (length bound.steps, record { bound = bound; finds = found; count = refl; text = text })) };
         holds = subst (λ s. FindsTrue kind.Fixed problem (Ok s)) is told;
       };
       above = above_log_on problem bound fits over (found_first kind.Fixed 4 0 problem bound found) (subst (λ s. FindsValid kind.Fixed (Ok s)) is valid);
@@ -67,11 +100,12 @@ never_on most problem chain bound first goes = record {
 
 -- a closure, also behind derived problems
 never_behind : (steps : ℕ) (problem : NamedProblem) (chain : Bound) → chain.first ≡ problem → ClosesBehind steps chain → IsNever problem
-never_behind zero problem chain first (bound, closed) = never_on 3 problem chain bound first closed.goes_on
+never_behind zero problem chain first (bound, closed, text) = never_on 3 problem chain bound first closed.goes_on
 never_behind (suc steps) problem chain first (sets, solvable, none, behind) = never_behind steps problem (stepped chain) first behind
 
-pub closure_known : (problem : NamedProblem) (chain : Bound) (steps : ℕ) → chain ≡ problem_chain problem → steps ≤ 2 → ClosesBehind steps chain → IsFixedPoint problem (Closure steps)
-closure_known problem chain steps start few closes =
+pub closure_known : (times : ℕ) (problem : NamedProblem) (chain : Bound) (steps : ℕ) → chain ≡ problem_chain problem → steps ≤ 2 → ClosesBehind steps chain
+    → IsFixedPoint times problem (Closure steps)
+closure_known times problem chain steps start few closes =
     let on : ClosesBehind steps (problem_chain problem) = subst (ClosesBehind steps) start closes in
     let never = never_behind steps problem (problem_chain problem) refl on in
     record { known = record { shown = record { tried = few; shows = (refl, on) }; holds = never.holds }; above = never.above }
@@ -82,13 +116,16 @@ pub closes_later : (chain next : Bound) (steps : ℕ) (sets : List (List ℕ)) �
 closes_later chain next steps sets solvable none is closes = (sets, solvable, none, subst (ClosesBehind steps) is closes)
 
 -- what a diagram raises
-pub raised_known : (problem : NamedProblem) (chain bound : Bound) (low high : ℕ) → chain ≡ problem_chain problem → low < length problem.names → high < length problem.names
-    → IsRaisedClosed ((low, high) ∷ []) chain bound → IsFixedPoint problem (Raised low high)
-raised_known problem chain bound low high start is_low is_high closed =
+pub raised_known : (times : ℕ) (problem : NamedProblem) (chain bound : Bound) (low high : ℕ) → chain ≡ problem_chain problem → low < length problem.names → high < length problem.names
+    → IsRaisedClosed ((low, high) ∷ []) chain bound → HasText bound → IsFixedPoint times problem (Raised low high)
+raised_known times problem chain bound low high start is_low is_high closed text =
     let on : IsRaisedClosed ((low, high) ∷ []) (problem_chain problem) bound = subst (λ (c : Bound). IsRaisedClosed ((low, high) ∷ []) c bound) start closed in
     let above = above_log_on problem bound on.goes_on.fits on.goes_on.problems on.goes_on.first on.goes_on.valid in
     record {
-      known = record { shown = record { tried = tt; shows = (refl, record { is_low = is_low; is_high = is_high; bound = bound; closed = on }) }; holds = on.goes_on.means };
+      known = record {
+        shown = record { tried = tt; shows = (refl, record { is_low = is_low; is_high = is_high; bound = bound; closed = on; text = text }) };
+        holds = on.goes_on.means;
+      };
       above = above;
     }
 
@@ -98,40 +135,47 @@ merged_sound problem chain made from to start is sound =
     subst IsSoundChain (sym (is ∙ ap (merged from to) start)) (record { lower = refl; meets = subst (λ (c : Bound). IsSteps (merged from to c)) start sound })
 
 -- the fixed point of the closure behind a merge
-pub merge_known : (problem : NamedProblem) (chain bound : Bound) (from to : ℕ) → chain ≡ merged from to (problem_chain problem) → merge_refusal from to (problem_chain problem) ≡ None
-    → merge_limit from to (problem_chain problem) ≡ None → IsClosed chain bound → IsFixedPoint problem (Merge from to)
-merge_known problem chain bound from to is may within closed =
+pub merge_known : (times : ℕ) (problem : NamedProblem) (chain bound : Bound) (from to : ℕ) → chain ≡ merged from to (problem_chain problem) → merge_refusal from to (problem_chain problem) ≡ None
+    → merge_limit from to (problem_chain problem) ≡ None → HasText chain → IsClosed chain bound → HasText bound → IsFixedPoint times problem (Merge from to)
+merge_known times problem chain bound from to is may within shown closed text =
     let on : IsClosed (merged from to (problem_chain problem)) bound = subst (λ c. IsClosed c bound) is closed in
     let never = never_on 3 problem (merged from to (problem_chain problem)) bound refl on.goes_on in
     record {
-      known = record { shown = record { tried = tt; shows = (refl, record { may = may; within = within; bound = bound; closed = on }) }; holds = never.holds };
+      known = record {
+        shown = record { tried = tt; shows = (refl, record { may = may; within = within; chain = subst HasText is shown; bound = bound; closed = on; text = text }) };
+        holds = never.holds;
+      };
       above = never.above;
     }
 
-pub cycle_known : (problem : NamedProblem) (chain bound : Bound) → chain ≡ problem_chain problem → cycle.Answers 3 chain (cycle_answer.Found bound) → IsFixedPoint problem (Cycle 3 1 100)
-cycle_known problem chain bound start answers =
-    let on : cycle.Answers 3 (problem_chain problem) (cycle_answer.Found bound) = subst (λ c. cycle.Answers 3 c (cycle_answer.Found bound)) start answers in
-    let never = never_on 3 problem (problem_chain problem) bound refl on.1 in
-    record { known = record { shown = record { tried = (refl, refl, refl); shows = (refl, (bound, on)) }; holds = never.holds }; above = never.above }
+pub cycle_known : (times nodes : ℕ) (problem : NamedProblem) (chain bound : Bound) → nodes ≡ 300 * times → chain ≡ problem_chain problem
+    → cycle.Answers 8 chain (cycle_answer.Found bound) → HasText bound → IsFixedPoint times problem (Cycle 8 1 nodes)
+cycle_known times nodes problem chain bound many start answers text =
+    let on : cycle.Answers 8 (problem_chain problem) (cycle_answer.Found bound) = subst (λ c. cycle.Answers 8 c (cycle_answer.Found bound)) start answers in
+    let never = never_on 8 problem (problem_chain problem) bound refl on.1 in
+    record { known = record { shown = record { tried = (refl, refl, many); shows = (refl, (bound, on, text)) }; holds = never.holds }; above = never.above }
 
 -- ---- bounds that go on from the problem
-pub longest_known : (problem : NamedProblem) (chain bound : Bound) (rounds : ℕ) → chain ≡ problem_chain problem → longest.Answers 8 12 chain (longest_answer.Found bound) → rounds ≡ length bound.steps
-    → IsKnown problem (MoreThan rounds) (Longest 8 12)
-longest_known problem chain bound rounds start answers count =
-    let on : longest.Answers 8 12 (problem_chain problem) (longest_answer.Found bound) = subst (λ c. longest.Answers 8 12 c (longest_answer.Found bound)) start answers in
-    subst (λ k. IsKnown problem (MoreThan k) (Longest 8 12)) (sym count) (record { shown = record { tried = (refl, refl); shows = (bound, refl, on) }; holds = on.1.means })
+pub longest_known : (times : ℕ) (problem : NamedProblem) (chain bound : Bound) (steps labels rounds : ℕ) → IsTried times problem (Longest steps labels) → chain ≡ problem_chain problem
+    → longest.Answers steps labels chain (longest_answer.Found bound) → HasText bound → rounds ≡ length bound.steps → IsKnown times problem (MoreThan rounds) (Longest steps labels)
+longest_known times problem chain bound steps labels rounds tried start answers text count =
+    let on : longest.Answers steps labels (problem_chain problem) (longest_answer.Found bound) = subst (λ c. longest.Answers steps labels c (longest_answer.Found bound)) start answers in
+    subst (λ k. IsKnown times problem (MoreThan k) (Longest steps labels)) (sym count)
+    (record { shown = record { tried = tried; shows = (bound, refl, on, text) }; holds = on.1.means })
 
 -- what a search for an upper bound finds is one
-upper-means : (place : Option ℕ) (problem : NamedProblem) (bound : Bound) → AnswersAt place 12 8 (chain_with kind.Upper problem []) (shortest_answer.Found bound) → Holds (AtMost (length bound.steps)) (unnamed problem)
-upper-means (Some place) problem bound answers = answers.1.means
-upper-means None problem bound answers = answers.means
+upper-means : (place : Option ℕ) (steps labels : ℕ) (problem : NamedProblem) (bound : Bound) → AnswersAt place steps labels (chain_with kind.Upper problem []) (shortest_answer.Found bound)
+    → Holds (AtMost (length bound.steps)) (unnamed problem)
+upper-means (Some place) steps labels problem bound answers = answers.1.means
+upper-means None steps labels problem bound answers = answers.means
 
-pub shortest_known : (problem : NamedProblem) (chain bound : Bound) (rounds : ℕ) → chain ≡ chain_with kind.Upper problem []
-    → AnswersAt (zero_place (unnamed (last_problem chain))) 12 8 chain (shortest_answer.Found bound) → rounds ≡ length bound.steps → IsKnown problem (AtMost rounds) (Shortest 12 8)
-shortest_known problem chain bound rounds start answers count =
-    let on : AnswersAt (zero_place (unnamed problem)) 12 8 (chain_with kind.Upper problem []) (shortest_answer.Found bound) =
-    subst (λ (c : Bound). AnswersAt (zero_place (unnamed (last_problem c))) 12 8 c (shortest_answer.Found bound)) start answers in
-    subst (λ k. IsKnown problem (AtMost k) (Shortest 12 8)) (sym count) (record {
-      shown = record { tried = (refl, refl); shows = (bound, refl, on) };
-      holds = upper-means (zero_place (unnamed problem)) problem bound on;
+pub shortest_known : (times : ℕ) (problem : NamedProblem) (chain bound : Bound) (steps labels rounds : ℕ) → IsTried times problem (Shortest steps labels)
+    → chain ≡ chain_with kind.Upper problem [] → AnswersAt (zero_place (unnamed (last_problem chain))) steps labels chain (shortest_answer.Found bound) → HasText bound
+    → rounds ≡ length bound.steps → IsKnown times problem (AtMost rounds) (Shortest steps labels)
+shortest_known times problem chain bound steps labels rounds tried start answers text count =
+    let on : AnswersAt (zero_place (unnamed problem)) steps labels (chain_with kind.Upper problem []) (shortest_answer.Found bound) =
+    subst (λ (c : Bound). AnswersAt (zero_place (unnamed (last_problem c))) steps labels c (shortest_answer.Found bound)) start answers in
+    subst (λ k. IsKnown times problem (AtMost k) (Shortest steps labels)) (sym count) (record {
+      shown = record { tried = tried; shows = (bound, refl, on, text) };
+      holds = upper-means (zero_place (unnamed problem)) steps labels problem bound on;
     })

@@ -1,5 +1,5 @@
 -- What is known of a problem, said of local algorithms.
-use Rattle.std.proofs.Common.{◌≡◌, ℕ, ◌≤◌, ◌<◌, true, ap, ◌∙◌, sym, subst, Option, None, Some}
+use Rattle.std.proofs.Common.{◌≡◌, ℕ, true, ap, ◌∙◌, sym, subst, Option, None, Some}
 use Rattle.re_classes.proofs.Decided.{above_log_star, order_log_star}
 use Rattle.re_given.specs.Given.{SolvableGiven}
 use Rattle.re_given.specs.Inputs.{IsInput}
@@ -75,14 +75,15 @@ colouring_input problem input a p x y z colours is is_a is_p is_x is_y is_z fit 
     }
 
 -- ---- what no number of rounds solves
-pub fixed_settled : (problem : NamedProblem) (way : Way) → IsFixedPoint problem way → IsSettled problem (settled.FixedPoint way)
-fixed_settled problem way fixed = record { shown = fixed.known.shown; holds = fixed.known.holds; class = fixed.above }
+pub fixed_settled : (times : ℕ) (problem : NamedProblem) (way : Way) → IsFixedPoint times problem way → IsSettled times problem (settled.FixedPoint way)
+fixed_settled times problem way fixed = record { shown = fixed.known.shown; holds = fixed.known.holds; class = fixed.above }
 
-no_solution_class : (problem : NamedProblem) (way : Way) (coloured : Option Coloured) → IsProblem (unnamed problem) → IsKnown problem Never way → MayBeColoured coloured problem
+no_solution_class : (times : ℕ) (problem : NamedProblem) (way : Way) (coloured : Option Coloured) → IsProblem (unnamed problem) → IsKnown times problem Never way → MayBeColoured coloured problem
     → ClassHolds (class_of (settled.NoSolution way coloured)) (unnamed problem)
-no_solution_class problem way None is known may = above_log_star (unnamed problem) is known.holds
-no_solution_class problem way (Some coloured) is known may = order_log_star (unnamed problem) is known.holds may.solvable
+no_solution_class times problem way None is known may = above_log_star (unnamed problem) is known.holds
+no_solution_class times problem way (Some coloured) is known may = order_log_star (unnamed problem) is known.holds may.solvable
 
-pub no_solution_settled : (problem : NamedProblem) (way : Way) (coloured : Option Coloured) → IsProblem (unnamed problem) → IsKnown problem Never way → MayBeColoured coloured problem
-    → IsSettled problem (settled.NoSolution way coloured)
-no_solution_settled problem way coloured is known may = record { shown = (known.shown, may); holds = known.holds; class = no_solution_class problem way coloured is known may }
+pub no_solution_settled : (times : ℕ) (problem : NamedProblem) (way : Way) (coloured : Option Coloured) → IsProblem (unnamed problem) → IsKnown times problem Never way
+    → MayBeColoured coloured problem → IsSettled times problem (settled.NoSolution way coloured)
+no_solution_settled times problem way coloured is known may =
+    record { shown = (known.shown, may); holds = known.holds; class = no_solution_class times problem way coloured is known may }

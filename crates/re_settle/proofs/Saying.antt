@@ -10,16 +10,17 @@ use Rattle.re_problem.specs.declared.fault.InputFault.{InputFault}
 use Rattle.re_settle.specs.Answers.{MayGive, MayGiveRead}
 use Rattle.re_settle.specs.Claims.{claim_of, is_final}
 use Rattle.re_settle.specs.Lines.{settled_text}
+use Rattle.re_settle.specs.declared.words.SettleWord.{SettleWord}
 
 either_says : (final : Bool) (text : List ℕ) → MaySay (if final then done text else refused text).status true
 either_says true text = tt
 either_says false text = refl
 
-read_says : (fault : Option InputFault) (problem : NamedProblem) (outcome : Outcome) → MayGiveRead fault problem outcome → MaySay outcome.status true
-read_says (Some fault) problem outcome may = says_as outcome _ may (fault_says fault true)
-read_says None problem outcome may =
+read_says : (times : ℕ) (fault : Option InputFault) (problem : NamedProblem) (outcome : Outcome) → MayGiveRead times fault problem outcome → MaySay outcome.status true
+read_says times (Some fault) problem outcome may = says_as outcome _ may (fault_says fault true)
+read_says times None problem outcome may =
     says_as outcome _ may.lines (either_says (is_final (claim_of may.settled)) (settled_text problem.names problem.passive.degree may.settled))
 
-pub give_says : (bytes : List ℕ) (outcome : Outcome) → MayGive bytes outcome → MaySay outcome.status true
+pub give_says : (word : SettleWord) (bytes : List ℕ) (outcome : Outcome) → MayGive word bytes outcome → MaySay outcome.status true
 unfolding MayGive
-give_says bytes outcome may = read_says (first_fault 0 1 (lines_of bytes)) (problem_of (lines_of bytes)) outcome may
+give_says word bytes outcome may = read_says word.times (first_fault 0 1 (lines_of bytes)) (problem_of (lines_of bytes)) outcome may

@@ -9,22 +9,23 @@ use Rattle.re_settle.specs.Claims.{claim_of, is_final}
 use Rattle.re_settle.specs.Lines.{settled_text}
 use Rattle.re_settle.specs.Ways.{IsSettled}
 use Rattle.re_settle.specs.declared.types.Settled.{Settled}
+use Rattle.re_settle.specs.declared.words.SettleWord.{SettleWord}
 
 -- the lines of what is known of a problem with these names, whose passive nodes have this degree: Done where the claim leaves no question, and else No
 abbrev pub settled_outcome : List (List ℕ) → ℕ → Settled → Outcome
 settled_outcome names passive settled = if is_final (claim_of settled) then done (settled_text names passive settled) else refused (settled_text names passive settled)
 
--- the lines of something that is known of the problem, shown by the words that they name, and true
-pub record IsAnswer (problem : NamedProblem) (outcome : Outcome) : Type 0 where
+-- the lines of something that is known of the problem, where bounds are taken so many times: shown by the words that they name, and true
+pub record IsAnswer (times : ℕ) (problem : NamedProblem) (outcome : Outcome) : Type 0 where
   pub settled : Settled
   pub lines : outcome ≡ settled_outcome problem.names problem.passive.degree settled
-  pub known : IsSettled problem settled
+  pub known : IsSettled times problem settled
 
 -- the line of the first fault of the text, and else such an answer on its problem
-abbrev pub MayGiveRead : Option InputFault → NamedProblem → Outcome → Type 0
-MayGiveRead (Some fault) problem outcome = outcome ≡ fault_outcome fault
-MayGiveRead None problem outcome = IsAnswer problem outcome
+abbrev pub MayGiveRead : ℕ → Option InputFault → NamedProblem → Outcome → Type 0
+MayGiveRead times (Some fault) problem outcome = outcome ≡ fault_outcome fault
+MayGiveRead times None problem outcome = IsAnswer times problem outcome
 
 -- what the word may give to a text
-unfoldable pub MayGive : List ℕ → Outcome → Type 0
-MayGive bytes outcome = MayGiveRead (first_fault 0 1 (lines_of bytes)) (problem_of (lines_of bytes)) outcome
+unfoldable pub MayGive : SettleWord → List ℕ → Outcome → Type 0
+MayGive word bytes outcome = MayGiveRead word.times (first_fault 0 1 (lines_of bytes)) (problem_of (lines_of bytes)) outcome

@@ -4,5 +4,6 @@ pub mod Classes
 pub mod Coloured
 pub mod GraphRounds
 pub mod Lines
+pub mod Measures
 pub mod Ways
 pub mod Words

@@ -1,12 +1,14 @@
 -- What words show of a problem.
-use Rattle.std.specs.Prelude.{◌≡◌, ◌≤◌, ◌<◌, ℕ, zero, suc, List, [], ◌∷◌, length, None, Option, Some, Ok}
+use Rattle.std.specs.Prelude.{◌≡◌, ◌≤◌, ◌<◌, ◌*◌, ◌⊎◌, ℕ, zero, suc, List, [], ◌∷◌, length, None, Option, Some, Ok}
 use Rattle.re_cert.specs.Bounds.{Bound, last_problem}
 use Rattle.re_cert.specs.declared.certificate.Kind.{Kind}
 use Rattle.re_cert.specs.declared.certificate.Kind.TheVariants as kind
+use Rattle.re_cert_text.specs.PrintedCertificates.{certificate_text}
 use Rattle.re_chain.specs.Merging.{merge_limit, merge_refusal, merged}
 use Rattle.re_chain_parts.specs.Chains.{chain_with}
 use Rattle.re_chain_steps.specs.Stepped.{stepped, stepping_fault}
 use Rattle.re_chain_texts.specs.ChainTexts.{problem_chain}
+use Rattle.re_chain_texts.specs.OverChains.{IsTextOf}
 use Rattle.re_classes.specs.Classes.{IsAboveLog}
 use Rattle.re_closure.specs.Closures.{IsClosed, IsSolvableBy}
 use Rattle.re_closure.specs.RaisedClosures.{IsRaisedClosed}
@@ -25,6 +27,7 @@ use Rattle.re_search.specs.declared.types.Search.TheVariants.{Found}
 use Rattle.re_settle.specs.Claims.{Holds, claim_of}
 use Rattle.re_settle.specs.Classes.{ClassHolds, class_of}
 use Rattle.re_settle.specs.Coloured.{IsColoured}
+use Rattle.re_settle.specs.Measures.{doublings, greatest_degree, longest_labels, longest_steps, shortest_labels, shortest_steps}
 use Rattle.re_settle.specs.declared.types.Claim.{Claim}
 use Rattle.re_settle.specs.declared.types.Claim.TheVariants.{AtMost, MoreThan, Never}
 use Rattle.re_settle.specs.declared.types.Coloured.{Coloured}
@@ -33,48 +36,68 @@ use Rattle.re_settle.specs.declared.types.Settled.TheVariants as settled
 use Rattle.re_settle.specs.declared.types.Way.{Way}
 use Rattle.re_settle.specs.declared.types.Way.TheVariants.{Closure, Cover, Cycle, Fixed, Longest, Lower, Merge, Raised, Shortest, Upper, Zero}
 
--- the numbers of the words that are tried
-abbrev pub IsTried : Way → Type 0
-IsTried Zero = Unit {0}
-IsTried (Lower steps merges) = (steps ≤ 8) × (merges ≡ 0)
-IsTried (Upper steps drops) = (steps ≤ 9) × (drops ≡ 0)
-IsTried (Fixed steps merges) = (steps ≡ 4) × (merges ≡ 0)
-IsTried (Closure steps) = steps ≤ 2
-IsTried (Raised low high) = Unit {0}
-IsTried (Merge from to) = Unit {0}
-IsTried (Cover nodes) = nodes ≡ 4
-IsTried (Cycle steps merges nodes) = (steps ≡ 3) × (merges ≡ 1) × (nodes ≡ 100)
-IsTried (Longest steps labels) = (steps ≡ 8) × (labels ≡ 12)
-IsTried (Shortest steps labels) = (steps ≡ 12) × (labels ≡ 8)
+-- ---- which words are tried
+-- the numbers of the words that are tried on a problem, where bounds are taken so many times: a graph is listed, or one of at most 8 or of at most 64 nodes is made
+-- of gadgets; problems of `shortest` have few labels, or all that a text may name, or, in degree 5, two for each pair of ports
+abbrev pub IsTried : ℕ → NamedProblem → Way → Type 0
+IsTried times problem Zero = Unit {0}
+IsTried times problem (Lower steps merges) = (steps ≤ 8) × (merges ≡ 0)
+IsTried times problem (Upper steps drops) = (steps ≤ 9) × (drops ≡ 0)
+IsTried times problem (Fixed steps merges) = (steps ≡ 4) × (merges ≡ 0)
+IsTried times problem (Closure steps) = steps ≤ 2
+IsTried times problem (Raised low high) = Unit {0}
+IsTried times problem (Merge from to) = Unit {0}
+IsTried times problem (Cover nodes) = nodes ≡ 4 ⊎ (nodes ≡ 8 ⊎ nodes ≡ 64)
+IsTried times problem (Cycle steps merges nodes) = (steps ≡ 8) × (merges ≡ 1) × (nodes ≡ 300 * times)
+IsTried times problem (Longest steps labels) =
+    (steps ≡ longest_steps (doublings times)) × (labels ≡ longest_labels (greatest_degree problem) (doublings times))
+IsTried times problem (Shortest steps labels) =
+    ((steps ≡ shortest_steps (doublings times)) × (labels ≡ shortest_labels (greatest_degree problem) (doublings times)))
+    ⊎ (((steps ≤ 9) × (labels ≡ 128)) ⊎ ((steps ≡ 6) × (labels ≡ 20)))
 
--- the search for a bound of this kind finds one, of so many steps
-abbrev pub Finds : Kind → ℕ → ℕ → NamedProblem → ℕ → Type 0
-Finds kind steps changes problem found = (bound : Bound) × (search_of kind steps changes problem ≡ Ok (Found bound)) × (length bound.steps ≡ found)
+-- the text of the bound is no longer than one that is read, and is read as it
+abbrev pub HasText : Bound → Type 0
+HasText bound = IsTextOf bound (certificate_text bound)
 
--- the closure of the chain's last problem gives a fixed point; or, behind so many derived problems more, the first one whose closure isn't solvable
--- without communication
+-- the search for a bound of this kind finds one, of so many steps, that has a text
+pub record Finds (kind : Kind) (steps changes : ℕ) (problem : NamedProblem) (found : ℕ) : Type 0 where
+  pub bound : Bound
+  pub finds : search_of kind steps changes problem ≡ Ok (Found bound)
+  pub count : length bound.steps ≡ found
+  pub text : HasText bound
+
+-- the closure of the chain's last problem gives a fixed point that has a text; or, behind so many derived problems more, the first one whose closure isn't
+-- solvable without communication
 abbrev pub ClosesBehind : ℕ → Bound → Type 0
-ClosesBehind zero chain = (bound : Bound) × IsClosed chain bound
+ClosesBehind zero chain = (bound : Bound) × IsClosed chain bound × HasText bound
 ClosesBehind (suc steps) chain = (sets : List (List ℕ)) × IsSolvableBy (last_problem chain) sets × (stepping_fault chain ≡ None) × ClosesBehind steps (stepped chain)
 
--- labels of the problem can be merged so, and the closure behind the chain that this gives is a fixed point
+-- labels of the problem can be merged so, and the closure behind the chain that this gives is a fixed point; both have a text
 pub record ClosesMerged (from to : ℕ) (problem : NamedProblem) : Type 0 where
   pub may : merge_refusal from to (problem_chain problem) ≡ None
   pub within : merge_limit from to (problem_chain problem) ≡ None
+  pub chain : HasText (merged from to (problem_chain problem))
   pub bound : Bound
   pub closed : IsClosed (merged from to (problem_chain problem)) bound
+  pub text : HasText bound
 
--- the one label is raised to the other, and the closure of that problem is a fixed point
+-- the one label is raised to the other, and the closure of that problem is a fixed point, which has a text
 pub record ClosesRaised (low high : ℕ) (problem : NamedProblem) : Type 0 where
   pub is_low : low < length problem.names
   pub is_high : high < length problem.names
   pub bound : Bound
   pub closed : IsRaisedClosed ((low, high) ∷ []) (problem_chain problem) bound
+  pub text : HasText bound
 
--- what an answer of these words shows of the problem: that of `zero` an algorithm without communication; that of a search the bound that it finds, or, of
--- `cycle`, `longest` and `shortest`, one that it may find; `closure` its fixed point; `cover` a graph without a solution
+-- whether it is solvable without communication, as `zero` answers
+abbrev pub ShowsZero : Option ℕ → Claim → Type 0
+ShowsZero (Some place) claim = claim ≡ AtMost 0
+ShowsZero None claim = claim ≡ MoreThan 0
+
+-- what an answer of these words shows of the problem: that of `zero` whether there is an algorithm without communication; that of a search the bound that it
+-- finds, or, of `cycle`, `longest` and `shortest`, one that it may find; `closure` its fixed point; `cover` a graph without a solution
 abbrev pub Shows : Way → Claim → NamedProblem → Type 0
-Shows Zero claim problem = (claim ≡ AtMost 0) × ((place : ℕ) × (zero_place (unnamed problem) ≡ Some place))
+Shows Zero claim problem = ShowsZero (zero_place (unnamed problem)) claim
 Shows (Lower steps merges) claim problem = (found : ℕ) × (claim ≡ MoreThan found) × Finds kind.Lower steps merges problem found
 Shows (Upper steps drops) claim problem = (found : ℕ) × (claim ≡ AtMost found) × Finds kind.Upper steps drops problem found
 Shows (Fixed steps merges) claim problem = (claim ≡ Never) × ((found : ℕ) × Finds kind.Fixed steps merges problem found)
@@ -82,25 +105,27 @@ Shows (Closure steps) claim problem = (claim ≡ Never) × ClosesBehind steps (p
 Shows (Raised low high) claim problem = (claim ≡ Never) × ClosesRaised low high problem
 Shows (Merge from to) claim problem = (claim ≡ Never) × ClosesMerged from to problem
 Shows (Cover nodes) claim problem = (claim ≡ Never) × ((graph : PortGraph) × IsCover (unnamed problem) graph × (graph.nodes ≤ nodes))
-Shows (Cycle steps merges nodes) claim problem = (claim ≡ Never) × ((bound : Bound) × cycle.Answers steps (problem_chain problem) (cycle_answer.Found bound))
-Shows (Longest steps labels) claim problem = (bound : Bound) × (claim ≡ MoreThan (length bound.steps)) × longest.Answers steps labels (problem_chain problem) (longest_answer.Found bound)
+Shows (Cycle steps merges nodes) claim problem =
+    (claim ≡ Never) × ((bound : Bound) × cycle.Answers steps (problem_chain problem) (cycle_answer.Found bound) × HasText bound)
+Shows (Longest steps labels) claim problem =
+    (bound : Bound) × (claim ≡ MoreThan (length bound.steps)) × longest.Answers steps labels (problem_chain problem) (longest_answer.Found bound) × HasText bound
 Shows (Shortest steps labels) claim problem =
     (bound : Bound) × (claim ≡ AtMost (length bound.steps))
-    × AnswersAt (zero_place (unnamed problem)) steps labels (chain_with kind.Upper problem []) (shortest_answer.Found bound)
+    × AnswersAt (zero_place (unnamed problem)) steps labels (chain_with kind.Upper problem []) (shortest_answer.Found bound) × HasText bound
 
--- the words are tried, and show the claim
-pub record IsShown (problem : NamedProblem) (claim : Claim) (way : Way) : Type 0 where
-  pub tried : IsTried way
+-- the words are tried, where bounds are taken so many times, and show the claim
+pub record IsShown (times : ℕ) (problem : NamedProblem) (claim : Claim) (way : Way) : Type 0 where
+  pub tried : IsTried times problem way
   pub shows : Shows way claim problem
 
 -- so they do, and it is true
-pub record IsKnown (problem : NamedProblem) (claim : Claim) (way : Way) : Type 0 where
-  pub shown : IsShown problem claim way
+pub record IsKnown (times : ℕ) (problem : NamedProblem) (claim : Claim) (way : Way) : Type 0 where
+  pub shown : IsShown times problem claim way
   pub holds : Holds claim (unnamed problem)
 
 -- the words show a fixed point
-pub record IsFixedPoint (problem : NamedProblem) (way : Way) : Type 0 where
-  pub known : IsKnown problem Never way
+pub record IsFixedPoint (times : ℕ) (problem : NamedProblem) (way : Way) : Type 0 where
+  pub known : IsKnown times problem Never way
   pub above : IsAboveLog (unnamed problem)
 
 -- words show that some number of rounds is enough given few colours
@@ -109,15 +134,16 @@ MayBeColoured None problem = Unit {0}
 MayBeColoured (Some coloured) problem = IsColoured problem coloured
 
 -- each of the words shows its part of what is known
-abbrev pub AreShown : Settled → NamedProblem → Type 0
-AreShown settled.AtOnce problem = IsShown problem (AtMost 0) Zero
-AreShown (settled.FixedPoint way) problem = IsShown problem Never way
-AreShown (settled.NoSolution way coloured) problem = IsShown problem Never way × MayBeColoured coloured problem
-AreShown (settled.Within more None) problem = IsShown problem (MoreThan more.rounds) more.way
-AreShown (settled.Within more (Some most)) problem = IsShown problem (MoreThan more.rounds) more.way × IsShown problem (AtMost most.rounds) most.way
+abbrev pub AreShown : ℕ → Settled → NamedProblem → Type 0
+AreShown times settled.AtOnce problem = IsShown times problem (AtMost 0) Zero
+AreShown times (settled.FixedPoint way) problem = IsShown times problem Never way
+AreShown times (settled.NoSolution way coloured) problem = IsShown times problem Never way × MayBeColoured coloured problem
+AreShown times (settled.Within more None) problem = IsShown times problem (MoreThan more.rounds) more.way
+AreShown times (settled.Within more (Some most)) problem =
+    IsShown times problem (MoreThan more.rounds) more.way × IsShown times problem (AtMost most.rounds) most.way
 
--- so much is known of the problem: words show it, and what is claimed is true, also of local algorithms
-pub record IsSettled (problem : NamedProblem) (settled : Settled) : Type 0 where
-  pub shown : AreShown settled problem
+-- so much is known of the problem, where bounds are taken so many times: words show it, and what is claimed is true, also of local algorithms
+pub record IsSettled (times : ℕ) (problem : NamedProblem) (settled : Settled) : Type 0 where
+  pub shown : AreShown times settled problem
   pub holds : Holds (claim_of settled) (unnamed problem)
   pub class : ClassHolds (class_of settled) (unnamed problem)

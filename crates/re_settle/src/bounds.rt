@@ -4,9 +4,15 @@ ghost use Rattle.re_chain_parts.specs.Chains.{chain_with};
 ghost use Rattle.re_chain_texts.specs.ChainTexts.{problem_chain};
 ghost use Rattle.re_problem.specs.NamedProblems.{unnamed};
 ghost use Rattle.re_problem.specs.Zero.{zero_place};
-ghost use Rattle.re_settle.specs.Ways.{IsKnown};
+ghost use Rattle.re_settle.specs.Measures.{doublings, greatest_degree, shortest_labels, shortest_steps};
+ghost use Rattle.re_settle.specs.Ways.{IsKnown, IsTried};
 ghost use Rattle.std.specs.Prelude.{◌≡◌, ◌≤◌, [], IfOk, IfSome, None, length};
 
+use crate::measures::{
+    doublings, greatest_degree, is_small, longest_labels, longest_steps, shortest_labels,
+    shortest_steps,
+};
+use crate::texts::has_text;
 use crate::types::{Claim, Shown, Way};
 use re_cert::{Certificate, Kind};
 use re_labels::NoMemory;
@@ -14,6 +20,12 @@ use re_longest::{Longest, Shortest, find_longest, find_shortest};
 use re_problem::Problem;
 use re_search::{FindFault, Search, find_lower, find_upper};
 use std::alloc::Global;
+
+/// How many configurations a problem in degree 5 has for which patterns are looked for.
+const PATTERN_SIZE: usize = 8;
+
+/// How many labels a problem may have.
+const ALL_LABELS: u8 = 128;
 
 /// How many steps a certificate has.
 pub(crate) fn count_of(certificate: &Certificate) -> u8
@@ -27,15 +39,24 @@ pub(crate) fn lower_way(
     alloc: Global,
     problem: &Problem,
     steps: u8,
+    times: u8,
 ) -> Result<Option<Shown>, NoMemory>
     requires { steps ≤ 8 }
-    ensures { IfOk result (λ found. IfSome found (λ shown. IsKnown problem.now (Claim.MoreThan shown.rounds) shown.way)) }
+    ensures { IfOk result (λ found. IfSome found (λ shown. IsKnown times problem.now (Claim.MoreThan shown.rounds) shown.way)) }
 {
+    let _times = times;
     match find_lower(alloc, problem, steps, 0) {
-        Ok(Search::Found(certificate)) => Ok(Some(Shown {
-            rounds: count_of(&certificate),
-            way: Way::Lower(steps, 0),
-        })),
+        Ok(Search::Found(certificate)) => {
+            let has = has_text(alloc, &certificate)?;
+            if has {
+                Ok(Some(Shown {
+                    rounds: count_of(&certificate),
+                    way: Way::Lower(steps, 0),
+                }))
+            } else {
+                Ok(None)
+            }
+        }
         Ok(Search::NotFound { .. }) | Err(FindFault::TooManyNodes) => Ok(None),
         Err(FindFault::NoMemory) => Err(NoMemory),
     }
@@ -46,32 +67,79 @@ pub(crate) fn upper_way(
     alloc: Global,
     problem: &Problem,
     steps: u8,
+    times: u8,
 ) -> Result<Option<Shown>, NoMemory>
     requires { steps ≤ 9 }
-    ensures { IfOk result (λ found. IfSome found (λ shown. IsKnown problem.now (Claim.AtMost shown.rounds) shown.way)) }
+    ensures { IfOk result (λ found. IfSome found (λ shown. IsKnown times problem.now (Claim.AtMost shown.rounds) shown.way)) }
 {
+    let _times = times;
     match find_upper(alloc, problem, steps, 0) {
-        Ok(Search::Found(certificate)) => Ok(Some(Shown {
-            rounds: count_of(&certificate),
-            way: Way::Upper(steps, 0),
-        })),
+        Ok(Search::Found(certificate)) => {
+            let has = has_text(alloc, &certificate)?;
+            if has {
+                Ok(Some(Shown {
+                    rounds: count_of(&certificate),
+                    way: Way::Upper(steps, 0),
+                }))
+            } else {
+                Ok(None)
+            }
+        }
         Ok(Search::NotFound { .. }) | Err(FindFault::TooManyNodes) => Ok(None),
         Err(FindFault::NoMemory) => Err(NoMemory),
     }
 }
 
-// The longest lower bound that is found with at most 8 steps, each to at most 12 labels: at least that without steps.
-fn longest_way(alloc: Global, problem: &Problem, chain: &Certificate) -> Result<Shown, NoMemory>
+// The longest lower bound that is found with few steps, each to few labels.
+fn longest_way(
+    alloc: Global,
+    problem: &Problem,
+    chain: &Certificate,
+    times: u8,
+) -> Result<Option<Shown>, NoMemory>
     requires chain { chain.now ≡ problem_chain problem.now }
     requires not_zero { zero_place (unnamed problem.now) ≡ None }
-    ensures { IfOk result (λ shown. IsKnown problem.now (Claim.MoreThan shown.rounds) shown.way) }
+    ensures { IfOk result (λ found. IfSome found (λ shown. IsKnown times problem.now (Claim.MoreThan shown.rounds) shown.way)) }
 {
-    match find_longest(alloc, chain, 8, 12)? {
-        Longest::Found(certificate) => Ok(Shown {
-            rounds: count_of(&certificate),
-            way: Way::Longest(8, 12),
-        }),
-        Longest::Solvable(_) => unreachable!(),
+    let doublings = doublings(times);
+    let steps = longest_steps(doublings);
+    let labels = longest_labels(greatest_degree(problem), doublings);
+    let Longest::Found(certificate) = find_longest(alloc, chain, steps, labels)? else {
+        return Ok(None);
+    };
+    let has = has_text(alloc, &certificate)?;
+    if !has {
+        return Ok(None);
+    }
+    Ok(Some(Shown {
+        rounds: count_of(&certificate),
+        way: Way::Longest(steps, labels),
+    }))
+}
+
+// The one of more rounds, and the second of two of as many; where there is none, that it isn't solvable without communication.
+fn longer(problem: &Problem, first: Option<Shown>, second: Option<Shown>, times: u8) -> Shown
+    requires not_zero { zero_place (unnamed problem.now) ≡ None }
+    requires first { IfSome first (λ shown. IsKnown times problem.now (Claim.MoreThan shown.rounds) shown.way) }
+    requires second { IfSome second (λ shown. IsKnown times problem.now (Claim.MoreThan shown.rounds) shown.way) }
+    ensures { IsKnown times problem.now (Claim.MoreThan result.rounds) result.way }
+{
+    let _names = problem.names();
+    let _times = times;
+    match (first, second) {
+        (Some(first), Some(second)) => {
+            if second.rounds < first.rounds {
+                first
+            } else {
+                second
+            }
+        }
+        (Some(first), None) => first,
+        (None, Some(second)) => second,
+        (None, None) => Shown {
+            rounds: 0,
+            way: Way::Zero,
+        },
     }
 }
 
@@ -81,20 +149,16 @@ pub(crate) fn long_way(
     problem: &Problem,
     chain: &Certificate,
     steps: u8,
+    times: u8,
 ) -> Result<Shown, NoMemory>
     requires chain { chain.now ≡ problem_chain problem.now }
     requires not_zero { zero_place (unnamed problem.now) ≡ None }
     requires steps { steps ≤ 8 }
-    ensures { IfOk result (λ shown. IsKnown problem.now (Claim.MoreThan shown.rounds) shown.way) }
+    ensures { IfOk result (λ shown. IsKnown times problem.now (Claim.MoreThan shown.rounds) shown.way) }
 {
-    let longest = longest_way(alloc, problem, chain)?;
-    if steps < longest.rounds {
-        return Ok(longest);
-    }
-    match lower_way(alloc, problem, steps)? {
-        Some(lower) => Ok(lower),
-        None => Ok(longest),
-    }
+    let longest = longest_way(alloc, problem, chain, times)?;
+    let lower = lower_way(alloc, problem, steps, times)?;
+    Ok(longer(problem, longest, lower, times))
 }
 
 // The chain of kind upper without steps that a problem stands for.
@@ -107,16 +171,67 @@ fn upper_chain(alloc: Global, problem: Problem) -> Certificate
     }
 }
 
-/// The shortest upper bound that is found with at most 12 steps, each to at most 8 labels, if any.
-pub(crate) fn short_way(alloc: Global, problem: &Problem) -> Result<Option<Shown>, NoMemory>
-    ensures { IfOk result (λ found. IfSome found (λ shown. IsKnown problem.now (Claim.AtMost shown.rounds) shown.way)) }
+// The shortest upper bound that is found with at most so many steps, each to at most so many labels, if any.
+fn shortest_way(
+    alloc: Global,
+    problem: &Problem,
+    steps: u8,
+    labels: u8,
+    times: u8,
+) -> Result<Option<Shown>, NoMemory>
+    requires { IsTried times problem.now (Way.Shortest steps labels) }
+    ensures { IfOk result (λ found. IfSome found (λ shown. IsKnown times problem.now (Claim.AtMost shown.rounds) shown.way)) }
 {
+    let _times = times;
     let chain = upper_chain(alloc, problem.copy()?);
-    match find_shortest(alloc, &chain, 12, 8)? {
-        Shortest::Found(certificate) => Ok(Some(Shown {
-            rounds: count_of(&certificate),
-            way: Way::Shortest(12, 8),
-        })),
-        Shortest::NotFound { .. } => Ok(None),
+    let Shortest::Found(certificate) = find_shortest(alloc, &chain, steps, labels)? else {
+        return Ok(None);
+    };
+    let has = has_text(alloc, &certificate)?;
+    if !has {
+        return Ok(None);
     }
+    Ok(Some(Shown {
+        rounds: count_of(&certificate),
+        way: Way::Shortest(steps, labels),
+    }))
+}
+
+/// An upper bound of at most so many steps, each to as many labels as there may be: one with few labels has a short text.
+pub(crate) fn brief_way(
+    alloc: Global,
+    problem: &Problem,
+    steps: u8,
+    times: u8,
+) -> Result<Option<Shown>, NoMemory>
+    requires { steps ≤ 9 }
+    ensures { IfOk result (λ found. IfSome found (λ shown. IsKnown times problem.now (Claim.AtMost shown.rounds) shown.way)) }
+{
+    shortest_way(alloc, problem, steps, ALL_LABELS, times)
+}
+
+// Whether patterns may lead to an upper bound.
+fn has_patterns(problem: &Problem, times: u8) -> bool {
+    problem.active().degree() == 5
+        && problem.passive().degree() == 2
+        && is_small(problem, PATTERN_SIZE, times)
+}
+
+/// The shortest upper bound that is found, if any.
+pub(crate) fn short_way(
+    alloc: Global,
+    problem: &Problem,
+    times: u8,
+) -> Result<Option<Shown>, NoMemory>
+    ensures { IfOk result (λ found. IfSome found (λ shown. IsKnown times problem.now (Claim.AtMost shown.rounds) shown.way)) }
+{
+    if has_patterns(problem, times) {
+        if let Some(shown) = shortest_way(alloc, problem, 6, 20, times)? {
+            return Ok(Some(shown));
+        }
+    }
+    let doublings = doublings(times);
+    let steps = shortest_steps(doublings);
+    let labels = shortest_labels(greatest_degree(problem), doublings);
+    shortest_way(alloc, problem, steps, labels, times)
 }

@@ -1,15 +1,27 @@
 //! How many rounds a problem takes with port numbers alone, and its class with unique identifiers, as far as searches with fixed limits find
 //! out, and the words whose answers show it.
 //!
-//! **Order.** Whether the problem is solvable without communication. Its number of rounds, where this is at most `MAX_ROUNDS` and no step
-//! on the way passes a limit. Whether no number of rounds solves it: a fixed point of at most 4 steps without merges; the fixed point of
-//! its closure; a graph of at most 4 active nodes without a solution, and where there is one, whether some number of rounds is enough given
-//! few colours. Where that isn't known, behind a graph too: the fixed point of the closure behind 1 or 2 steps, where the closures before are
-//! solvable without communication; where there are at most 8 labels, that of the closure behind a merge of two of them in the problem itself,
-//! and that with a diagram of one edge; a fixed point of at most 3 steps with at most 1 merge in each, among the first 100 problems. Else two
-//! bounds: the longer one of the steps without merges that were taken before and of what `longest 8 12` finds; and what `shortest 12 8` finds.
+//! **Order.** Cheap ways of all kinds come first; each has a bound on its work, which is none on its time: so the answer is the same on every
+//! machine. What is said of N is multiplied by N in `settle N`.
 //!
-//! What is found is accepted by `check`, or is a graph without a solution. Where nothing is found, nothing is known.
+//! 1. Whether the problem is solvable without communication.
+//! 2. Its number of rounds, where this is at most `MAX_ROUNDS` and no step on the way passes a limit.
+//! 3. A fixed point of at most 4 steps without merges; of a problem of at most 32 N configurations the fixed point of its closure.
+//! 4. A graph of at most 4 active nodes without a solution, or one of at most 64 that gadgets make in 1,000,000 N steps. Where there is one:
+//!    whether some number of rounds, at most 8, is enough given few colours, by problems of at most 64 labels. Then nothing more is tried.
+//! 5. Behind a graph too, a fixed point: of the closure of the problem; of that behind 1 or 2 steps, where the closures before are solvable
+//!    without communication and the problems have at most 16 labels and 64 N configurations; where the problem has at most 8 labels, of the
+//!    closure behind a merge of two of them in the problem itself, with the same bounds; of the closure with a diagram of one edge, of at most
+//!    8 labels and 32 N configurations; of at most 8 steps with at most 1 merge in each, among the first 300 N problems, where the first four
+//!    derived problems have at most 40 N configurations each.
+//! 6. Where there is no graph, two bounds. The longer one of the steps without merges that were taken before and of what `longest` finds, with
+//!    8 steps and 8 more for each doubling of N, to problems of 12 labels in degrees up to 3, 8 in degree 4, 6 in degree 5 and 5 in degree 6,
+//!    and 4, 2, 1 and 1 more for each doubling. In degrees 5 and 2, of at most 8 N configurations, what `shortest 6 20` finds. Else what
+//!    `shortest` finds, with 12 steps and 8 more for each doubling, to 8, 6, 4 and 4 labels, and 4, 2, 1 and 1 more for each doubling.
+//!
+//! What is found is accepted by `check`, and its text is no longer than one that is read; or it is a graph without a solution. Where a text is
+//! too long, the way counts as one that finds nothing; for an upper bound without labels left out one with few labels is looked for, and where
+//! no lower bound has a text, `re zero` shows that 0 rounds aren't enough. Where nothing is found, nothing is known.
 #![tactic(auto)]
 
 ghost use Rattle.re_settle.specs.GraphRounds.{GraphRoundsLaw};
@@ -18,14 +30,16 @@ mod answering;
 mod bounds;
 mod coloured;
 mod lines;
+mod measures;
 mod never;
 mod settling;
+mod texts;
 mod types;
 mod words;
 
 pub use settling::{MAX_ROUNDS, settle};
 pub use types::{Claim, Class, Coloured, ColouredWay, Settled, Shown, Way};
-pub use words::{SettleWord, names_settle, settle_help};
+pub use words::{MAX_TIMES, SettleWord, settle_help, settle_word};
 
 /// What a claim in hops says in rounds of the graph whose edges the passive nodes are, two hops each: a problem that takes exactly k hops takes
 /// exactly the half of k, rounded up; what isn't solvable in k or fewer hops isn't in the half of k or fewer, rounded down.

@@ -3,9 +3,11 @@
 ghost use Rattle.re_chain.specs.Merging.{merge_limit, merge_refusal, merged};
 ghost use Rattle.re_chain_texts.specs.ChainTexts.{problem_chain};
 ghost use Rattle.re_extend.specs.Extensions.{IsSoundChain};
-ghost use Rattle.re_settle.specs.Ways.{ClosesBehind, IsFixedPoint, IsKnown};
+ghost use Rattle.re_settle.specs.Ways.{ClosesBehind, HasText, IsFixedPoint, IsKnown};
 ghost use Rattle.std.specs.Prelude.{◌≡◌, ◌<◌, ◌≤◌, IfOk, IfSome, None, length};
 
+use crate::measures::is_small;
+use crate::texts::has_text;
 use crate::types::{Claim, Way};
 use re_cert::Certificate;
 use re_chain::{MergeFault, merge, merge_law};
@@ -13,10 +15,12 @@ use re_chain_parts::over_problems;
 use re_chain_steps::{ChainStepFault, step};
 use re_closure::{Closing, ClosureFault, find_closure, find_raised};
 use re_cycle::{Cycle, find_cycle};
+use re_gadgets::find_gadgets;
 use re_graph::find_cover;
 use re_labels::NoMemory;
 use re_problem::Problem;
 use re_search::{FindFault, Search, find_fixed};
+use re_step::{StepFault, step as derive};
 use std::alloc::Global;
 
 /// Up to how many labels merges and diagrams in the first problem are tried.
@@ -25,30 +29,65 @@ const MAX_TRIED: u8 = 8;
 /// Up to how many labels a problem behind a step has whose closure is tried.
 const MAX_CLOSED: u8 = 16;
 
+/// Up to how many configurations it has.
+const CLOSED_SIZE: usize = 64;
+
+/// Up to how many configurations a problem has whose closure comes before dearer ways, and in which diagrams are tried.
+const NEAR_SIZE: usize = 32;
+
+/// Up to how many configurations the first derived problems have of a problem that may come back by merges.
+const CYCLE_SIZE: usize = 40;
+
+/// How many these are.
+const CYCLE_STEPS: usize = 4;
+
+/// Of how many problems it is asked whether they come back.
+const CYCLE_NODES: u32 = 300;
+
+/// How many steps gadgets are joined in.
+const GADGET_STEPS: usize = 1_000_000;
+
 // A fixed point of at most 4 steps without merges.
-fn fixed_way(alloc: Global, problem: &Problem) -> Result<Option<Way>, NoMemory>
-    ensures { IfOk result (λ found. IfSome found (IsFixedPoint problem.now)) }
+fn fixed_way(alloc: Global, problem: &Problem, times: u8) -> Result<Option<Way>, NoMemory>
+    ensures { IfOk result (λ found. IfSome found (IsFixedPoint times problem.now)) }
 {
+    let _times = times;
     match find_fixed(alloc, problem, 4, 0) {
         Ok(Search::Found(certificate)) => {
             over_problems(&certificate);
             let _kind = certificate.kind();
-            Ok(Some(Way::Fixed(4, 0)))
+            let has = has_text(alloc, &certificate)?;
+            if has {
+                Ok(Some(Way::Fixed(4, 0)))
+            } else {
+                Ok(None)
+            }
         }
         Ok(Search::NotFound { .. }) | Err(FindFault::TooManyNodes) => Ok(None),
         Err(FindFault::NoMemory) => Err(NoMemory),
     }
 }
 
+// Whether the closure of a problem behind a step is tried.
+fn may_close(problem: &Problem, times: u8) -> bool {
+    problem.names().len() <= MAX_CLOSED as usize && is_small(problem, CLOSED_SIZE, times)
+}
+
 // Behind how many derived problems, at most so many, the closure of the chain's last problem gives a fixed point: where the closures before are
-// solvable without communication, and the problems behind a step have few labels.
-fn closing(alloc: Global, chain: &Certificate, more: u8) -> Result<Option<u8>, NoMemory>
+// solvable without communication, and the problems behind a step are small.
+fn closing(alloc: Global, chain: &Certificate, more: u8, times: u8) -> Result<Option<u8>, NoMemory>
     requires { IsSoundChain chain.now }
     ensures closes { IfOk result (λ found. IfSome found (λ steps. ClosesBehind steps chain.now)) }
     ensures most { IfOk result (λ found. IfSome found (λ steps. steps ≤ more)) }
 {
     match find_closure(alloc, chain) {
-        Ok(Closing::Found(_)) => return Ok(Some(0)),
+        Ok(Closing::Found(certificate)) => {
+            let has = has_text(alloc, &certificate)?;
+            if has {
+                return Ok(Some(0));
+            }
+            return Ok(None);
+        }
         Ok(Closing::SolvableClosure(_)) => {}
         Ok(Closing::Solvable(_)) => return Ok(None),
         Err(ClosureFault::Limit(_)) => return Ok(None),
@@ -59,10 +98,10 @@ fn closing(alloc: Global, chain: &Certificate, more: u8) -> Result<Option<u8>, N
     }
     match step(alloc, chain) {
         Ok(next) => {
-            if next.last().names().len() > MAX_CLOSED as usize {
+            if !may_close(next.last(), times) {
                 return Ok(None);
             }
-            match closing(alloc, &next, more - 1)? {
+            match closing(alloc, &next, more - 1, times)? {
                 Some(steps) => Ok(Some(steps + 1)),
                 None => Ok(None),
             }
@@ -78,13 +117,14 @@ fn closure_way(
     problem: &Problem,
     chain: &Certificate,
     more: u8,
+    times: u8,
 ) -> Result<Option<Way>, NoMemory>
     requires chain { chain.now ≡ problem_chain problem.now }
     requires more { more ≤ 2 }
-    ensures { IfOk result (λ found. IfSome found (IsFixedPoint problem.now)) }
+    ensures { IfOk result (λ found. IfSome found (IsFixedPoint times problem.now)) }
 {
     let _problem = problem;
-    match closing(alloc, chain, more)? {
+    match closing(alloc, chain, more, times)? {
         Some(steps) => Ok(Some(Way::Closure(steps))),
         None => Ok(None),
     }
@@ -97,15 +137,24 @@ fn raised_way(
     chain: &Certificate,
     low: u8,
     high: u8,
+    times: u8,
 ) -> Result<Option<Way>, NoMemory>
     requires chain { chain.now ≡ problem_chain problem.now }
     requires low { low < length problem.now.names }
     requires high { high < length problem.now.names }
-    ensures { IfOk result (λ found. IfSome found (IsFixedPoint problem.now)) }
+    ensures { IfOk result (λ found. IfSome found (IsFixedPoint times problem.now)) }
 {
     let _problem = problem;
+    let _times = times;
     match find_raised(alloc, chain, &[(low, high)]) {
-        Ok(Closing::Found(_)) => Ok(Some(Way::Raised(low, high))),
+        Ok(Closing::Found(certificate)) => {
+            let has = has_text(alloc, &certificate)?;
+            if has {
+                Ok(Some(Way::Raised(low, high)))
+            } else {
+                Ok(None)
+            }
+        }
         Ok(Closing::Solvable(_)) | Ok(Closing::SolvableClosure(_)) => Ok(None),
         Err(ClosureFault::Limit(_)) => Ok(None),
         Err(ClosureFault::NoMemory) => Err(NoMemory),
@@ -119,38 +168,40 @@ fn raised_to(
     chain: &Certificate,
     high: u8,
     labels: u8,
+    times: u8,
 ) -> Result<Option<Way>, NoMemory>
     requires chain { chain.now ≡ problem_chain problem.now }
     requires high { high < labels }
     requires labels { labels ≡ length problem.now.names }
-    ensures { IfOk result (λ found. IfSome found (IsFixedPoint problem.now)) }
+    ensures { IfOk result (λ found. IfSome found (IsFixedPoint times problem.now)) }
 {
     for low in 0..labels {
         if low == high {
             continue;
         }
-        if let Some(way) = raised_way(alloc, problem, chain, low, high)? {
+        if let Some(way) = raised_way(alloc, problem, chain, low, high, times)? {
             return Ok(Some(way));
         }
     }
     Ok(None)
 }
 
-// The same for all edges, where there are few labels.
+// The same for all edges, where the problem is small.
 fn all_raised_way(
     alloc: Global,
     problem: &Problem,
     chain: &Certificate,
+    times: u8,
 ) -> Result<Option<Way>, NoMemory>
     requires { chain.now ≡ problem_chain problem.now }
-    ensures { IfOk result (λ found. IfSome found (IsFixedPoint problem.now)) }
+    ensures { IfOk result (λ found. IfSome found (IsFixedPoint times problem.now)) }
 {
     let labels = problem.names().len();
-    if labels > MAX_TRIED as usize {
+    if labels > MAX_TRIED as usize || !is_small(problem, NEAR_SIZE, times) {
         return Ok(None);
     }
     for high in 0..labels as u8 {
-        if let Some(way) = raised_to(alloc, problem, chain, high, labels as u8)? {
+        if let Some(way) = raised_to(alloc, problem, chain, high, labels as u8, times)? {
             return Ok(Some(way));
         }
     }
@@ -164,16 +215,26 @@ fn closed_way(
     relaxed: &Certificate,
     from: u8,
     to: u8,
+    times: u8,
 ) -> Result<Option<Way>, NoMemory>
     requires relaxed { relaxed.now ≡ merged from to (problem_chain problem.now) }
     requires may { merge_refusal from to (problem_chain problem.now) ≡ None }
     requires within { merge_limit from to (problem_chain problem.now) ≡ None }
     requires sound { IsSoundChain relaxed.now }
-    ensures { IfOk result (λ found. IfSome found (IsFixedPoint problem.now)) }
+    requires text { HasText relaxed.now }
+    ensures { IfOk result (λ found. IfSome found (IsFixedPoint times problem.now)) }
 {
     let _problem = problem;
+    let _times = times;
     match find_closure(alloc, relaxed) {
-        Ok(Closing::Found(_)) => Ok(Some(Way::Merge(from, to))),
+        Ok(Closing::Found(certificate)) => {
+            let has = has_text(alloc, &certificate)?;
+            if has {
+                Ok(Some(Way::Merge(from, to)))
+            } else {
+                Ok(None)
+            }
+        }
         Ok(Closing::Solvable(_)) | Ok(Closing::SolvableClosure(_)) => Ok(None),
         Err(ClosureFault::Limit(_)) => Ok(None),
         Err(ClosureFault::NoMemory) => Err(NoMemory),
@@ -187,15 +248,26 @@ fn merge_way(
     chain: &Certificate,
     from: u8,
     to: u8,
+    times: u8,
 ) -> Result<Option<Way>, NoMemory>
     requires { chain.now ≡ problem_chain problem.now }
-    ensures { IfOk result (λ found. IfSome found (IsFixedPoint problem.now)) }
+    ensures { IfOk result (λ found. IfSome found (IsFixedPoint times problem.now)) }
 {
     let _kind = chain.kind();
     over_problems(chain);
     merge_law();
     match merge(alloc, chain, from, to) {
-        Ok(merged) => closed_way(alloc, problem, &merged, from, to),
+        Ok(merged) => {
+            if !may_close(merged.last(), times) {
+                return Ok(None);
+            }
+            let has = has_text(alloc, &merged)?;
+            if has {
+                closed_way(alloc, problem, &merged, from, to, times)
+            } else {
+                Ok(None)
+            }
+        }
         Err(MergeFault::NoMemory) => Err(NoMemory),
         Err(_) => Ok(None),
     }
@@ -208,13 +280,14 @@ fn merges_to(
     chain: &Certificate,
     to: u8,
     labels: u8,
+    times: u8,
 ) -> Result<Option<Way>, NoMemory>
     requires chain { chain.now ≡ problem_chain problem.now }
     requires to { to < labels }
-    ensures { IfOk result (λ found. IfSome found (IsFixedPoint problem.now)) }
+    ensures { IfOk result (λ found. IfSome found (IsFixedPoint times problem.now)) }
 {
     for from in to + 1..labels {
-        if let Some(way) = merge_way(alloc, problem, chain, from, to)? {
+        if let Some(way) = merge_way(alloc, problem, chain, from, to, times)? {
             return Ok(Some(way));
         }
     }
@@ -226,40 +299,93 @@ fn merges_way(
     alloc: Global,
     problem: &Problem,
     chain: &Certificate,
+    times: u8,
 ) -> Result<Option<Way>, NoMemory>
     requires { chain.now ≡ problem_chain problem.now }
-    ensures { IfOk result (λ found. IfSome found (IsFixedPoint problem.now)) }
+    ensures { IfOk result (λ found. IfSome found (IsFixedPoint times problem.now)) }
 {
     let labels = problem.names().len();
     if labels > MAX_TRIED as usize {
         return Ok(None);
     }
     for to in 0..labels as u8 {
-        if let Some(way) = merges_to(alloc, problem, chain, to, labels as u8)? {
+        if let Some(way) = merges_to(alloc, problem, chain, to, labels as u8, times)? {
             return Ok(Some(way));
         }
     }
     Ok(None)
 }
 
-/// A graph of at most 4 active nodes without a solution.
-pub(crate) fn cover_way(alloc: Global, problem: &Problem) -> Result<Option<Way>, NoMemory>
-    ensures { IfOk result (λ found. IfSome found (IsKnown problem.now Claim.Never)) }
+// A graph that gadgets make. The word that finds it first lists all graphs of at most 8 active nodes.
+fn gadget_way(alloc: Global, problem: &Problem, times: u8) -> Result<Option<Way>, NoMemory>
+    ensures { IfOk result (λ found. IfSome found (IsKnown times problem.now Claim.Never)) }
 {
-    match find_cover(alloc, problem, 4)?.graph {
-        Some(_) => Ok(Some(Way::Cover(4))),
+    let steps = GADGET_STEPS.saturating_mul(usize::from(times));
+    match find_gadgets(alloc, problem, 64, steps)?.graph {
+        Some(graph) => {
+            if graph.nodes() <= 8 {
+                Ok(Some(Way::Cover(8)))
+            } else {
+                Ok(Some(Way::Cover(64)))
+            }
+        }
         None => Ok(None),
     }
 }
 
-// A fixed point of at most 3 steps with at most 1 merge in each, of at most 100 problems.
-fn cycle_way(alloc: Global, problem: &Problem, chain: &Certificate) -> Result<Option<Way>, NoMemory>
-    requires { chain.now ≡ problem_chain problem.now }
-    ensures { IfOk result (λ found. IfSome found (IsFixedPoint problem.now)) }
+/// A graph without a solution: of at most 4 active nodes, or one that gadgets make.
+pub(crate) fn cover_way(
+    alloc: Global,
+    problem: &Problem,
+    times: u8,
+) -> Result<Option<Way>, NoMemory>
+    ensures { IfOk result (λ found. IfSome found (IsKnown times problem.now Claim.Never)) }
 {
-    match find_cycle(alloc, chain, 3, 1, 100)? {
-        Cycle::Found(_) => Ok(Some(Way::Cycle(3, 1, 100))),
-        _ => Ok(None),
+    match find_cover(alloc, problem, 4)?.graph {
+        Some(_) => Ok(Some(Way::Cover(4))),
+        None => gadget_way(alloc, problem, times),
+    }
+}
+
+// Whether the first derived problems are small. Nothing rests on it.
+fn grows_little(alloc: Global, problem: &Problem, times: u8) -> Result<bool, NoMemory> {
+    let mut current = problem.copy()?;
+    for _step in 0..CYCLE_STEPS {
+        match derive(alloc, &current) {
+            Ok(derived) => current = derived.problem,
+            Err(StepFault::Limit(_)) => return Ok(false),
+            Err(StepFault::NoMemory) => return Err(NoMemory),
+        }
+        if !is_small(&current, CYCLE_SIZE, times) {
+            return Ok(false);
+        }
+    }
+    Ok(true)
+}
+
+// A fixed point of at most 8 steps with at most 1 merge in each.
+fn cycle_way(
+    alloc: Global,
+    problem: &Problem,
+    chain: &Certificate,
+    times: u8,
+) -> Result<Option<Way>, NoMemory>
+    requires chain { chain.now ≡ problem_chain problem.now }
+    requires times { times ≤ 64 }
+    ensures { IfOk result (λ found. IfSome found (IsFixedPoint times problem.now)) }
+{
+    if !grows_little(alloc, problem, times)? {
+        return Ok(None);
+    }
+    let nodes = CYCLE_NODES * u32::from(times);
+    let Cycle::Found(certificate) = find_cycle(alloc, chain, 8, 1, nodes)? else {
+        return Ok(None);
+    };
+    let has = has_text(alloc, &certificate)?;
+    if has {
+        Ok(Some(Way::Cycle(8, 1, nodes)))
+    } else {
+        Ok(None)
     }
 }
 
@@ -268,14 +394,18 @@ pub(crate) fn near_way(
     alloc: Global,
     problem: &Problem,
     chain: &Certificate,
+    times: u8,
 ) -> Result<Option<Way>, NoMemory>
     requires { chain.now ≡ problem_chain problem.now }
-    ensures { IfOk result (λ found. IfSome found (IsFixedPoint problem.now)) }
+    ensures { IfOk result (λ found. IfSome found (IsFixedPoint times problem.now)) }
 {
-    if let Some(way) = fixed_way(alloc, problem)? {
+    if let Some(way) = fixed_way(alloc, problem, times)? {
         return Ok(Some(way));
     }
-    closure_way(alloc, problem, chain, 0)
+    if !is_small(problem, NEAR_SIZE, times) {
+        return Ok(None);
+    }
+    closure_way(alloc, problem, chain, 0, times)
 }
 
 /// The same of those that cost more.
@@ -283,18 +413,20 @@ pub(crate) fn far_way(
     alloc: Global,
     problem: &Problem,
     chain: &Certificate,
+    times: u8,
 ) -> Result<Option<Way>, NoMemory>
-    requires { chain.now ≡ problem_chain problem.now }
-    ensures { IfOk result (λ found. IfSome found (IsFixedPoint problem.now)) }
+    requires chain { chain.now ≡ problem_chain problem.now }
+    requires times { times ≤ 64 }
+    ensures { IfOk result (λ found. IfSome found (IsFixedPoint times problem.now)) }
 {
-    if let Some(way) = closure_way(alloc, problem, chain, 2)? {
+    if let Some(way) = closure_way(alloc, problem, chain, 2, times)? {
         return Ok(Some(way));
     }
-    if let Some(way) = merges_way(alloc, problem, chain)? {
+    if let Some(way) = merges_way(alloc, problem, chain, times)? {
         return Ok(Some(way));
     }
-    if let Some(way) = all_raised_way(alloc, problem, chain)? {
+    if let Some(way) = all_raised_way(alloc, problem, chain, times)? {
         return Ok(Some(way));
     }
-    cycle_way(alloc, problem, chain)
+    cycle_way(alloc, problem, chain, times)
 }

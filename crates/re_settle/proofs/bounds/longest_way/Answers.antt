@@ -1,9 +1,14 @@
-use Rattle.std.proofs.Common.{subst}
+use Rattle.std.proofs.Common.{ap, subst, ◌∙◌}
 use Rattle.re_longest.specs.Answers.{Answers}
 use Rattle.re_settle.proofs.Known.{longest_known}
+use Rattle.re_settle.specs.Measures.{greatest_degree, longest_labels, longest_steps}
 use Rattle.re_settle.proofs.bounds.longest_way.Goals as goal
 
 pub returns : goal.returns
 returns c =
-    longest_known c.args.problem.now c.args.chain.now c.in-Found.certificate c.count_of.result c.requires.chain
-    (subst (Answers 8 12 c.args.chain.now) c.in-Found.is c.in_ok-certificate.ensures) c.count_of.ensures
+    let steps = c.longest_steps-steps.ensures ∙ ap longest_steps c.doublings-doublings.ensures.value in
+    let labels = c.longest_labels-labels.ensures ∙ ap (λ d. longest_labels d c.doublings-doublings.result) c.greatest_degree.ensures
+    ∙ ap (longest_labels (greatest_degree c.args.problem.now)) c.doublings-doublings.ensures.value in
+    longest_known c.args.times c.args.problem.now c.args.chain.now c.in-Found.certificate c.longest_steps-steps.result c.longest_labels-labels.result c.count_of.result (steps, labels)
+    c.requires.chain (subst (Answers c.longest_steps-steps.result c.longest_labels-labels.result c.args.chain.now) c.in-Found.is c.in_ok-certificate.ensures)
+    (c.in_ok-has.ensures c.if-not-has.false) c.count_of.ensures

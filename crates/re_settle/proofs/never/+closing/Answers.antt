@@ -5,10 +5,10 @@ use Rattle.re_settle.proofs.Known.{closes_later}
 use Rattle.re_settle.specs.Ways.{ClosesBehind}
 use Rattle.re_settle.proofs.never.+closing.Goals as goal
 
-pub returns-in-Ok-Found-clause-closes : goal.returns-in-Ok-Found-clause-closes
-returns-in-Ok-Found-clause-closes t c =
+pub returns-then-has-clause-closes : goal.returns-then-has-clause-closes
+returns-then-has-clause-closes t c =
     let found = subst (Answers c.args.chain.now) c.in-Ok-Found.field-0-is c.in-Ok-Found.ensures.answers in
-    (c.in-Ok-Found.field-0-0, found.2)
+    (c.in-Ok-Found.certificate, found.2, c.in_ok-has-in-Ok-Found.ensures c.if-has.true)
 
 pub returns-in-Some-clause-closes : goal.returns-in-Some-clause-closes
 returns-in-Some-clause-closes t c =

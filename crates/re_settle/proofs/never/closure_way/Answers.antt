@@ -12,4 +12,4 @@ returns-in-Some c =
     let closes = subst (λ found. IfSome found (λ steps. ClosesBehind steps c.args.chain.now)) c.in-Some.is c.in_ok-steps.ensures.closes in
     let most = subst (λ found. IfSome found (λ steps. steps ≤ c.args.more)) c.in-Some.is c.in_ok-steps.ensures.most in
     let few = c.requires.more in
-    closure_known c.args.problem.now c.args.chain.now c.in-Some.steps c.requires.chain (omega (arith, most, few)) closes
+    closure_known c.args.times c.args.problem.now c.args.chain.now c.in-Some.steps c.requires.chain (omega (arith, most, few)) closes

@@ -18,3 +18,6 @@ closed_way-requires-clause-sound c =
     let sound : IsSoundChain c.args.chain.now = record { bound = c.kind-kind.ensures.bound; problems = c.over_problems.ensures; sound = subst IsSound (sym c.requires) refl } in
     merged_sound c.args.problem.now c.args.chain.now c.in-Ok.merged c.args.from c.args.to c.requires c.in-Ok.ensures.merged
     (c.merge_law.ensures c.args.chain.now c.args.from c.args.to sound c.in-Ok.ensures.may c.in-Ok.ensures.within).sound
+
+pub closed_way-requires-clause-text : goal.closed_way-requires-clause-text
+closed_way-requires-clause-text c = c.in_ok-has-in-Ok.ensures c.if-has.true

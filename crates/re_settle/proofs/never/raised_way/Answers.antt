@@ -12,7 +12,7 @@ pub find_raised-requires-clause-edges : goal.find_raised-requires-clause-edges
 find_raised-requires-clause-edges c =
     subst (λ (b : Bound). AreEdges (length (last_problem b).names) ((c.args.low, c.args.high) ∷ [])) (sym c.requires.chain) ((c.requires.low, c.requires.high), tt)
 
-pub returns-in-Ok-Found : goal.returns-in-Ok-Found
-returns-in-Ok-Found c =
+pub returns-then-has : goal.returns-then-has
+returns-then-has c =
     let found = subst (RaisedAnswers ((c.args.low, c.args.high) ∷ []) c.args.chain.now) c.in-Ok-Found.field-0-is c.in-Ok-Found.ensures.answers in
-    raised_known c.args.problem.now c.args.chain.now c.in-Ok-Found.field-0-0 c.args.low c.args.high c.requires.chain c.requires.low c.requires.high found.2
+    raised_known c.args.times c.args.problem.now c.args.chain.now c.in-Ok-Found.certificate c.args.low c.args.high c.requires.chain c.requires.low c.requires.high found.2 (c.in_ok-has-in-Ok-Found.ensures c.if-has.true)

@@ -8,6 +8,6 @@ use Rattle.re_settle.proofs.settling.exact.Goals as goal
 
 pub returns-in-Some-2 : goal.returns-in-Some-2
 returns-in-Some-2 c =
-    within_settled c.args.problem.now c.in-Some.lower c.in-Some-2.upper c.names-names.ensures.problem.problem
-    (subst (λ found. IfSome found (λ (shown : Shown). IsKnown c.args.problem.now (MoreThan shown.rounds) shown.way)) c.in-Some.is c.in_ok-lower.ensures)
-    (subst (λ found. IfSome found (λ (shown : Shown). IsKnown c.args.problem.now (AtMost shown.rounds) shown.way)) c.in-Some-2.is c.in_ok-upper.ensures)
+    within_settled c.args.times c.args.problem.now c.in-Some.lower c.in-Some-2.upper c.names-names.ensures.problem.problem
+    (subst (λ found. IfSome found (λ (shown : Shown). IsKnown c.args.times c.args.problem.now (MoreThan shown.rounds) shown.way)) c.in-Some.is c.in_ok-lower.ensures)
+    (subst (λ found. IfSome found (λ (shown : Shown). IsKnown c.args.times c.args.problem.now (AtMost shown.rounds) shown.way)) c.in-Some-2.is c.in_ok-upper.ensures)

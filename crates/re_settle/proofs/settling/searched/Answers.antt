@@ -5,4 +5,4 @@ use Rattle.re_settle.specs.Ways.{IsFixedPoint}
 use Rattle.re_settle.proofs.settling.searched.Goals as goal
 
 pub returns-in-Some : goal.returns-in-Some
-returns-in-Some c = fixed_settled c.args.problem.now c.in-Some.way (subst (λ found. IfSome found (IsFixedPoint c.args.problem.now)) c.in-Some.is c.in_ok-way.ensures)
+returns-in-Some c = fixed_settled c.args.times c.args.problem.now c.in-Some.way (subst (λ found. IfSome found (IsFixedPoint c.args.times c.args.problem.now)) c.in-Some.is c.in_ok-way.ensures)

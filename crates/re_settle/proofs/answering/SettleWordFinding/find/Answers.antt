@@ -4,4 +4,4 @@ use Rattle.re_settle.proofs.Saying.{give_says}
 use Rattle.re_settle.proofs.answering.SettleWordFinding.find.Goals as goal
 
 pub returns-clause-says : goal.returns-clause-says
-returns-clause-says c = IfOk-weaker c.text_output.result _ _ (λ output may. give_says _ (outcome_of output) may) c.text_output.ensures
+returns-clause-says c = IfOk-weaker c.text_output.result _ _ (λ output may. give_says _ _ (outcome_of output) may) c.text_output.ensures

@@ -1,16 +1,17 @@
 use Rattle.std.proofs.Common.{◌∙◌, [], ap, subst}
+use Rattle.re_cert.specs.Bounds.{last_problem}
 use Rattle.re_cert.specs.declared.certificate.Kind.TheVariants.{Upper}
 use Rattle.re_chain_parts.specs.Chains.{chain_with}
 use Rattle.re_longest.specs.UpperAnswers.{AnswersAt}
 use Rattle.re_problem.specs.NamedProblems.{NamedProblem, unnamed}
 use Rattle.re_problem.specs.Zero.{zero_place}
-use Rattle.re_cert.specs.Bounds.{last_problem}
 use Rattle.re_settle.proofs.Known.{shortest_known}
-use Rattle.re_settle.proofs.bounds.short_way.Goals as goal
+use Rattle.re_settle.proofs.bounds.shortest_way.Goals as goal
 
-pub returns-in-Found : goal.returns-in-Found
-returns-in-Found c =
+pub returns : goal.returns
+returns c =
     let chain = c.upper_chain-chain.result in
-    shortest_known c.args.problem.now chain c.in-Found.certificate c.count_of.result
+    shortest_known c.args.times c.args.problem.now chain c.in-Found.certificate c.args.steps c.args.labels c.count_of.result c.requires
     (c.upper_chain-chain.ensures ∙ ap (λ (p : NamedProblem). chain_with Upper p []) c.in_ok-copy.ensures)
-    (subst (AnswersAt (zero_place (unnamed (last_problem chain))) 12 8 chain) c.in-Found.is c.in_ok-certificate.ensures) c.count_of.ensures
+    (subst (AnswersAt (zero_place (unnamed (last_problem chain))) c.args.steps c.args.labels chain) c.in-Found.is c.in_ok-certificate.ensures) (c.in_ok-has.ensures c.if-not-has.false)
+    c.count_of.ensures

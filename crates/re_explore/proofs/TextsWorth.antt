@@ -34,13 +34,16 @@ use Rattle.re_frame.specs.Outcomes.{Outcome, too_long}
 use Rattle.re_frame.specs.TextFaults.{fault_outcome}
 use Rattle.re_frame.specs.declared.status.Status.TheVariants.{Done, Limit}
 use Rattle.re_io.specs.declared.read.TheConstants.{MAX_BYTES}
+use Rattle.re_cert.specs.declared.certificate.TheConstants.{MAX_STEPS}
+use Rattle.re_relaxed.specs.Words.{MayGive as MayGiveRelaxed}
+use Rattle.re_relaxed.specs.declared.words.RelaxedWord.{RelaxedWord}
 use Rattle.re_search_words.specs.MayGive.{IsFound, MayFind, MayFindBehind, MayGive, MayGiveAt, MayGiveRead, MayGiveSound, MayShorten, word_chain}
 use Rattle.re_search_words.specs.declared.words.SearchWord.{SearchWord}
 use Rattle.re_search_words.specs.declared.words.SearchWord.TheVariants.{Cycle, Longest, Shortest}
 use Rattle.re_explore.specs.Commands.{IsOutcome}
 use Rattle.re_explore.specs.Worth.{IsAccepted, SearchWorth, TextWorth}
 use Rattle.re_explore.specs.declared.command.Command.{Command}
-use Rattle.re_explore.specs.declared.command.Command.TheVariants.{Bridges, Chains, Closes, Describes, Explains, Givens, Graphs, Help, Inputs, Searches, Settles}
+use Rattle.re_explore.specs.declared.command.Command.TheVariants.{Bridges, Chains, Closes, Describes, Explains, Givens, Graphs, Help, Inputs, Relaxes, Searches, Settles}
 
 -- an outcome that isn't Done
 undone : {A : Type 0} (outcome given : Outcome) → outcome ≡ given → (given.status ≡ Done → ⊥) → outcome.status ≡ Done → A
@@ -236,17 +239,24 @@ closure_worth word bytes outcome may finished =
     go true given = close_read (diagram_fault bytes) (Some (diagram_edges bytes)) word.steps (front_chain bytes) outcome given finished
     go false given = close_read (chain_fault bytes) None word.steps (text_chain bytes) outcome given finished
 
+-- ---- the word `relaxed`
+relaxed_worth : (word : RelaxedWord) (bytes : List ℕ) (outcome : Outcome) → MayGiveRelaxed word bytes outcome → outcome.status ≡ Done
+    → IsAccepted kind.Fixed MAX_STEPS MAX_LABELS (text_chain bytes) outcome.text
+unfolding MayGiveRelaxed
+relaxed_worth word bytes outcome may finished = search_worth (Cycle MAX_STEPS 0 word.nodes) bytes outcome may finished
+
 -- ---- all commands
 pub worth_of : (command : Option Command) (bytes : List ℕ) (outcome : Outcome) → IsOutcome command bytes outcome → outcome.status ≡ Done → TextWorth command bytes outcome.text
 worth_of (Some (Chains word)) bytes outcome is finished = (within _ bytes outcome is finished).worth finished
 worth_of (Some (Searches word)) bytes outcome is finished = search_worth word bytes outcome (within _ bytes outcome is finished) finished
 worth_of (Some (Closes word)) bytes outcome is finished = closure_worth word bytes outcome (within _ bytes outcome is finished) finished
+worth_of (Some (Relaxes word)) bytes outcome is finished = relaxed_worth word bytes outcome (within _ bytes outcome is finished) finished
 worth_of (Some (Bridges word)) bytes outcome is finished = (within _ bytes outcome is finished).worth finished
 worth_of (Some Explains) bytes outcome is finished = tt
 worth_of (Some Describes) bytes outcome is finished = tt
 worth_of (Some (Graphs word)) bytes outcome is finished = tt
 worth_of (Some (Givens word)) bytes outcome is finished = tt
 worth_of (Some (Inputs word)) bytes outcome is finished = tt
-worth_of (Some Settles) bytes outcome is finished = tt
+worth_of (Some (Settles word)) bytes outcome is finished = tt
 worth_of (Some Help) bytes outcome is finished = tt
 worth_of None bytes outcome is finished = tt

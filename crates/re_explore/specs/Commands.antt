@@ -14,13 +14,14 @@ use Rattle.re_given_words.specs.Words.{IsGivenWord, given_help, given_word_of}
 use Rattle.re_graph_words.specs.GraphWords.{MayGive as MayGiveGraph}
 use Rattle.re_graph_words.specs.Words.{IsGraphWord, graph_help, graph_word_of}
 use Rattle.re_inputs.specs.InputWords.{IsInputWord, input_help, input_outcome, input_word_of}
+use Rattle.re_relaxed.specs.Words.{MayGive as MayGiveRelaxed, relaxed_help, relaxed_word_of}
 use Rattle.re_search_words.specs.MayGive.{MayGive}
 use Rattle.re_search_words.specs.Words.{IsSearchWord, search_help, search_word_of}
 use Rattle.re_settle.specs.Answers.{MayGive as MayGiveSettled}
-use Rattle.re_settle.specs.Words.{names_settle, settle_help}
+use Rattle.re_settle.specs.Words.{IsSettleWord, settle_help, settle_word_of}
 use Rattle.re_why.specs.Explaining.{explaining_outcome, names_why, why_help}
 use Rattle.re_explore.specs.declared.command.Command.{Command}
-use Rattle.re_explore.specs.declared.command.Command.TheVariants.{Bridges, Chains, Closes, Describes, Explains, Givens, Graphs, Help, Inputs, Searches, Settles}
+use Rattle.re_explore.specs.declared.command.Command.TheVariants.{Bridges, Chains, Closes, Describes, Explains, Givens, Graphs, Help, Inputs, Relaxes, Searches, Settles}
 
 abbrev pub is_help : List (List ℕ) → Bool
 is_help (word ∷ []) = bytes_eq (codes "help") word
@@ -36,7 +37,8 @@ abbrev pub command_over_chains : List (List ℕ) → Option Command
 command_over_chains words =
     or_else (option_map Chains (chain_word_of words))
     (or_else (option_map Searches (search_word_of words))
-    (or_else (option_map Closes (closure_word_of words)) (option_map Bridges (bridge_word_of words))))
+    (or_else (option_map Closes (closure_word_of words))
+    (or_else (option_map Relaxes (relaxed_word_of words)) (option_map Bridges (bridge_word_of words)))))
 
 -- the command that tells of a certificate
 abbrev pub command_over_certificates : List (List ℕ) → Option Command
@@ -47,7 +49,7 @@ abbrev pub command_over_problems : List (List ℕ) → Option Command
 command_over_problems words =
     or_else (option_map Graphs (graph_word_of words))
     (or_else (option_map Givens (given_word_of words))
-    (or_else (option_map Inputs (input_word_of words)) (if names_settle words then Some Settles else None)))
+    (or_else (option_map Inputs (input_word_of words)) (option_map Settles (settle_word_of words))))
 
 -- the command that these words name
 unfoldable pub command_of : List (List ℕ) → Option Command
@@ -59,25 +61,30 @@ Fits (Searches word) = IsSearchWord word
 Fits (Graphs word) = IsGraphWord word
 Fits (Givens word) = IsGivenWord word
 Fits (Inputs word) = IsInputWord word
-Fits Settles = Unit {0}
+Fits (Settles word) = IsSettleWord word
 Fits Help = Unit {0}
 Fits (Chains word) = Unit {0}
 Fits Explains = Unit {0}
 Fits (Closes word) = Unit {0}
+Fits (Relaxes word) = Unit {0}
 Fits (Bridges word) = Unit {0}
 Fits Describes = Unit {0}
 
 -- the lines of help of the words over chains and certificates
 unfoldable pub chain_lines : List ℕ
-chain_lines = chain_help ++ why_help ++ search_help ++ closure_help ++ bridge_help ++ describe_help
+chain_lines = chain_help ++ why_help ++ search_help ++ closure_help ++ relaxed_help ++ bridge_help ++ describe_help
 
 -- and of those over problems
 unfoldable pub problem_lines : List ℕ
 problem_lines = settle_help ++ graph_help ++ given_help ++ input_help
 
+-- and those of the words of `re`, a block of its own
+unfoldable pub lines_of_re : List ℕ
+lines_of_re = codes "\nre check: reads a certificate, gives the verdict on it\nre zero: reads a problem, gives whether it is solvable without communication\nre rounds K: reads a problem, gives its number of rounds, up to K\nre lower K M, re upper K M, re fixed K M: reads a problem, gives a certificate with at most K steps, with at most M labels merged or left out in each\nre read: reads a problem, gives its canonical text\nre step N: reads a problem, gives the N-th derived problem\nre universal: reads a problem, gives the maximal rows of its passive side\nre diagram active, re diagram passive: reads a problem, gives the strength diagram of this side\nre merge, re trim: reads a problem, gives it with equal labels merged, or without covered labels\nre relax, re restrict, re rename: reads two problems and a map between them, gives whether it leads from the one to the other\nre extract: reads the certificate of an upper bound, gives its algorithm as a table\nre run: reads the certificate of an upper bound, a tree and deliveries, gives what the nodes output\nre table, re faster, re slower: reads a table, gives whether it solves its problem, or one with a round less or more\nre family NAME A P N, re make N: reads nothing, gives a problem of a family, or the verdict on one step from a colouring\n"
+
 -- all lines of help
 unfoldable pub help_text : List ℕ
-help_text = codes "help: reads nothing, gives these lines\n" ++ chain_lines ++ problem_lines
+help_text = codes "help: reads nothing, gives these lines\n" ++ chain_lines ++ problem_lines ++ lines_of_re
 
 -- words that are no command are answered by the lines of help, too
 unfoldable pub bad_words : Outcome
@@ -91,12 +98,13 @@ IsOutcome (Some (Chains word)) bytes outcome = MayAnswer (MayGiveChain word) byt
 IsOutcome (Some Explains) bytes outcome = outcome ≡ within_limit explaining_outcome bytes
 IsOutcome (Some (Searches word)) bytes outcome = MayAnswer (MayGive word) bytes outcome
 IsOutcome (Some (Closes word)) bytes outcome = MayAnswer (MayGiveClosure word) bytes outcome
+IsOutcome (Some (Relaxes word)) bytes outcome = MayAnswer (MayGiveRelaxed word) bytes outcome
 IsOutcome (Some (Bridges word)) bytes outcome = MayAnswer (MayGiveBridge word) bytes outcome
 IsOutcome (Some Describes) bytes outcome = MayAnswer MayDescribe bytes outcome
 IsOutcome (Some (Graphs word)) bytes outcome = MayAnswer (MayGiveGraph word) bytes outcome
 IsOutcome (Some (Givens word)) bytes outcome = MayAnswer (MayGiveGiven word) bytes outcome
 IsOutcome (Some (Inputs word)) bytes outcome = outcome ≡ input_outcome word
-IsOutcome (Some Settles) bytes outcome = MayAnswer MayGiveSettled bytes outcome
+IsOutcome (Some (Settles word)) bytes outcome = MayAnswer (MayGiveSettled word) bytes outcome
 
 -- whether the command reads its input
 abbrev pub is_reading : Option Command → Bool
@@ -104,11 +112,12 @@ is_reading (Some (Chains word)) = true
 is_reading (Some Explains) = true
 is_reading (Some (Searches word)) = true
 is_reading (Some (Closes word)) = true
+is_reading (Some (Relaxes word)) = true
 is_reading (Some (Bridges word)) = true
 is_reading (Some Describes) = true
 is_reading (Some (Graphs word)) = true
 is_reading (Some (Givens word)) = true
-is_reading (Some Settles) = true
+is_reading (Some (Settles word)) = true
 is_reading (Some (Inputs word)) = false
 is_reading (Some Help) = false
 is_reading None = false
@@ -119,10 +128,11 @@ is_judging (Some (Chains word)) = chain_judges word
 is_judging (Some Explains) = true
 is_judging (Some (Searches word)) = true
 is_judging (Some (Closes word)) = true
+is_judging (Some (Relaxes word)) = true
 is_judging (Some (Bridges word)) = bridge_judges word
 is_judging (Some (Graphs word)) = true
 is_judging (Some (Givens word)) = true
-is_judging (Some Settles) = true
+is_judging (Some (Settles word)) = true
 is_judging (Some (Inputs word)) = false
 is_judging (Some Describes) = false
 is_judging (Some Help) = false

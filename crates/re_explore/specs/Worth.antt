@@ -4,6 +4,8 @@ use Rattle.re_bridge_words.specs.Answers.{WordWorth as BridgeWorth}
 use Rattle.re_cert.specs.Bounds.{Bound}
 use Rattle.re_cert.specs.declared.certificate.Kind.{Kind}
 use Rattle.re_cert.specs.declared.certificate.Kind.TheVariants.{Fixed, Lower, Upper}
+use Rattle.re_cert.specs.declared.certificate.TheConstants.{MAX_STEPS}
+use Rattle.re_chain_texts.specs.ChainTexts.{text_chain}
 use Rattle.re_chain_texts.specs.OverChains.{IsTextOf}
 use Rattle.re_chain_words.specs.Answers.{WordWorth}
 use Rattle.re_check.specs.declared.verdict.Verdict.TheVariants.{Accepted}
@@ -16,7 +18,7 @@ use Rattle.re_search_words.specs.MayGive.{word_chain}
 use Rattle.re_search_words.specs.declared.words.SearchWord.{SearchWord}
 use Rattle.re_search_words.specs.declared.words.SearchWord.TheVariants.{Cycle, Longest, Shortest}
 use Rattle.re_explore.specs.declared.command.Command.{Command}
-use Rattle.re_explore.specs.declared.command.Command.TheVariants.{Bridges, Chains, Closes, Describes, Explains, Givens, Graphs, Help, Inputs, Searches, Settles}
+use Rattle.re_explore.specs.declared.command.Command.TheVariants.{Bridges, Chains, Closes, Describes, Explains, Givens, Graphs, Help, Inputs, Relaxes, Searches, Settles}
 
 -- the text is read as a bound of this kind that goes on from the chain, with at most so many more steps, each to a problem of at most so many labels; and
 -- `check` answers to the text that it is accepted
@@ -37,12 +39,13 @@ abbrev pub TextWorth : Option Command → List ℕ → List ℕ → Type 0
 TextWorth (Some (Chains word)) bytes text = WordWorth word bytes text
 TextWorth (Some (Searches word)) bytes text = SearchWorth word (word_chain word bytes) text
 TextWorth (Some (Closes word)) bytes text = IsAccepted Fixed (word.steps + 3) MAX_LABELS (closure_chain bytes) text
+TextWorth (Some (Relaxes word)) bytes text = IsAccepted Fixed MAX_STEPS MAX_LABELS (text_chain bytes) text
 TextWorth (Some (Bridges word)) bytes text = BridgeWorth word bytes text
 TextWorth (Some Explains) bytes text = Unit {0}
 TextWorth (Some Describes) bytes text = Unit {0}
 TextWorth (Some (Graphs word)) bytes text = Unit {0}
 TextWorth (Some (Givens word)) bytes text = Unit {0}
 TextWorth (Some (Inputs word)) bytes text = Unit {0}
-TextWorth (Some Settles) bytes text = Unit {0}
+TextWorth (Some (Settles word)) bytes text = Unit {0}
 TextWorth (Some Help) bytes text = Unit {0}
 TextWorth None bytes text = Unit {0}

@@ -1,5 +1,5 @@
 // The command that the words name. A family of words is a variant here, an arm in `command_from` and in `output_from`, and its lines of help.
-ghost use Rattle.re_explore.specs.Commands.{Fits, bad_words, command_of, chain_lines, command_over_certificates, command_over_chains, command_over_problems, help_text, is_help, problem_lines};
+ghost use Rattle.re_explore.specs.Commands.{Fits, bad_words, command_of, chain_lines, command_over_certificates, command_over_chains, command_over_problems, help_text, is_help, lines_of_re, problem_lines};
 ghost use Rattle.re_frame.specs.Outcomes.{done as done_with, outcome_of};
 ghost use Rattle.std.specs.Prelude.{◌≡◌, ◌++◌, IfOk, IfSome, OnOk, map, string_bytes};
 
@@ -12,8 +12,9 @@ use re_given_words::{GivenWord, given_help, given_word};
 use re_graph_words::{GraphWord, graph_help, graph_word};
 use re_inputs::{InputWord, input_help, input_word};
 use re_labels::NoMemory;
+use re_relaxed::{RelaxedWord, relaxed_help, relaxed_word};
 use re_search_words::{SearchWord, search_help, search_word};
-use re_settle::{names_settle, settle_help};
+use re_settle::{SettleWord, settle_help, settle_word};
 use re_why::{names_why, why_help};
 use std::alloc::Global;
 
@@ -27,6 +28,8 @@ pub(crate) enum Command {
     Explains,
     /// A search that goes on from a chain.
     Searches(SearchWord),
+    /// A fixed point behind a relaxation.
+    Relaxes(RelaxedWord),
     /// The fixed point by right-closed sets.
     Closes(ClosureWord),
     /// A step to a given problem, or a problem with fewer labels.
@@ -34,7 +37,7 @@ pub(crate) enum Command {
     /// A report on a certificate.
     Describes,
     /// How many rounds a problem takes.
-    Settles,
+    Settles(SettleWord),
     /// A problem on finite graphs.
     Graphs(GraphWord),
     /// A problem or a bound where a solution of an input problem is given.
@@ -65,6 +68,9 @@ fn command_over_chains(words: &[String]) -> Option<Command>
     }
     if let Some(word) = closure_word(words) {
         return Some(Command::Closes(word));
+    }
+    if let Some(word) = relaxed_word(words) {
+        return Some(Command::Relaxes(word));
     }
     if let Some(word) = bridge_word(words) {
         return Some(Command::Bridges(word));
@@ -100,11 +106,10 @@ fn command_over_problems(words: &[String]) -> Option<Command>
     if let Some(word) = input_word(words) {
         return Some(Command::Inputs(word));
     }
-    if names_settle(words) {
-        Some(Command::Settles)
-    } else {
-        None
+    if let Some(word) = settle_word(words) {
+        return Some(Command::Settles(word));
     }
+    None
 }
 
 #[tactic(auto, unfolding(crate::specs::Commands::command_of))]
@@ -133,6 +138,7 @@ fn push_chain_lines(text: &mut Vec<u8>) -> Result<(), NoMemory>
     push_words(text, why_help())?;
     push_words(text, search_help())?;
     push_words(text, closure_help())?;
+    push_words(text, relaxed_help())?;
     push_words(text, bridge_help())?;
     push_words(text, describe_help())?;
     Ok(())
@@ -150,6 +156,14 @@ fn push_problem_lines(text: &mut Vec<u8>) -> Result<(), NoMemory>
     Ok(())
 }
 
+// The lines of help of the words of `re`, a block of its own.
+#[tactic(auto, unfolding(crate::specs::Commands::lines_of_re))]
+fn help_of_re() -> &'static str
+    ensures { result.now ≡ lines_of_re }
+{
+    "\nre check: reads a certificate, gives the verdict on it\nre zero: reads a problem, gives whether it is solvable without communication\nre rounds K: reads a problem, gives its number of rounds, up to K\nre lower K M, re upper K M, re fixed K M: reads a problem, gives a certificate with at most K steps, with at most M labels merged or left out in each\nre read: reads a problem, gives its canonical text\nre step N: reads a problem, gives the N-th derived problem\nre universal: reads a problem, gives the maximal rows of its passive side\nre diagram active, re diagram passive: reads a problem, gives the strength diagram of this side\nre merge, re trim: reads a problem, gives it with equal labels merged, or without covered labels\nre relax, re restrict, re rename: reads two problems and a map between them, gives whether it leads from the one to the other\nre extract: reads the certificate of an upper bound, gives its algorithm as a table\nre run: reads the certificate of an upper bound, a tree and deliveries, gives what the nodes output\nre table, re faster, re slower: reads a table, gives whether it solves its problem, or one with a round less or more\nre family NAME A P N, re make N: reads nothing, gives a problem of a family, or the verdict on one step from a colouring\n"
+}
+
 // The lines of help behind these words.
 #[tactic(auto, unfolding(crate::specs::Commands::help_text))]
 fn with_help(alloc: Global, words: &str) -> Result<Vec<u8>, NoMemory>
@@ -159,6 +173,7 @@ fn with_help(alloc: Global, words: &str) -> Result<Vec<u8>, NoMemory>
     push_words(&mut text, "help: reads nothing, gives these lines\n")?;
     push_chain_lines(&mut text)?;
     push_problem_lines(&mut text)?;
+    push_words(&mut text, help_of_re())?;
     Ok(text)
 }
 

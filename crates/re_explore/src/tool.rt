@@ -13,7 +13,6 @@ use re_describe::Describe;
 use re_frame::{Output, Status, Stop, answer_input, find_input, put_output};
 use re_inputs::input_output;
 use re_io::{MAX_BYTES, Sink, Source};
-use re_settle::SettleWord;
 use re_why::Why;
 use std::alloc::Global;
 
@@ -37,12 +36,13 @@ fn output_from<S: Source>(alloc: Global, words: &[String], source: &mut S) -> Re
         Some(Command::Explains) => answer_input(alloc, &Why, source),
         Some(Command::Searches(word)) => find_input(alloc, &word, source),
         Some(Command::Closes(word)) => find_input(alloc, &word, source),
+        Some(Command::Relaxes(word)) => find_input(alloc, &word, source),
         Some(Command::Bridges(word)) => find_input(alloc, &word, source),
         Some(Command::Describes) => find_input(alloc, &Describe, source),
         Some(Command::Graphs(word)) => find_input(alloc, &word, source),
         Some(Command::Givens(word)) => find_input(alloc, &word, source),
         Some(Command::Inputs(word)) => Ok(input_output(alloc, word)?),
-        Some(Command::Settles) => find_input(alloc, &SettleWord, source),
+        Some(Command::Settles(word)) => find_input(alloc, &word, source),
     }
 }
 

@@ -11,7 +11,8 @@ import {Script} from 'vm';
 import {deflateRawSync} from 'zlib';
 import {pageFolder, programsIn, sourceIn, unpacked} from './held.mjs';
 
-const LARGEST = 1050000;
+// What the file may hold beside its programs.
+const LARGEST_REST = 450000;
 const examples = join(pageFolder, '../examples');
 const source = name => readFileSync(join(pageFolder, 'src', name), 'utf8');
 
@@ -28,10 +29,13 @@ function modulesBelow(root) {
     return order;
 }
 
-// One script, without import and export lines. A script has one room for names, so they have to differ: it is read once to see that.
+// One script, without lines of import, export and comments. A script has one room for names, so they have to differ: it is read once to see that.
 function scriptOf(root) {
     const parts = modulesBelow(root).map(name => `// ---- ${name}\n` +
-            source(name).replace(/^import [^;]*;\n/gm, '').replace(/^export (?=const|let|function|async|class)/gm, ''));
+            source(name)
+                .replace(/^\s*\/\/.*\n/gm, '')
+                .replace(/^import [^;]*;\n/gm, '')
+                .replace(/^export (?=const|let|function|async|class)/gm, ''));
     const script = parts.join('\n');
     new Script(`'use strict'; async () => {{${script}\n}}`, {filename: `the modules below ${root}, as one script`});
     return script;
@@ -95,7 +99,7 @@ const tables = catalogueHeld(), left = Object.keys(tables).sort((a, b) => tables
 for (let html = '';; out.push(left.pop())) {
     parts.CATALOGUE = json(Object.fromEntries(Object.entries(tables).filter(([name]) => left.includes(name))));
     html = htmlOf();
-    if (html.length >= LARGEST && left.length) continue;
+    if (html.length - parts.PROGRAMS.length >= LARGEST_REST && left.length) continue;
     writeFileSync(page, html);
     console.log(`${page}: ${out.length ? `without the tables ${out.join(', ')}: ` : ''}${html.length} bytes`);
     break;

@@ -37,7 +37,8 @@ function isOfShell() {
     const names = [process.env._ || '', process.argv0, process.argv[1]].map(name => basename(name));
     try {
         if (/^(ba|da|z|k|a|fi)?sh$|^busybox$/.test(basename(readlinkSync(`/proc/${process.ppid}/exe`)))) return true;
-    } catch { /* Another system. */ }
+    } catch { /* Another system. */
+    }
     return names.slice(1).includes(names[0]);
 }
 
@@ -64,9 +65,11 @@ function main() {
     const programs = programsIn(html()), names = Object.keys(programs), [name = '', ...words] = argumentsGiven();
     if (!Object.hasOwn(programs, name.toString())) {
         if (name.length) said(`no program ${name}`);
-        writeSync(2, `usage: node page/cli.mjs PROGRAM WORD.. < FILE\n\nPROGRAM is ${
-            names.join(' or ')}; FILE is what it reads, and it prints what it answers, as in\n\n    node page/cli.mjs re check < FILE\n    node page/cli.mjs ${
-            names.at(-1)} help\n`);
+        writeSync(2,
+            `usage: node page/cli.mjs PROGRAM WORD.. < FILE\n\nPROGRAM is ${
+                names.join(
+                    ' or ')}; FILE is what it reads, and it prints what it answers, as in\n\n    node page/cli.mjs re check < FILE\n    node page/cli.mjs ${
+                names.at(-1)} help\n`);
         return BAD_WORDS;
     }
     try {

@@ -33,8 +33,8 @@ export function cardActions(bench, card, view) {
 }
 
 function closureWithDiagram(bench, card, view) {
-    openDiagramDialog(
-        view.facts.problem.labels, edges => bench.searches.closure(card, view, bench.numbers.closure.k, edges), `${card.id} ${card.problem}`);
+    openDiagramDialog(view.facts.problem.labels, edges => bench.searches.closure(card, view, bench.numbers.closure.k, edges),
+        `${card.id} ${card.problem}`);
 }
 
 function moreMenu(bench, card, view) {

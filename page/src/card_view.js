@@ -8,6 +8,7 @@ import {DiagramView} from './diagram_view.js';
 import {fitNode} from './given_view.js';
 import {LabelsView} from './labels_view.js';
 import {lineParts, LinesView} from './lines_view.js';
+import {searchesGiven} from './search_actions.js';
 
 const MOST_WRITTEN_LINES = 300;
 
@@ -33,6 +34,7 @@ export class CardView {
         this.tried = element('details.written', {hidden: true}, element('summary', {}),
             element('div.tried', {}, element('table', {}, element('tbody', {}))));
         this.actions = element('div.actions', {});
+        this.searchesGiven = element('div.hint', {hidden: true});
         this.fit = element('div', {hidden: true});
         this.catalogue = element('div', {hidden: true});
         this.branches = element('div.branches', {});
@@ -142,7 +144,7 @@ export class CardView {
         this.isFilled = true;
         this.node.classList.add('filled');
         this.labels.draw();
-        replace(this.actions, cardActions(this.workbench, this.card, this));
+        replace(this.actions, cardActions(this.workbench, this.card, this), this.searchesGiven);
         this.filled = Promise.all([...badges, this.fillLines(), this.fillCatalogue(), ...SIDES.map(side => this.diagrams[side].fill())]);
         return this.filled;
     }
@@ -165,9 +167,10 @@ export class CardView {
                                       key = input && `${path.slice(0, this.at + 1).filter(isStep).length % 2} ${input.problem}`;
         if (!this.isNear || key === this.fitKey) return;
         this.fitKey = key;
-        this.zeroGiven.hidden = !input;
+        this.zeroGiven.hidden = this.searchesGiven.hidden = !input;
         this.fit.hidden = true;
         if (!input) return;
+        replace(this.searchesGiven, searchesGiven(this.workbench, given.nameOf(input)));
         this.zeroGiven.className = 'badge waiting';
         replace(this.zeroGiven, '0 rounds given: …');
         const {isSolvable, map, line} =

@@ -42,7 +42,8 @@ export function catalogueLine(table, text) {
     if (at < 0) return null;
     const start = table.lastIndexOf('\n', at) + 1, [line] = table.slice(start).split('\n', 1);
     const [number, problem, answer, by = '', identifiers = '', identifiersBy = ''] = line.split('\t'),
-          names = [...found.names].sort(([one], [other]) => byName(one, other));
+                                                                               names = [...found.names].sort(
+                                                                                   ([one], [other]) => byName(one, other));
     return {
         number,
         problem,

@@ -19,9 +19,10 @@ export class Catalogue {
         const found = table && await engine.work('catalogueLine', table, card.problem);
         if (!found) return null;
         const {number, claims, count} = found, {labels, active, passive} = problem,
-                                        title = `of the ${plural(count, 'problem')} of ${plural(labels.length, 'label')} in degrees ${
-                                            active.degree} and ${passive.degree} that stand there; under these names: ${found.problem}`;
+                               title = `of the ${plural(count, 'problem')} of ${plural(labels.length, 'label')} in degrees ${
+                                   active.degree} and ${passive.degree} that stand there; under these names: ${found.problem}`;
         return element('div.group.catalogue', {}, element('span.hint', {title}, `The catalogue's line, number ${number}:`),
-            claims.map(({line, shownBy}, i) => element(i ? 'span.group.grow' : 'span.group', {}, claimNodes(line), settling.buttons(card, view, shownBy, found))));
+            claims.map(({line, shownBy}, i) => element(
+                           i ? 'span.group.grow' : 'span.group', {}, claimNodes(line), settling.buttons(card, view, shownBy, found))));
     }
 }

@@ -15,9 +15,16 @@ export function stagesOf(path) {
     return stages;
 }
 
+// Where a card stands in a path: the stage, and the place in it. A card that was amended meanwhile is the same one.
+export function placeIn(path, card) {
+    const isSame = other => other === card || other.id !== undefined && other.id === card.id, stages = stagesOf(path),
+          at = stages.findIndex(stage => stage.some(isSame));
+    return {at, place: stages[at].findIndex(isSame)};
+}
+
 // `1`, `1′`, `1″`: the number of the problem in the certificate, with a mark for each change.
 export function numberOf(path, card) {
-    const stages = stagesOf(path), at = stages.findIndex(stage => stage.includes(card)), place = stages[at].indexOf(card);
+    const {at, place} = placeIn(path, card);
     return at + (place > 3 ? `′${place}` : '′'.repeat(place));
 }
 

@@ -31,6 +31,7 @@ export class Claim {
         const turn = this.turn = {}, {engine} = this.workbench;
         this.verdict = null;
         this.jobs.forEach(job => job.stop());
+        this.workbench.given.forget(path);
         replace($('#verdict'), path.length ? hint('checking…') : '');
         replace($('#offers'));
         $('#claim').hidden = !path.length;

@@ -8,8 +8,10 @@ export function modelOf(line) {
 }
 
 // The text of a line: of `1 rounds` the last letter stands there to be copied, and isn't seen.
-export const lineText = line => line.split(/(\b1 rounds\b)/).flatMap(
-    part => part === '1 rounds' ? ['1 round', element('span.caret', {}, 's')] : part ? [part] : []);
+export const lineText = line => line.split(/(\b1 rounds\b)/)
+                                    .flatMap(part => part === '1 rounds' ? ['1 round', element('span.caret', {}, 's')]
+                                            : part                       ? [part]
+                                                                         : []);
 
 // A line with its model behind it.
 export function claimNodes(line, kind = 'span.line', values = {}) {
@@ -20,5 +22,6 @@ export function claimNodes(line, kind = 'span.line', values = {}) {
 // What a search says that found nothing.
 export const inWords = line =>
     line.replace(/^not found: nodes (\d+), cut (\d+)$/,
-            (_, nodes, cut) => `not found: ${plural(Number(nodes), 'problem')} looked at, ${cut === '0' ? 'none' : cut} of them cut at a limit`)
+            (_, nodes, cut) =>
+                `not found: ${plural(Number(nodes), 'problem')} looked at, ${cut === '0' ? 'none' : cut} of them cut at a limit`)
         .replace(/^not found: graphs (\d+)$/, (_, graphs) => `not found: ${plural(Number(graphs), 'graph')} tried`);

@@ -26,7 +26,8 @@ export function openDialog(title, ...content) {
     dialog.showModal();
     dialog.append($('#message'));
     // The focus is where the user goes on, not on the button that closes.
-    (dialog.querySelector('[autofocus]') || dialog.querySelector(FIRST_FIELD) || dialog.querySelector('footer button, [tabindex]'))?.focus();
+    (dialog.querySelector('[autofocus]') || dialog.querySelector(FIRST_FIELD) || dialog.querySelector('footer button, [tabindex]'))
+        ?.focus();
     return dialog;
 }
 
@@ -36,8 +37,8 @@ export function openWideDialog(title, ...content) {
     return dialog;
 }
 
-export const openHelpDialog = () =>
-    openWideDialog('Help', element('div', {tabIndex: -1, autofocus: true, role: 'group', 'aria-label': 'help'}, $('#help').content.cloneNode(true)));
+export const openHelpDialog = () => openWideDialog(
+    'Help', element('div', {tabIndex: -1, autofocus: true, role: 'group', 'aria-label': 'help'}, $('#help').content.cloneNode(true)));
 
 // `key` is what the window is opened for: what was typed in it is kept for it.
 export function openNoteDialog(note, onKeep, key) {
@@ -77,7 +78,9 @@ export function openDiagramDialog(labels, find, key, {text = '', fault = null} =
     };
     const start = async event => {
         event.preventDefault();
-        const edges = area.value.split('\n').flatMap((row, i) => row.split(',').map(edge => ({text: edge.trim(), line: i + 1}))).filter(edge => edge.text);
+        const edges = area.value.split('\n')
+                          .flatMap((row, i) => row.split(',').map(edge => ({text: edge.trim(), line: i + 1})))
+                          .filter(edge => edge.text);
         replace(state, hint('asking…'));
         const running = find(edges), wrong = await Promise.race([running, new Promise(resolve => setTimeout(resolve, UNTIL_CLOSED))]);
         if (wrong) {
@@ -90,8 +93,8 @@ export function openDiagramDialog(labels, find, key, {text = '', fault = null} =
     };
     const dialog = openDialog('Closure with a diagram',
         element('form', {onsubmit: start},
-            hint('One edge a line: after A B around passive nodes B may stand for A. The problem, so raised, has the closure.'), area.node, state,
-            element('footer', {}, element('button.primary', {type: 'submit'}, 'Find'))));
+            hint('One edge a line: after A B around passive nodes B may stand for A. The problem, so raised, has the closure.'), area.node,
+            state, element('footer', {}, element('button.primary', {type: 'submit'}, 'Find'))));
     area.text.addEventListener('keydown', event => {
         if (event.key === 'Enter' && (event.ctrlKey || event.metaKey)) start(event);
     });

@@ -25,8 +25,7 @@ export function keepDraft(dialog, key) {
     const fields = [...dialog.querySelectorAll(FIELDS)], first = fields.map(stateOf), draft = drafts.get(key);
     // What is chosen may write the texts anew, so it comes first.
     if (draft?.length === fields.length)
-        for (const isChoice of [true, false])
-            fields.forEach((field, i) => (field.type === 'radio') === isChoice && put(field, draft[i]));
+        for (const isChoice of [true, false]) fields.forEach((field, i) => (field.type === 'radio') === isChoice && put(field, draft[i]));
     dialog.addEventListener('close', () => {
         const now = fields.map(stateOf), isSame = now.every((state, i) => state === first[i]);
         if (dialog.returnValue === DONE || isSame) drafts.delete(key);

@@ -167,7 +167,8 @@ class EditDialog {
             await this.looked('looking for a step… ', await startBridge(bench, before, problem)).catch(error => ({text: error.message}));
         if (!answer.text.startsWith('==')) {
             const said = answer.text.trim();
-            replace(this.state, faulty(said === 'no' ? 'There is no step to this problem: explore bridge says no.' : `explore bridge: ${said}`));
+            replace(this.state,
+                faulty(said === 'no' ? 'There is no step to this problem: explore bridge says no.' : `explore bridge: ${said}`));
             return;
         }
         const cards =

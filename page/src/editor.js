@@ -163,7 +163,9 @@ export class Editor {
 function openBracket(line) {
     const pairs = [['[', ']'], ['(', ')']].map(pair => [...pair, ...pair.map(bracket => line.split(bracket).length)]);
     const [open, close, opened, closed] = pairs.find(([, , one, other]) => one !== other) || [];
-    return !open ? null : opened > closed ? `A bracket ${open} is open: its ${close} lacks.` : `A bracket ${close} has no ${open} before it.`;
+    return !open          ? null
+        : opened > closed ? `A bracket ${open} is open: its ${close} lacks.`
+                          : `A bracket ${close} has no ${open} before it.`;
 }
 
 function advice(answer, row = '') {

@@ -9,7 +9,7 @@ import {givenInput, INPUT_KINDS, inputCommand, readFit, readGiven} from './input
 import {NumberField} from './number_field.js';
 import {describe, exchanged} from './problems.js';
 import {labelsIn} from './texts.js';
-import {stagesOf, titleOf} from './chains.js';
+import {placeIn, titleOf} from './chains.js';
 
 const FIT_LIMIT = 20000, INPUT_LIMIT = 4000;
 
@@ -44,7 +44,7 @@ export class Given {
         $('#given').hidden = !this.isOffered || !path.length;
         if (!this.isOffered || !path.length) return;
         const {first, workbench} = this, [{given}] = path, kind = given?.kind || 'nothing',
-                                  counts = INPUT_KINDS.find(other => other.kind === kind)?.counts;
+                      counts = INPUT_KINDS.find(other => other.kind === kind)?.counts;
         this.first = path[0];
         // Another chain, or another input of it.
         const isOther = first?.id !== this.first.id || JSON.stringify(first.given) !== JSON.stringify(given);
@@ -151,13 +151,19 @@ export class Given {
 
     // Where the program says that a problem is no input of the first one: {text, isFaulty(line, side)}, which lines are at fault.
     async faultOf(first, problem) {
-        const {engine, facts} = this.workbench, certificate = `== certificate 1 lower\n${first.problem}== end\n`, wanted = facts.of(first.problem).problem;
-        const {text} = await engine.ask('explore', ['given'], givenInput(certificate, problem), {quiet: true, limit: INPUT_LIMIT, title: 'given'})
-                           .catch(() => ({text: ''}));
+        const {engine, facts} = this.workbench, certificate = `== certificate 1 lower\n${first.problem}== end\n`,
+                       wanted = facts.of(first.problem).problem;
+        const {text} =
+            await engine.ask('explore', ['given'], givenInput(certificate, problem), {quiet: true, limit: INPUT_LIMIT, title: 'given'})
+                .catch(() => ({text: ''}));
         const [, what] = /^no: not an input: (\S+)/.exec(text) || [];
         if (!what) return null;
         const found = describe(problem);
-        if (what !== 'degrees') return {text: `explore given: ${text.trim()}: each label has to stand on both sides.`, isFaulty: line => labelsIn(line).includes(what)};
+        if (what !== 'degrees')
+            return {
+                text: `explore given: ${text.trim()}: each label has to stand on both sides.`,
+                isFaulty: line => labelsIn(line).includes(what)
+            };
         const degrees = ({active, passive}) => `${active.degree} and ${passive.degree}`;
         return {
             text: `explore given: ${text.trim()}: here they are ${degrees(found)}, and those of the problem ${degrees(wanted)}.`,
@@ -176,6 +182,12 @@ export class Given {
 
     // ---- What the program says.
 
+    // What was said of another chain goes at once, and what is on its way is not shown.
+    forget(path) {
+        Object.assign(this, {turn: {}, said: null});
+        if (this.isOffered && !this.isPending) replace(this.line, this.of(path) ? hint('asking…') : null);
+    }
+
     // The line of `explore given` on the certificate that was judged.
     async judge(path, verdict) {
         const turn = this.turn = {}, given = this.of(path), {claim, engine} = this.workbench;
@@ -192,7 +204,8 @@ export class Given {
         if (turn !== this.turn) return;
         const {line, still, accepted} = readGiven(answer.text);
         this.said = line;
-        replace(this.line, claimNodes(line, accepted ? 'span.good.line' : 'span.faulty.line'), still ? [' ', claimNodes(still, 'span.good.line')] : null);
+        replace(this.line, claimNodes(line, accepted ? 'span.good.line' : 'span.faulty.line'),
+            still ? [' ', claimNodes(still, 'span.good.line')] : null);
         this.workbench.report.showGiven();
         this.line.title = `explore given\n${answer.text.trim()}`;
     }
@@ -205,8 +218,8 @@ export class Given {
 
     // What is given at a card, or null: behind an odd number of steps the input problem has its sides exchanged.
     at(path, card) {
-        const given = this.of(path), steps = stagesOf(path).findIndex(stage => stage.includes(card));
-        return given && (steps % 2 ? exchanged(given.problem) : given.problem);
+        const given = this.of(path);
+        return given && (placeIn(path, card).at % 2 ? exchanged(given.problem) : given.problem);
     }
 
     // Whether a card's problem is solvable in 0 rounds given that input: what `fit` answers, and null where nothing is given.

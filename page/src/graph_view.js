@@ -12,22 +12,26 @@ const MARGIN = 30;
 
 // `text` is what `solve` reads; `ask(text)` answers what it prints.
 export function openGraphDialog(text, ask) {
-    const {problem, lines} = readGraph(text), rows = () => filledRows(area.value), input = () => graphInput(problem, rows().map(row => row.text));
+    const {problem, input, lines, given} = readGraph(text), nodes = areaOf('graph: one line for each passive node', lines),
+                                  areas = input === null
+        ? [nodes]
+        : [nodes, areaOf('what is given: one line for each active node', given.map(row => row.join(' ')))];
+    const rowsOf = area => filledRows(area.value), textsOf = area => rowsOf(area).map(row => row.text);
+    const now = () => graphInput(problem, textsOf(nodes), input, areas[1] ? textsOf(areas[1]) : []);
     const line = element('p', {role: 'status', 'aria-label': 'what solve says'}), box = element('div.picture', {});
-    const area = new NumberedArea({label: 'graph: one line for each passive node', fewest: Math.min(10, lines.length + 1), most: 10});
-    area.value = lines.join('\n');
-    // A fault at a line of the text that was sent is shown at the line that stands here.
+    // A fault at a line of the text that was sent is shown at the line that stands here: {area, line, text}.
     const faultOf = said => {
-        const sent = faultLine(said), row = sent && rows()[sent - problem.trim().split('\n').length - 2];
-        return row && {line: row.line, text: said.replace(/^input: line \d+: /, '')};
+        const first = now().split('\n').indexOf('== graph') + 1, sent = faultLine(said) - first - 1, count = rowsOf(nodes).length;
+        const [area, row] = sent < count ? [nodes, sent] : [areas[1], sent - count - 1], found = area && rowsOf(area)[row];
+        return found && {area, line: found.line, text: said.replace(/^input: line \d+: /, '')};
     };
     const draw = async () => {
-        const now = input(), graph = readGraph(now);
+        const asked = now(), graph = readGraph(asked);
         replace(line, hint('asking…'));
-        const {line: said, labels} = readSolution((await ask(now).catch(error => ({text: error.message}))).text);
-        if (now !== input()) return;
+        const {line: said, labels} = readSolution((await ask(asked).catch(error => ({text: error.message}))).text);
+        if (asked !== now()) return;
         const fault = faultOf(said);
-        area.number(fault?.line || 0);
+        areas.forEach(area => area.number(fault?.area === area ? fault.line : 0));
         replace(line, fault ? faulty(`line ${fault.line}: ${fault.text}`) : claimNodes(said), hint(' explore solve'));
         replace(box, graph && !fault ? graphPicture(graph, labels) : null);
     };
@@ -36,13 +40,24 @@ export function openGraphDialog(text, ask) {
         if (drawn) download('graph.svg', pictureFile(drawn), 'image/svg+xml');
     };
     openWideDialog('A finite graph', line, box,
-        hint(
-            'Squares are active nodes, circles passive ones; small numbers are ports. Nodes with equal views output the same, so an algorithm for the tree gives a solution here.'),
-        element('label.below', {}, hint('One line for each passive node: its ends, port q of active node u as u.q'), area.node),
+        hint(`Squares are active nodes, circles passive ones; small numbers are ports.${
+            input === null
+                ? ''
+                : ' Labels in italics are what is given.'} Nodes with equal views output the same, so an algorithm for the tree gives a solution here.`),
+        element('label.below', {}, hint('One line for each passive node: its ends, port q of active node u as u.q'), nodes.node),
+        areas[1] &&
+            element('label.below', {}, hint('What is given: one line for each active node, its input labels in the order of ports'),
+                areas[1].node),
         element('footer', {}, button('Solve', draw, {class: 'primary'}),
-            button('Copy problem and graph', event => copy(input(), event.currentTarget)),
+            button('Copy problem and graph', event => copy(now(), event.currentTarget)),
             button('SVG', save, {'aria-label': 'download the graph as SVG'})));
     draw();
+}
+
+function areaOf(label, lines) {
+    const area = new NumberedArea({label, fewest: Math.min(10, lines.length + 1), most: 10});
+    area.value = lines.join('\n');
+    return area;
 }
 
 // `labels` are those of a solution, for each active node in the order of its ports, or null.
@@ -59,8 +74,9 @@ export function graphPicture(graph, labels = null) {
         role: 'img'
     },
         svg('title', {}, title));
-    graph.passive.forEach((ends, s) => ends.forEach((end, i) => picture.append(endNode(active[end.node - 1], passive[s],
-                                                        bendOf(ends, i), end.port, i + 1, labels?.[end.node - 1]?.[end.port - 1]))));
+    graph.passive.forEach(
+        (ends, s) => ends.forEach((end, i) => picture.append(endNode(active[end.node - 1], passive[s], bendOf(ends, i), end.port, i + 1,
+                                      labels?.[end.node - 1]?.[end.port - 1], graph.given?.[end.node - 1]?.[end.port - 1]))));
     active.forEach(({x, y}, u) => picture.append(svg('rect', {class: 'active', x: x - 11, y: y - 11, width: 22, height: 22, rx: 3}),
                        svg('text', {x, y: y + 5, 'text-anchor': 'middle'}, String(u + 1))));
     passive.forEach(({x, y}, s) => picture.append(svg(
@@ -75,8 +91,8 @@ function bendOf(ends, i) {
     return (at - (same.length - 1) / 2) * 44;
 }
 
-// One end of a passive node, with its two ports and what the active node outputs at it.
-function endNode(from, to, bend, port, passivePort, label) {
+// One end of a passive node, with its two ports, what the active node outputs at it, and what it is given there.
+function endNode(from, to, bend, port, passivePort, label, given) {
     const dx = to.x - from.x, dy = to.y - from.y, d = Math.hypot(dx, dy) || 1,
           middle = {x: (from.x + to.x) / 2 - dy / d * bend, y: (from.y + to.y) / 2 + dx / d * bend};
     const at = (t, aside) => ({
@@ -93,5 +109,6 @@ function endNode(from, to, bend, port, passivePort, label) {
         small(at(.28, aside), String(port)), small(at(.8, aside), String(passivePort))
     ];
     if (label) parts.push(svg('text', {class: 'output', ...at(.48, aside * 1.5), 'text-anchor': 'middle'}, label));
+    if (given) parts.push(svg('text', {class: 'given', ...at(label ? .65 : .52, aside * 1.5), 'text-anchor': 'middle'}, given));
     return svg('g', {class: 'end'}, ...parts);
 }

@@ -1,18 +1,35 @@
 // Finite port-numbered graphs, as `explore cover` prints them and `solve` reads them: behind `== graph` one line for each passive node,
-// its ends `u.q`, port q of active node u, in the order of its ports.
+// its ends `u.q`, port q of active node u, in the order of its ports. With an input problem, which stands behind `== given`, come `== labels` and
+// a line for each active node, with what it is given at its ports.
 
 export const isGraphText = text => /^== graph[ \t\r]*$/m.test(text);
 
-// {problem, lines, count, passive: [[{node, port}]]}, `count` that of active nodes; null where a line has another form.
+const section = word => new RegExp(`^== ${word}[ \\t\\r]*$`, 'm');
+const linesIn = text => text.split('\n').map(line => line.trim()).filter(Boolean);
+
+// {problem, input, lines, count, passive: [[{node, port}]], given: [[label]]}, `count` that of active nodes, `input` the text of an input
+// problem and `given` its labels, null where there is none; null where it has another form.
 export function readGraph(text) {
-    const [problem, behind = ''] = text.split(/^== graph[ \t\r]*$/m), lines = behind.split('\n').map(line => line.trim()).filter(Boolean);
+    const [before, behind = ''] = text.split(section('graph')), [problem, input = null] = before.split(section('given')),
+                            [edges, labels = null] = behind.split(section('labels')), lines = linesIn(edges);
     const ends = lines.map(line => line.split(/\s+/).map(end => /^(\d{1,3})\.(\d{1,3})$/.exec(end)));
     if (!lines.length || ends.some(row => row.includes(null))) return null;
     const passive = ends.map(row => row.map(([, node, port]) => ({node: Number(node), port: Number(port)})));
-    return {problem: problem.trim(), lines, count: Math.max(...passive.flat().map(({node}) => node)), passive};
+    const given = labels === null ? null : linesIn(labels).map(line => line.split(/\s+/));
+    return {
+        problem: problem.trim(),
+        input: input === null ? null : input.trim(),
+        lines,
+        count: Math.max(...passive.flat().map(({node}) => node)),
+        passive,
+        given
+    };
 }
 
-export const graphInput = (problem, lines) => `${problem.trim()}\n== graph\n${lines.join('\n')}\n`;
+// `given` are the lines behind `== labels`, where there is an input problem.
+export const graphInput = (problem, lines, input = null, given = []) => [problem.trim(),
+    ...(input === null ? [] : ['== given', input.trim()]), '== graph', ...lines, ...(input === null ? [] : ['== labels', ...given]), '']
+                                                                            .join('\n');
 
 // What `solve` answers: its first line, and the labels of each active node where there is a solution.
 export function readSolution(text) {

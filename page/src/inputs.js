@@ -19,6 +19,11 @@ export function inputCommand(words, kind, {active, passive}, count = 0) {
 }
 
 export const givenInput = (text, input) => `${text.trimEnd()}\n== given\n${input}`;
+// {text, input}: a chain or a problem, and the text of the input problem that stands behind it, or null.
+export function withoutInput(text) {
+    const [before, input = null] = text.split(/^==[ \t]+given[ \t\r]*\n/m);
+    return {text: before, input};
+}
 // A chain, or a problem, with the edges of a diagram: lines `A B`, after which B stands at least as high as A.
 export const raisedInput = (text, edges) => [text.trimEnd(), '== diagram', ...edges, ''].join('\n');
 

@@ -41,5 +41,5 @@ const JOB_NAMES = {
 };
 
 // Of a search, and of whatever else the user asked for, the words of the user.
-export const nameOfJob = title => Object.hasOwn(JOB_NAMES, title.split(/[ ,]/, 1)[0]) && !/ problem |\d/.test(title) ?
-    JOB_NAMES[title.split(/[ ,]/, 1)[0]] : title;
+export const nameOfJob = title =>
+    Object.hasOwn(JOB_NAMES, title.split(/[ ,]/, 1)[0]) && !/ problem |\d/.test(title) ? JOB_NAMES[title.split(/[ ,]/, 1)[0]] : title;

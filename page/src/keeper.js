@@ -21,9 +21,10 @@ const write = (place, key, text) => {
     } catch { return false; }
 };
 
-// Light or dark, as the user chose it; nothing else than these.
-export const keepTheme = theme => write('localStorage', `${TAB}-theme`, theme);
-export const keptTheme = () => ['light', 'dark'].find(theme => theme === read('localStorage', `${TAB}-theme`));
+// Light or dark, as the user chose it; nothing else than these. The tab has it too: it is there behind a reload whatever becomes of the rest.
+const THEME = `${TAB}-theme`, PLACES = ['sessionStorage', 'localStorage'];
+export const keepTheme = theme => PLACES.forEach(place => write(place, THEME, theme));
+export const keptTheme = () => PLACES.map(place => read(place, THEME)).find(theme => ['light', 'dark'].includes(theme));
 
 export class Keeper {
     constructor(workbench) {
@@ -44,7 +45,8 @@ export class Keeper {
 
     get data() {
         const {cards, editor, notes, tries} = this.workbench;
-        const kept = [...notes.known].map(([id, {problem, list}]) => [id, {problem, list: list.filter(note => (note.text || '').length < LONGEST_NOTE)}]);
+        const kept = [...notes.known].map(
+            ([id, {problem, list}]) => [id, {problem, list: list.filter(note => (note.text || '').length < LONGEST_NOTE)}]);
         return {
             build: this.build,
             tab: this.tab,
@@ -59,7 +61,9 @@ export class Keeper {
     // All of it where that isn't too much, else without what undo goes back to.
     get text() {
         const {data} = this, text = JSON.stringify(data);
-        return text.length <= LARGEST_DATA ? text : JSON.stringify({...data, notes: [], history: historyOf({...this.workbench.cards.state, done: [], undone: []})});
+        return text.length <= LARGEST_DATA
+            ? text
+            : JSON.stringify({...data, notes: [], history: historyOf({...this.workbench.cards.state, done: [], undone: []})});
     }
 
     keepAtOnce() {
@@ -84,7 +88,9 @@ export class Keeper {
     // The last sessions of this browser, the latest first: [{tab, title, count, packed}].
     get last() {
         try {
-            return JSON.parse(read('localStorage', LAST)).filter(({tab, title, packed}) => [tab, title, packed].every(part => typeof part === 'string'));
+            return JSON.parse(read('localStorage', LAST)).filter(({tab,
+                title,
+                packed}) => [tab, title, packed].every(part => typeof part === 'string'));
         } catch { return []; }
     }
 
@@ -96,12 +102,14 @@ export class Keeper {
     async start() {
         const kept = read('sessionStorage', TAB), [navigation] = performance.getEntriesByType('navigation');
         try {
-            const data = kept && await this.unpacked(kept), isAgain = location.hash || ['reload', 'back_forward'].includes(navigation?.type);
+            const data = kept && await this.unpacked(kept),
+                  isAgain = location.hash || ['reload', 'back_forward'].includes(navigation?.type);
             if (data && isAgain && data.address === location.hash) {
                 this.tab = data.tab;
                 await this.restore(data);
             }
-        } catch { /* What is damaged is as good as none. */ }
+        } catch { /* What is damaged is as good as none. */
+        }
         this.isReady = true;
         this.changed();
     }
@@ -120,7 +128,8 @@ export class Keeper {
         // The user was quicker.
         if (cards.cards !== before) return;
         // Cards that are shown stay the same ones.
-        const shown = new Map(before.map(card => [JSON.stringify(card), card])), same = new Map(all.map(card => [card, shown.get(JSON.stringify(card)) || card]));
+        const shown = new Map(before.map(card => [JSON.stringify(card), card])),
+              same = new Map(all.map(card => [card, shown.get(JSON.stringify(card)) || card]));
         const known = state => ({current: state.current, cards: state.cards.map(card => same.get(card))});
         Object.assign(cards, {...known(now), done: done.map(known), undone: undone.map(known)});
         for (const view of workbench.views.values()) {
@@ -133,9 +142,12 @@ export class Keeper {
     // On the empty page a button for each of the last sessions.
     offers() {
         const last = this.last.filter(({tab}) => tab !== this.tab);
-        return last.length && !this.workbench.cards.done.length ?
-            element('div.welcome.last', {}, element('p.group.start', {}, hint(last.length > 1 ? 'Your last sessions' : 'Your last session'),
-                last.map(({title, count, packed}) => button(`${title}${count ? `, ${plural(count, 'card')}` : ''}`, () => this.open(packed))))) : null;
+        return last.length && !this.workbench.cards.done.length
+            ? element('div.welcome.last', {},
+                  element('p.group.start', {}, hint(last.length > 1 ? 'Your last sessions' : 'Your last session'),
+                      last.map(({title, count, packed}) =>
+                                   button(`${title}${count ? `, ${plural(count, 'card')}` : ''}`, () => this.open(packed)))))
+                                                           : null;
     }
 
     async open(packed) {

@@ -31,7 +31,9 @@ export class LabelsView {
         };
         const turnButton = button(
             isUnrolled ? 'one step back' : 'unrolled to the first problem', turn, {class: 'link', 'aria-pressed': String(isUnrolled)});
-        replace(this.node, element('div.headed', {}, element('h4', {}, isFirst ? 'Labels' : 'Labels and what they stand for'), isFirst ? null : turnButton),
+        replace(this.node,
+            element(
+                'div.headed', {}, element('h4', {}, isFirst ? 'Labels' : 'Labels and what they stand for'), isFirst ? null : turnButton),
             element(isUnrolled ? 'div.list.long' : 'div.list', {}, rows));
         this.onDraw();
     }

@@ -1,6 +1,6 @@
 // Starts the page.
 import {$, button, element, say} from './dom.js';
-import {Engine} from './engine.js';
+import {Engine, Stopped} from './engine.js';
 import {Editor} from './editor.js';
 import {keepTheme, keptTheme} from './keeper.js';
 import {listenToKeys} from './keys.js';
@@ -52,8 +52,8 @@ function startEditor(bench) {
 }
 
 const FAMILY_FIELDS = [
-    ['#family-a', {least: 2, most: 6, label: 'degree of active nodes'}], ['#family-p', {least: 2, most: 6, label: 'degree of passive nodes'}],
-    ['#family-n', {least: 1, most: 16, label: 'number of colours'}]
+    ['#family-a', {least: 2, most: 6, label: 'degree of active nodes'}],
+    ['#family-p', {least: 2, most: 6, label: 'degree of passive nodes'}], ['#family-n', {least: 1, most: 16, label: 'number of colours'}]
 ];
 
 function startFamilies(bench, setText) {
@@ -147,10 +147,15 @@ function watchBars() {
     [foot, bar, jobs].forEach(node => watcher.observe(node));
 }
 
+function tellNoWords(error) {
+    say(`explore help: ${error.message}: nothing of explore is offered.`, true);
+    return new Set();
+}
+
 async function start() {
     const theme = keptTheme();
     if (theme) document.documentElement.dataset.theme = theme;
-    const engine = new Engine(await readPrograms(), $('#worker').textContent), words = await wordsOfExplore(engine).catch(() => new Set()),
+    const engine = new Engine(await readPrograms(), $('#worker').textContent), words = await wordsOfExplore(engine).catch(tellNoWords),
           bench = new Workbench(engine, words);
     // For the tests, and whoever looks into the page.
     Object.assign(window, {bench, engine});
@@ -168,6 +173,9 @@ async function start() {
     await bench.keeper.start();
     document.body.classList.add('ready');
 }
+
+// That a run was stopped is no fault, also where nobody waits for it any more.
+window.addEventListener('unhandledrejection', event => event.reason instanceof Stopped && event.preventDefault());
 
 start().catch(error => {
     document.body.append(element('p', {class: 'faulty', role: 'alert'}, `The page can't start: ${error.message}`));

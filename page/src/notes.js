@@ -3,7 +3,7 @@
 //   'hint', 'fault' {text};
 //   'answer' {what, line, more}: what a command answered;
 //   'text' {what, text}: a text to copy;
-//   'settled' {text}: what `settle` printed, with a button for each thing that shows it;
+//   'settled' {text, what, more}: what `settle` printed, with a button for each thing that shows it, and its time;
 //   'graph' {what, line, text}: a graph without a solution;
 //   'found' {what, id}: cards that were found while the user was elsewhere.
 import {button, copy, element, faulty, hint, replace} from './dom.js';
@@ -27,8 +27,11 @@ export class Notes {
         return view.remarks.querySelector('.note');
     }
 
+    // Without those that `isOld(note)` holds of.
+    replace(view, isOld) { this.set(view, this.of(view.card).filter(note => !isOld(note))); }
+
     remove(view, note) {
-        this.set(view, this.of(view.card).filter(other => other !== note));
+        this.replace(view, other => other === note);
         view.node.focus({preventScroll: true});
     }
 
@@ -39,8 +42,8 @@ export class Notes {
     }
 
     show(view) {
-        const list = this.of(view.card), all = list.length > 1 &&
-            button(`Clear all ${list.length} notes`, () => this.set(view, []), {class: 'link clear'});
+        const list = this.of(view.card),
+              all = list.length > 1 && button(`Clear all ${list.length} notes`, () => this.set(view, []), {class: 'link clear'});
         replace(view.remarks, list.map(note => this.node(view, note)), all);
     }
 
@@ -53,15 +56,15 @@ export class Notes {
 const NODES = {
     hint: ({text}) => hint(text),
     fault: ({text}) => faulty(text),
-    answer: ({what, line, more}) =>
-        [element('strong', {}, what), ' ', element('span', {title: line}, lineText(inWords(line))), hint(` ${modelOf(line)} ${more || ''}`)],
+    answer: ({what, line, more}) => [element('strong', {}, what), ' ', element('span', {title: line}, lineText(inWords(line))),
+        hint(` ${modelOf(line)} ${more || ''}`)],
     text: ({what, text}) => [element('strong', {}, lineText(what)), hint(` ${modelOf(what)} `),
         button('Copy', event => copy(text, event.currentTarget), {class: 'link'}), element('pre', {tabIndex: 0}, text.trim() || '(none)')],
-    settled: ({text}, view, {settling}) => settling.lines(view, text),
-    graph: ({what, line, text}, view, {settling}) =>
-        [element('strong', {}, what), ' ', claimNodes(line), ' ', button('Draw the graph', () => settling.draw(text))],
-    found: ({what, id}, view, workbench) => [element('strong', {}, what), ' found. ', workbench.cards.get(id) ?
-        button('Show', () => workbench.go(id)) : hint('The cards are gone.')],
+    settled: (note, view, {settling}) => settling.lines(view, note),
+    graph: ({what, line, text}, view,
+        {settling}) => [element('strong', {}, what), ' ', claimNodes(line), ' ', button('Draw the graph', () => settling.draw(text))],
+    found: ({what, id}, view, workbench) => [element('strong', {}, what), ' found. ',
+        workbench.cards.get(id) ? button('Show', () => workbench.go(id)) : hint('The cards are gone.')],
 };
 
 // A note in its form, out of what was kept.

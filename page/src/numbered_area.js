@@ -58,6 +58,7 @@ export class NumberedArea {
         this.numbered = count;
         this.node.classList.toggle('faulty', fault > 0);
         this.node.style.setProperty('--fault', fault);
-        if (fault > 0 && count > this.text.rows) this.text.scrollTop = this.gutter.scrollTop = Math.max(0, (fault - 4) * parseFloat(getComputedStyle(this.text).lineHeight));
+        if (fault > 0 && count > this.text.rows)
+            this.text.scrollTop = this.gutter.scrollTop = Math.max(0, (fault - 4) * parseFloat(getComputedStyle(this.text).lineHeight));
     }
 }

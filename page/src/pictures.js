@@ -84,7 +84,8 @@ function arrowHead([x, y], [fromX, fromY]) {
 }
 
 const FILE_STYLE = `text { font: 14px monospace; fill: #111 } rect { fill: #fff; stroke: #333 } .line { fill: none; stroke: #333 }
-.near { display: none } .head { fill: #333 } circle { fill: #fff; stroke: #333 } .passive { fill: #ddd } .small { font-size: 11px; fill: #555 }`;
+.near { display: none } .head { fill: #333 } circle { fill: #fff; stroke: #333 } .passive { fill: #ddd } .small { font-size: 11px; fill: #555 }
+.output { font-weight: 700 } .given { font-style: italic; fill: #555 }`;
 
 // The picture as a file of its own, without the page's style.
 export function pictureFile(picture) {

@@ -28,7 +28,8 @@ function faultOf(names) {
 }
 
 export function openRenameDialog(bench, card, view) {
-    const {labels} = view.facts.problem, path = bench.cards.path(card.id), state = element('div.state', {role: 'status', 'aria-label': 'state'});
+    const {labels} = view.facts.problem, path = bench.cards.path(card.id),
+          state = element('div.state', {role: 'status', 'aria-label': 'state'});
     const inputs = labels.map(label => element('input', {
         type: 'text',
         value: nameOf(label),

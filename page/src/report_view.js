@@ -33,8 +33,7 @@ export class ReportView {
         if (isOpen) {
             this.fill(this.path, this.verdict);
             intoView($('#report-box > header'));
-        }
-        else $('#report').focus();
+        } else $('#report').focus();
     }
 
     // The chain with its verdict; where there is no bound, the first problem alone.
@@ -63,7 +62,8 @@ export class ReportView {
         if (!input) return '';
         const code = text => text.trim().split('\n').map(row => `    ${row}`).join('\n');
         const said = given.said ? `\n\nWhat \`explore given\` says of the bound with that input:\n\n${code(given.said)}` : '';
-        return `\n## What is given\n\nThe nodes know a solution of this problem (${given.nameOf(input)}):\n\n${code(input.problem)}${said}\n`;
+        return `\n## What is given\n\nThe nodes know a solution of this problem (${given.nameOf(input)}):\n\n${code(input.problem)}${
+            said}\n`;
     }
 
     get whole() { return this.text + this.givenPart; }

@@ -56,7 +56,8 @@ const SEARCHES = [
         word: 'longest',
         kind: 'lower',
         command: ({k, l}) => `explore longest ${k} ${l}`,
-        title: 'a long lower bound, by a heuristic: up to K more steps, to problems of at most L labels; Stop keeps the best of fewer steps',
+        title:
+            'a long lower bound, by a heuristic: up to K more steps, to problems of at most L labels; Stop keeps the best of fewer steps',
         more: 'asked again with twice as many steps or labels, until you stop; Stop keeps the best',
         numbers: [{...STEPS, start: 8, label: 'K, the most further steps'}, {...SIZES, start: 10}]
     },
@@ -77,6 +78,15 @@ const SEARCHES = [
         title: 'the fewest further steps that come back, up to K, at most M merges in each',
         more: 'asked again with more steps, merges or problems looked at, until one is found or you stop',
         numbers: [{...STEPS, start: 4, label: 'K, the most further steps'}, {...MERGES, start: 1}]
+    },
+    {
+        name: 'relaxed',
+        word: 'relaxed',
+        kind: 'lower',
+        command: ({n}) => `explore relaxed ${n}`,
+        title: 'a fixed point behind a relaxation of this problem, or of one a few steps on; at most N relaxations are looked at',
+        more: 'asked again with twice as many relaxations, until one is found, there are no more, or you stop',
+        numbers: [{name: 'n', least: 1, most: 1000000, start: 1000, unit: 'tries', label: 'N, the most relaxations looked at'}]
     },
     {
         name: 'closure',
@@ -105,6 +115,15 @@ const REASONS = {
     upper: 'a relaxation (a merge, an edit, or a step of a lower bound) stands in this chain, so no upper bound goes on from it'
 };
 
+// Which of the searches ask with what is given, where something is.
+export function searchesGiven({words}, name) {
+    const asking =
+        SEARCHES.filter(search => (!search.word || words.has(search.word)) && words.has(`${search.name} given`)).map(search => search.name);
+    const names = asking.length > 1 ? `${asking.slice(0, -1).join(', ')} and ${asking.at(-1)} ask` : `${asking[0]} asks`;
+    return asking.length ? `Of these searches ${names} with what is given (${name}); the others ask for bounds that hold without it.`
+                         : `None of these searches asks with what is given (${name}): they ask for bounds that hold without it.`;
+}
+
 export function searchActions(bench, card, view) {
     const kinds = kindsOf(bench.cards.path(card.id)), offered = SEARCHES.filter(({word}) => !word || bench.words.has(word));
     const isOff = ({kind}) => kind && !kinds.includes(kind), off = offered.filter(isOff);
@@ -128,7 +147,8 @@ function searchNode(bench, card, view, {name, command, title, more, numbers, kin
     const start = button(name, run(false), {disabled: isOff});
     const node = element('span.ask', {'data-search': name, role: 'group', 'aria-label': name}, start,
         numbers.map(number => numberNode(kept, name, number, fields, isOff, say)),
-        more ? button('+', run(true), {class: 'more', disabled: isOff, title: more, 'aria-label': `${name}, and more until stopped`}) : null);
+        more ? button('+', run(true), {class: 'more', disabled: isOff, title: more, 'aria-label': `${name}, and more until stopped`})
+             : null);
     say();
     return node;
 }
@@ -137,7 +157,7 @@ function searchNode(bench, card, view, {name, command, title, more, numbers, kin
 function numberNode(kept, search, {name, least = 0, most, unit, label}, fields, isOff, onKept) {
     const input = element('input', {
         type: 'number',
-        class: ['short', '', 'long'][String(most).length - 1],
+        class: ['short', '', 'long'][String(most).length - 1] ?? 'longest',
         value: String(kept[name]),
         title: label,
         disabled: isOff,

@@ -3,10 +3,11 @@ import {plural, seconds} from './dom.js';
 import {Stopped} from './engine.js';
 import {faultLine} from './certificates.js';
 import {stagesOf} from './chains.js';
-import {givenInput, raisedInput} from './inputs.js';
+import {givenInput, raisedInput, withoutInput} from './inputs.js';
 import {writtenChain} from './judge.js';
 import {exchanged} from './problems.js';
 import {runTask} from './tasks.js';
+import {isUnknown} from './words.js';
 
 const MOST_STEPS = 64, MOST_LABELS = 128, MOST_MERGES = 8, MOST_PROBLEMS = 1000000;
 // So many problems `cycle` looks at first.
@@ -16,6 +17,7 @@ const DEEP = 16;
 
 const isFound = answer => answer.text.startsWith('==');
 const stepsIn = certificate => certificate.split('\n== step').length - 1;
+const firstLine = text => text.trim().split('\n', 1)[0];
 const stepsSaid = count => plural(count, 'step');
 // 1, 2, 4 .. steps, fewer than these.
 const fewerSteps = steps => [1, 2, 4, 8, 16, 32].filter(n => n < steps);
@@ -26,7 +28,7 @@ export class Searches {
 
     // Each search by its name in search_actions.js, with its numbers; `goesOn` where it is asked again with more.
     async run(card, view, name, numbers, goesOn) {
-        const {k, m, l} = numbers, search = {
+        const {k, m, l, n} = numbers, search = {
             lower: () => goesOn ? this.grow(card, view, m) : this.search(card, view, ['lower', k, m]),
             upper: () => this.search(card, view, ['upper', k, m]),
             fixed: () => this.search(card, view, ['fixed', k, m]),
@@ -34,6 +36,7 @@ export class Searches {
             longest: () => this.longest(card, view, k, l, goesOn),
             shortest: () => this.shortest(card, view, k, l, goesOn),
             cycle: () => this.cycle(card, view, k, m, goesOn),
+            relaxed: () => this.relaxed(card, view, n, goesOn),
             closure: () => this.closure(card, view, k),
             cover: () => this.workbench.settling.cover(card, view, m),
         };
@@ -48,11 +51,7 @@ export class Searches {
             const {words, answer} = await this.besides(view, task, 're', asked, fewer, card.problem), title = words.join(' ');
             await this.tried(view, task, title, answer);
             if (!isFound(answer)) return null;
-            return {
-                what: title,
-                certificate: answer.text,
-                cards: await this.cardsOf(answer.text, {title, offset: this.stepsAbove(card)})
-            };
+            return {what: title, certificate: answer.text, cards: await this.cardsOf(answer.text, {title, offset: this.stepsAbove(card)})};
         });
     }
 
@@ -103,8 +102,8 @@ export class Searches {
         const asked = ['rounds', String(k)], fewer = Array.from({length: Math.max(0, k - 1)}, (_, i) => ['rounds', String(i + 1)]);
         return this.inTask(card, view, asked.join(' '), async task => {
             const {words, answer} = await this.besides(view, task, 're', asked, fewer, card.problem,
-                                        ({status, text}) => status <= 1 && text.startsWith('more than ') && text.trim()),
-                  what = words.join(' ');
+                ({status, text}) => status <= 1 && text.startsWith('more than ') && text.trim()),
+                          what = words.join(' ');
             this.workbench.tries.add(view, what, answer.text.trim(), performance.now() - task.started);
             view.note({kind: 'answer', what: `${what}:`, line: answer.text.trim()});
             await this.roundsGiven(card, view, task, k);
@@ -125,15 +124,16 @@ export class Searches {
     // ---- Words of `explore` that read the chain down to the card, and go on from it.
 
     longest(card, view, k, l, goesOn) {
-        return this.fromChain(card, view, 'longest', 'lower', goesOn, async (task, chain) => {
+        return this.fromChain(card, view, {word: 'longest', kind: 'lower', goesOn}, async (task, chain, named) => {
             const before = stepsIn(chain), further = answer => isFound(answer) && plural(stepsIn(answer.text) - before, 'further step');
             let best = null, most = before - 1;
             for (let next = [k, l]; next;) {
                 const [steps, labels] = next, words = ['longest', String(steps), String(labels)];
                 const fewer = best ? [] : fewerSteps(steps).map(n => ['longest', String(n), String(labels)]);
-                const found = await this.besides(view, task, 'explore', words, fewer, chain, further).catch(error => this.kept(error, best));
+                const found =
+                    await this.besides(view, task, 'explore', words, fewer, chain, further).catch(error => this.kept(error, best));
                 if (!found) break;
-                const {answer} = found, what = found.words.join(' ');
+                const {answer} = found, what = named(found.words);
                 const count = isFound(answer) ? stepsIn(answer.text) : -1;
                 if (count < 0 || count > most) await this.tried(view, task, what, answer, plural(count - before, 'further step'));
                 if (count < 0) break;
@@ -151,34 +151,37 @@ export class Searches {
     }
 
     shortest(card, view, k, l, goesOn) {
-        return this.fromChain(card, view, 'shortest', 'upper', goesOn, async (task, chain) => {
-            for (let [steps, labels] = [k, l];;) {
-                const words = ['shortest', String(steps), String(labels)];
-                task.state = goesOn ? `now ${words.join(' ')}` : '';
-                const answer = await task.ask('explore', words, chain);
-                await this.tried(view, task, words.join(' '), answer);
-                if (isFound(answer)) return {what: words.join(' '), certificate: answer.text};
-                if (!goesOn || !answer.text.startsWith('not found') || steps >= MOST_STEPS && labels >= MOST_LABELS) return null;
-                [steps, labels] = [twice(steps, MOST_STEPS), twice(labels, MOST_LABELS)];
-            }
-        });
+        return this.untilFound(card, view, {word: 'shortest', kind: 'upper', goesOn}, [k, l],
+            ([steps, labels]) => [twice(steps, MOST_STEPS), twice(labels, MOST_LABELS)]);
     }
 
+    // More problems where they didn't suffice, else twice the steps, and past some steps more merges.
     cycle(card, view, k, m, goesOn) {
-        return this.fromChain(card, view, 'cycle', 'lower', goesOn, async (task, chain) => {
-            for (let next = [k, m, FEW_PROBLEMS];;) {
-                const words = ['cycle', ...next.map(String)];
-                task.state = goesOn ? `now ${words.join(' ')}` : '';
+        return this.untilFound(
+            card, view, {word: 'cycle', kind: 'lower', goesOn}, [k, m, FEW_PROBLEMS], ([steps, merges, problems], isCut) => {
+                if (isCut) return [steps, merges, twice(problems, MOST_PROBLEMS)];
+                return steps < DEEP ? [twice(steps, DEEP), merges, problems] : [k, twice(merges, MOST_MERGES), problems];
+            });
+    }
+
+    relaxed(card, view, n, goesOn) {
+        return this.untilFound(
+            card, view, {word: 'relaxed', kind: 'lower', goesOn}, [n], ([most], isCut) => [isCut ? twice(most, MOST_PROBLEMS) : most]);
+    }
+
+    // Asks for the first numbers; where it goes on, again with those that `more(numbers, isCut)` answers while they are others, until something
+    // is found.
+    untilFound(card, view, search, first, more) {
+        return this.fromChain(card, view, search, async (task, chain, named) => {
+            for (let numbers = first;;) {
+                const words = [search.word, ...numbers.map(String)], what = named(words);
+                task.state = search.goesOn ? `now ${words.join(' ')}` : '';
                 const answer = await task.ask('explore', words, chain);
-                await this.tried(view, task, words.join(' '), answer);
-                if (isFound(answer)) return {what: words.join(' '), certificate: answer.text};
-                const [steps, merges, problems] = next, isCut = answer.text.startsWith('limit: more than');
-                // More problems where they didn't suffice, else twice the steps, and past some steps more merges.
-                let more = [k, twice(merges, MOST_MERGES), problems];
-                if (isCut) more = [steps, merges, twice(problems, MOST_PROBLEMS)];
-                else if (steps < DEEP) more = [twice(steps, DEEP), merges, problems];
-                if (!goesOn || !/^(limit: more than|not found: nodes)/.test(answer.text) || String(more) === String(next)) return null;
-                next = more;
+                await this.tried(view, task, what, answer);
+                if (isFound(answer)) return {what, certificate: answer.text};
+                const isCut = answer.text.startsWith('limit: more than'), next = more(numbers, isCut);
+                if (!search.goesOn || !isCut && !answer.text.startsWith('not found') || String(next) === String(numbers)) return null;
+                numbers = next;
             }
         });
     }
@@ -189,7 +192,8 @@ export class Searches {
         const words = k ? ['closure', String(k)] : ['closure'], raised = edges.map(({text}) => text.split(/\s+/).join(' → ')).join(', '),
               what = edges.length ? `${words.join(' ')} of problem ${view.number.textContent} raised by ${raised}` : words.join(' ');
         let fault = null;
-        await this.fromChain(card, view, what, 'lower', false, async (task, chain) => {
+        const search = {word: 'closure', kind: 'lower', title: what, isAlone: edges.length > 0};
+        await this.fromChain(card, view, search, async (task, chain, named) => {
             const before = chain.trimEnd().split('\n').length + 1,
                   text = edges.length ? raisedInput(chain, edges.map(edge => edge.text)) : chain;
             const answer = await task.ask('explore', words, text), wrong = edges[faultLine(answer.text) - before - 1];
@@ -197,17 +201,21 @@ export class Searches {
                 fault = {line: wrong.line, text: `${answer.text.trim().replace(/^input: line \d+: /, '')}: “${wrong.text}”`};
                 return null;
             }
-            await this.tried(view, task, what, answer);
-            return isFound(answer) ? {what, certificate: answer.text} : null;
+            const asked = edges.length ? what : named(words);
+            await this.tried(view, task, asked, answer);
+            return isFound(answer) ? {what: asked, certificate: answer.text} : null;
         });
         return fault;
     }
 
-    // A search that begins with the chain, of this kind; `find(task, chain)` answers {what, certificate}, or null.
-    fromChain(card, view, name, kind, goesOn, find) {
-        const {workbench} = this, path = workbench.cards.path(card.id);
-        return this.inTask(card, view, goesOn ? `${name} and more` : name, async task => {
-            const found = await find(task, await writtenChain(workbench.facts, path, kind));
+    // A search for a chain of a kind that goes on from the one down to the card, and where the word reads one behind what that is given,
+    // unless it `isAlone`. `find(task, text, named)` answers {what, certificate}, or null; `named(words)` says what is asked.
+    fromChain(card, view, {word, kind, goesOn = false, title = word, isAlone = false}, find) {
+        const {cards, facts, given, words: known} = this.workbench, path = cards.path(card.id);
+        const input = !isAlone && known.has(`${word} given`) ? given.of(path) : null, behind = input ? ` given ${given.nameOf(input)}` : '';
+        return this.inTask(card, view, `${title}${goesOn ? ' and more' : ''}${behind}`, async task => {
+            const chain = await writtenChain(facts, path, kind), text = input ? givenInput(chain, input.problem) : chain;
+            const found = await find(task, text, words => `${words.join(' ')}${behind}`);
             return found &&
                 {...found, cards: await this.cardsOf(found.certificate, {title: found.what, skipped: stagesOf(path).length - 1})};
         });
@@ -245,6 +253,10 @@ export class Searches {
     // Keeps what came out of a run: a certificate by the line of `check`.
     async tried(view, task, what, answer, line = '') {
         const time = performance.now() - task.started, {tries} = this.workbench;
+        if (isUnknown(answer)) {
+            view.noteHint(`${what} isn't available with the programs of this page: they say “${firstLine(answer.text)}”.`);
+            return;
+        }
         if (isFound(answer)) {
             tries.add(view, what, line || 'found', time);
             return;
@@ -253,10 +265,11 @@ export class Searches {
         this.noteNothing(view, what, answer.text.trim(), time);
     }
 
-    // A certificate that adds no card: the line of `check`, and the text that it speaks of.
+    // A certificate that adds no card: the line of `check`, or of `given` behind what is given, and the text that it speaks of.
     async noteNoStep(view, what, certificate) {
-        const {text} = await this.workbench.engine.ask('re', ['check'], certificate, {quiet: true});
-        view.note({kind: 'text', what: `${what}, without a further step: ${text.trim()}`, text: certificate});
+        const {engine} = this.workbench, isGiven = withoutInput(certificate).input !== null;
+        const {text} = await engine.ask(isGiven ? 'explore' : 're', [isGiven ? 'given' : 'check'], certificate, {quiet: true});
+        view.note({kind: 'text', what: `${what}, without a further step: ${firstLine(text)}`, text: certificate});
     }
 
     noteNothing(view, what, text, time) {

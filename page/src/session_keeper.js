@@ -3,6 +3,7 @@ import {$, button, download, element, faulty, replace, say} from './dom.js';
 import {faultLine} from './certificates.js';
 import {titleOf} from './chains.js';
 import {isGraphText, readGraph} from './graphs.js';
+import {withoutInput} from './inputs.js';
 import {isSession, sharedIn} from './sessions.js';
 import {blockOf, problemText} from './problems.js';
 import {blocksOf, fileNameOf} from './texts.js';
@@ -32,10 +33,20 @@ export class Sessions {
             if (shared) await this.openSession(await this.unpacked(shared));
             else if (isSession(text)) await this.openSession(text);
             else if (isGraphText(text) && this.workbench.words.has('solve')) return await this.openGraph(text, title);
-            else if (/^==/m.test(text)) return await this.openCertificate(text, title);
-            else return await this.openProblem(text, title);
+            else return await this.openWithInput(text, title);
             return null;
         } catch (error) { return {fault: error.message}; }
+    }
+
+    // A certificate or a problem, and what is given behind it, if something is.
+    async openWithInput(whole, title) {
+        const {given} = this.workbench, {text, input} = given.isOffered ? withoutInput(whole) : {text: whole, input: null};
+        const {status, text: said} = input === null ? {status: 0} : await this.engine.ask('re', ['read'], input);
+        if (status !== 0)
+            return {fault: `what is given: ${said.trim()}`, line: faultLine(said) && faultLine(said) + text.split('\n').length};
+        const fault = /^==/m.test(text) ? await this.openCertificate(text, title) : await this.openProblem(text, title);
+        if (!fault && input !== null) given.keep(this.workbench.cards.path()[0], {kind: 'problem', problem: said});
+        return fault;
     }
 
     async openProblem(text, title) {
@@ -56,12 +67,15 @@ export class Sessions {
         return null;
     }
 
-    // A problem and a graph, as `explore cover` prints them: the problem becomes a card, and the graph is drawn.
+    // A problem and a graph, as `explore cover` prints them: the problem becomes a card, with what it is given, and the graph is drawn.
     async openGraph(text, title) {
         const {engine, workbench} = this, {status, text: answer} = await engine.ask('explore', ['solve'], text);
         if (status > 1) return {fault: answer.trim(), line: faultLine(answer)};
-        await this.openProblem(readGraph(text).problem, title);
-        const view = workbench.view(workbench.cards.path().at(-1));
+        const {problem, input} = readGraph(text);
+        await this.openProblem(problem, title);
+        const card = workbench.cards.path().at(-1), view = workbench.view(card);
+        if (input !== null && workbench.given.isOffered)
+            workbench.given.keep(card, {kind: 'problem', problem: (await engine.ask('re', ['read'], input, {quiet: true})).text});
         workbench.settling.showGraph(view, 'solve', text).catch(error => view.complain(`solve: ${error.message}`));
         return null;
     }
@@ -165,7 +179,9 @@ export class Sessions {
     }
 
     async unpacked(packed) {
-        return this.engine.work('unpackSession', packed).catch(() => { throw new Error('it is damaged: a part of it lacks, or was changed'); });
+        return this.engine.work('unpackSession', packed).catch(() => {
+            throw new Error('it is damaged: a part of it lacks, or was changed');
+        });
     }
 
     // Nothing is lost: the address stays, and what it holds can be kept as a file.

@@ -70,7 +70,8 @@ export function historyOf({cards, current, done, undone}) {
         if (!places.has(card)) places.set(card, places.size);
         return places.get(card);
     };
-    const row = state => [state.current, state.cards.map(placeOf)], now = row({cards, current}), rows = [done, undone].map(states => states.map(row));
+    const row = state => [state.current, state.cards.map(placeOf)], now = row({cards, current}),
+          rows = [done, undone].map(states => states.map(row));
     return {now, done: rows[0], undone: rows[1], cards: [...places.keys()]};
 }
 

@@ -12,6 +12,9 @@ export function readSettled(text) {
     return parts;
 }
 
+// Whether what `settle` printed leaves a question that more effort may answer.
+export const leavesQuestion = text => readSettled(text).some(({line}) => /\bmore than\b|at least order log\* N$/.test(line));
+
 const isNumber = word => /^\d+$/.test(word);
 
 // Whether what commands find hangs on the names of the labels, where others give them the same order: they name some.
@@ -26,10 +29,15 @@ const unquoted = word => word.replace(/^'(.*)'$/, '$1');
 export function commandsIn(text, programs) {
     const commands = text.split('|').map(part => {
         const [, command, colours, edge] = /^(.*?)(?: given (\d+) colours| with diagram (\S+ \S+))?$/.exec(part.trim()),
-              [program, ...words] = command.split(/\s+/).map(unquoted);
-        return {program, words, ...(colours && {colours: Number(colours)}), ...(edge && {diagram: edge.split(' ').map(unquoted).join(' ')})};
+                                   [program, ...words] = command.split(/\s+/).map(unquoted);
+        return {
+            program,
+            words,
+            ...(colours && {colours: Number(colours)}),
+            ...(edge && {diagram: edge.split(' ').map(unquoted).join(' ')})
+        };
     });
-    const isCommand = ({program, words: [word, ...others]}) => programs.includes(program) && /^[a-z]+$/.test(word || '') &&
-        others.every(other => isNumber(other) || isLabel(other));
+    const isCommand = ({program, words: [word, ...others]}) =>
+        programs.includes(program) && /^[a-z]+$/.test(word || '') && others.every(other => isNumber(other) || isLabel(other));
     return commands.every(isCommand) ? commands : null;
 }

@@ -1,44 +1,90 @@
 // What is known of a problem: the words `settle`, `cover` and `solve` of `explore`, and the commands that show it.
 import {claimNodes} from './claims.js';
-import {button, code, element, hint} from './dom.js';
+import {button, code, element, hint, seconds} from './dom.js';
 import {openGraphDialog} from './graph_view.js';
 import {isGraphText} from './graphs.js';
 import {Stopped} from './engine.js';
 import {givenInput, inputCommand, raisedInput} from './inputs.js';
-import {commandsIn, nameLabels, readSettled} from './settled.js';
+import {commandsIn, leavesQuestion, nameLabels, readSettled} from './settled.js';
 import {runTask} from './tasks.js';
+import {isUnknown} from './words.js';
+
+// The most that `settle` takes.
+const MOST_SETTLE = 64;
 
 export class Settling {
-    constructor(workbench) { this.workbench = workbench; }
+    // The problems of which more is asked at the moment.
+    constructor(workbench) { Object.assign(this, {workbench, running: new Set()}); }
 
-    async settle(card, view) {
-        const {workbench} = this, title = `settle problem ${view.number.textContent}`;
-        const answer = await runTask(workbench.engine, title, task => task.ask('explore', ['settle'], card.problem)).catch(error => {
+    // `effort` bounds what is tried: with twice as much the answer may say more.
+    async settle(card, view, effort = 1) {
+        const {workbench} = this, words = effort > 1 ? ['settle', String(effort)] : ['settle'], what = words.join(' '),
+              title = `${what} problem ${view.number.textContent}`, known = this.answers(view)[0];
+        const isHere = view.remarks.contains(document.activeElement);
+        this.running.add(view.card.problem);
+        workbench.notes.show(view);
+        if (isHere) view.node.focus({preventScroll: true});
+        let time = 0;
+        const answer = await runTask(workbench.engine, title, async task => {
+            task.state = known ? `so far: ${readSettled(known.text)[0].line}` : '';
+            const said = await task.ask('explore', words, card.problem);
+            time = performance.now() - task.started;
+            return said;
+        }).catch(error => {
             view.noteHint(`${title}: ${error instanceof Stopped ? 'stopped.' : error.message}`);
             return null;
         });
-        if (!answer) return;
-        if (answer.status > 1) {
-            view.complain(answer.text.trim());
+        this.running.delete(view.card.problem);
+        if (!answer || answer.status > 1) {
+            workbench.notes.show(view);
+            if (answer && isUnknown(answer)) view.noteHint(`${what} isn't available with the programs of this page.`);
+            else if (answer) view.complain(answer.text.trim());
             return;
         }
-        for (const {line} of readSettled(answer.text)) workbench.tries.add(view, line.startsWith('with ') ? 'settle, with identifiers' : 'settle', line);
-        view.note({kind: 'settled', text: answer.text});
+        for (const {line} of readSettled(answer.text))
+            workbench.tries.add(view, line.startsWith('with ') ? `${what}, with identifiers` : what, line, time);
+        workbench.notes.replace(view, note => note.kind === 'settled' && (note.what || 'settle') === what);
+        view.note({kind: 'settled', what, text: answer.text, more: seconds(time)});
+    }
+
+    // What was answered on a card, that with the most effort first.
+    answers(view) {
+        const effortOf = ({what = 'settle'}) => Number(what.split(' ')[1] || 1);
+        return this.workbench.notes.of(view.card)
+            .filter(({kind}) => kind === 'settled')
+            .map(note => ({...note, effort: effortOf(note)}))
+            .sort((a, b) => b.effort - a.effort);
     }
 
     // What `settle` printed: its claim, with what shows it, and below it each further line, as that on unique identifiers.
-    lines(view, text) {
-        return readSettled(text).map(({line, shownBy}, i) => element('div.settled', {}, element('strong', {}, i ? '' : 'settle: '),
-            claimNodes(line), ' ', this.buttons(view.card, view, shownBy)));
+    lines(view, {text, what = 'settle', more}) {
+        return [
+            ...readSettled(text).map(({line, shownBy}, i) => element('div.settled', {}, element('strong', {}, i ? '' : `${what}: `),
+                                         claimNodes(line), ' ', this.buttons(view.card, view, shownBy), i ? null : hint(more))),
+            this.moreEffort(view, what)
+        ];
+    }
+
+    // Behind the answer with the most effort, while it leaves a question: a button that asks with twice as much.
+    moreEffort(view, what) {
+        const [most] = this.answers(view), {running, workbench} = this;
+        if (most?.what !== what || !workbench.words.has('settle N') || most.effort >= MOST_SETTLE || !leavesQuestion(most.text))
+            return null;
+        if (running.has(view.card.problem)) return hint(`settle ${2 * most.effort} runs…`);
+        return button('More effort', () => this.settle(view.card, view, 2 * most.effort),
+            {title: `explore settle ${2 * most.effort}: each try with twice the work; what is known so far stays`, class: 'more-effort'});
     }
 
     // A button for each command that shows what is known: it opens the chain, or draws the graph. Where it was found under other names,
     // [[label, name]], the problem takes these first, if what the command finds hangs on them: it does on the order of the labels.
     buttons(card, view, shownBy, {names = [], isInOrder = true} = {}) {
-        const isNamed = names.every(([label, name]) => label === name);
+        const {engine, words} = this.workbench, isNamed = names.every(([label, name]) => label === name);
         return element('span.group.by', {}, shownBy.length ? hint('shown by') : null, shownBy.map(text => {
-            const commands = commandsIn(text, Object.keys(this.workbench.engine.programs));
+            const commands = commandsIn(text, Object.keys(engine.programs));
             if (!commands) return code(text);
+            // A table may name words that the program lacks.
+            const lacking = commands.find(command => command.program === 'explore' && !words.has(command.words[0]));
+            if (lacking) return element('span.code', {title: `The program explore of this page has no word ${lacking.words[0]}.`}, text);
             const under = !isNamed && (!isInOrder || nameLabels(commands)) ? names : null,
                   where = under ? `, under the names ${under.map(pair => pair.join(' → ')).join(', ')}` : '';
             return button(text, () => this.open(card, view, text, commands, under),
@@ -48,15 +94,15 @@ export class Settling {
 
     // Runs commands on the card's problem, each on what the one before prints.
     open(card, view, what, commands, names = null) {
-        const {changes, searches} = this.workbench;
+        const {changes, searches, sessions} = this.workbench;
         return searches.inTask(card, view, what, async task => {
             const named = names ? [await changes.underNames(card, view, names)] : [];
             if (named.includes(null)) return null;
             let answer = {text: [card, ...named].at(-1).problem}, given;
-            for (const {program, words, colours, diagram} of commands) {
+            for (const {program, words, colours, diagram, input} of commands) {
                 if (colours) given = await this.colouring(task, card, colours);
-                const {text} = answer;
-                answer = await task.ask(program, words, colours ? givenInput(text, given.problem) : diagram ? raisedInput(text, [diagram]) : text);
+                const {text} = answer, behind = input || colours && given.problem;
+                answer = await task.ask(program, words, behind ? givenInput(text, behind) : diagram ? raisedInput(text, [diagram]) : text);
                 if (answer.status !== 0) break;
             }
             if (isGraphText(answer.text)) {
@@ -67,23 +113,39 @@ export class Settling {
                 await searches.tried(view, task, what, answer);
                 return null;
             }
+            if (!await this.speaksOf([card, ...named].at(-1), answer.text)) {
+                await sessions.openText(answer.text, what);
+                return null;
+            }
             const found = await searches.cardsOf(answer.text, {title: what, offset: searches.stepsAbove(card)});
             return {what, certificate: answer.text, cards: found.length ? [...named, ...found] : [], given};
         });
     }
 
+    // Whether a certificate begins with a card's problem: behind `explore reduce` it speaks of another one, and is a chain of its own.
+    async speaksOf(card, certificate) {
+        const {engine} = this.workbench, {first} = await engine.work('readCertificate', certificate);
+        return (await engine.ask('re', ['read'], first, {quiet: true})).text === card.problem;
+    }
+
     // A proper colouring as what is given to a card's problem.
     async colouring(task, card, count) {
         const {active, passive} = this.workbench.facts.of(card.problem).problem,
-              {program, words} = inputCommand(this.workbench.words, 'colouring', {active, passive}, count),
-              {status, text} = await task.ask(program, words);
+                       {program, words} = inputCommand(this.workbench.words, 'colouring', {active, passive}, count),
+                       {status, text} = await task.ask(program, words);
         if (status !== 0) throw new Error(`${program} ${words.join(' ')}: ${text.trim()}`);
         return {kind: 'colouring', count, problem: text};
     }
 
     // ---- Graphs without a solution.
 
-    cover(card, view, m) { return this.open(card, view, `cover ${m}`, [{program: 'explore', words: ['cover', String(m)]}]); }
+    // Of what the nodes are given, where the program reads it, a graph with a solution of that.
+    cover(card, view, m) {
+        const {cards, given, words} = this.workbench, path = cards.path(card.id),
+                             input = words.has('cover given') ? given.at(path, card) : null;
+        return this.open(card, view, `cover ${m}${input ? ` given ${given.nameOf(given.of(path))}` : ''}`,
+            [{program: 'explore', words: ['cover', String(m)], input}]);
+    }
 
     async showGraph(view, what, text) {
         const {line} = await this.solve(text).then(({text: said}) => ({line: said.trim().split('\n', 1)[0]}));

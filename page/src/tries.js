@@ -24,7 +24,8 @@ export class Tries {
         box.hidden = !list.length;
         replace(box.firstChild, `Tried on this problem: ${plural(list.length, 'command')}`);
         replace(box.querySelector('tbody'),
-            list.map(({what, line, time}) => element('tr', {}, element('td.code', {}, what), element('td', {title: line}, lineText(inWords(line)), hint(` ${modelOf(line)}`)),
+            list.map(({what, line, time}) => element('tr', {}, element('td.code', {}, what),
+                         element('td', {title: line}, lineText(inWords(line)), hint(` ${modelOf(line)}`)),
                          element('td.soft', {}, time === null ? '' : seconds(time)))));
     }
 }

@@ -1,7 +1,21 @@
 // The words of the program `explore`, as its own help tells them: what it lacks isn't offered.
 
-// A line of help begins with its word, as `longest K L: reads a chain, gives ..`.
-export const wordsIn = help => new Set(help.split('\n').map(line => /^[a-z]+(?=[^:]*: )/.exec(line)?.[0]).filter(Boolean));
+// A line of help begins with the forms of its word, as `settle, settle N: reads a problem, ..`. Beside the word stand `settle N`, where a
+// form has a number behind it, and `longest given`, where it reads an input problem too.
+export function wordsIn(help) {
+    const words = new Set();
+    for (const line of help.split('\n')) {
+        const [, word, forms, says] = /^([a-z]+)([^:]*): (.*)/.exec(line) || [];
+        if (!word) continue;
+        words.add(word);
+        if (/ [A-Z]/.test(forms)) words.add(`${word} N`);
+        if (says.includes('== given')) words.add(`${word} given`);
+    }
+    return words;
+}
+
+// What a program says of a word that it lacks, or of a number that it doesn't take.
+export const isUnknown = ({text}) => text.startsWith('words: ');
 
 // None where the page holds no such program.
 export async function wordsOfExplore(engine) {

@@ -59,10 +59,13 @@ function faultsShown() {
         if (isShown(node) && !node.closest('.picked') && ratio < 4.5) say(node, `contrast ${ratio.toFixed(2)}`);
     }
     for (const node of document.querySelectorAll('figure, [role=status], [role=log], [role=alert], section, aside, nav'))
-        if (isShown(node) && !node.getAttribute('aria-label') && !node.closest('.problem section') && node.parentElement.tagName !== 'ASIDE') say(node, 'a region without a name');
+        if (isShown(node) && !node.getAttribute('aria-label') && !node.closest('.problem section') &&
+            node.parentElement.tagName !== 'ASIDE')
+            say(node, 'a region without a name');
     for (const node of document.querySelectorAll(':is(h1, h2, h3, h4) :is(button, input, select, a)')) say(node, 'a control in a heading');
     for (const node of document.querySelectorAll('input, select, textarea'))
-        if (isShown(node) && (node.getAttribute('aria-label') || node.labels?.[0]?.textContent || '').trim().length < 3) say(node, 'a name that says nothing');
+        if (isShown(node) && (node.getAttribute('aria-label') || node.labels?.[0]?.textContent || '').trim().length < 3)
+            say(node, 'a name that says nothing');
     const ids = [...document.querySelectorAll('[id]')].map(node => node.id);
     ids.filter((id, i) => ids.indexOf(id) !== i).forEach(id => faults.add(`twice: ${id}`));
     for (const image of document.querySelectorAll('svg[role=img]'))

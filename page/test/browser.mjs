@@ -20,6 +20,9 @@ function connect(child) {
             const message = JSON.parse(rest.slice(0, end));
             if (!message.id) {
                 events.push(message);
+                // A page that asks before it is left is left.
+                if (message.method === 'Page.javascriptDialogOpening')
+                    send('Page.handleJavaScriptDialog', {accept: true}, message.sessionId);
                 continue;
             }
             const {resolve, reject} = waiting.get(message.id);
@@ -77,13 +80,15 @@ class Page {
     // The page opened by a user who never had it open: nothing is kept from before.
     async go(address = `file://${pageFile}`) {
         // What still runs is stopped, so that the browser doesn't ask before the page is left.
-        await this.value(`(() => { if (!globalThis.bench) return;
+        await this.value(`(async () => { if (!globalThis.bench) return;
             engine.tasks.clear();
             [...engine.running, ...engine.waiting].forEach(job => job.stop());
+            // A session that was about to be kept says by now that it wasn't.
+            await new Promise(resolve => setTimeout(resolve, 20));
             bench.sessions.noteSaved(true);
             bench.sessions.noteBusy(false); })()`);
-        const {identifier} =
-            await this.ask('Page.addScriptToEvaluateOnNewDocument', {source: 'try { localStorage.clear(); sessionStorage.clear(); } catch {}'});
+        const {identifier} = await this.ask(
+            'Page.addScriptToEvaluateOnNewDocument', {source: 'try { localStorage.clear(); sessionStorage.clear(); } catch {}'});
         await this.ask('Page.navigate', {url: 'about:blank'});
         await this.open(address);
         await this.ask('Page.removeScriptToEvaluateOnNewDocument', {identifier});

@@ -9,10 +9,12 @@ import {checked} from './checks.mjs';
 import {sourceIn, unpacked} from '../held.mjs';
 import {catalogueTables, html, namesOfPrograms, pageFolder, wasmOf} from './place.mjs';
 
-const text = html(), built = /This file holds <span class="build">([^]*?)<\/span>/.exec(text)[1];
+const LARGEST_REST = 450000;
+const text = html(), rest = text.length - /id="programs">([^]*?)<\/script>/.exec(text)[1].length,
+      built = /This file holds <span class="build">([^]*?)<\/span>/.exec(text)[1];
 
 await checked('its size and what it holds', (checks, context) => {
-    checks.check(`under 1.05 MB: ${text.length}`, text.length < 1050000);
+    checks.check(`at most 0.45 MB beside its programs: ${rest} of ${text.length}`, rest < LARGEST_REST);
     checks.check(`its commit is written into it: ${built}`, /from commit [0-9a-f]{40}\b/.test(built));
     checks.equal('the programs', namesOfPrograms(), ['re', 'explore']);
     for (const name of namesOfPrograms())
@@ -29,8 +31,8 @@ await checked('made anew from its sources', checks => {
         const {status, stdout} = spawnSync('node', [join(pageFolder, 'bundle.mjs'), again, ...words]);
         return `${status} ${stdout.toString().endsWith(' bytes\n')} ${existsSync(again) && readFileSync(again, 'utf8') === text}`;
     };
-    checks.equal('bundle.mjs makes the same file in an empty folder', made(...namesOfPrograms().map(name => `${name}=${file(name)}=${sourceIn(text, name)}`)),
-        '0 true true');
+    checks.equal('bundle.mjs makes the same file in an empty folder',
+        made(...namesOfPrograms().map(name => `${name}=${file(name)}=${sourceIn(text, name)}`)), '0 true true');
     // Over a file whose own modules were lost, of the programs that it holds.
     writeFileSync(again, text.replace(/<script type="module">[^]*?<\/script>/, '<script type="module"></script>'));
     checks.equal('and over a page with other modules', made(), '0 true true');
@@ -42,7 +44,7 @@ await checked('the catalogue is that of the examples', checks => {
     for (const [name, table] of Object.entries(tables)) {
         // One that is left out has no room.
         if (held[name]) checks.check(name, unpacked(held[name]).toString() === table);
-        else checks.check(`${name} has no room`, text.length + deflateRawSync(table, {level: 9}).length * 4 / 3 >= 1050000);
+        else checks.check(`${name} has no room`, rest + deflateRawSync(table, {level: 9}).length * 4 / 3 >= LARGEST_REST);
     }
     checks.check('no other tables', Object.keys(held).length > 0 && Object.keys(held).every(name => tables[name]));
 });

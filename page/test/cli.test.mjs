@@ -68,10 +68,12 @@ await checked('what a shell gives: an empty argument, streams that fail, argumen
         shell(`RE read < /dev/null${behind}`, 'an empty input');
     }
     // Streams that another program than a shell throws away are open.
-    checks.equal('ignored', spawnSync(process.execPath, [cli, 're', 'family', 'mis', '3', '2', '0'], {stdio: ['ignore', 'ignore', 'ignore']}).status, 0);
+    checks.equal('ignored',
+        spawnSync(process.execPath, [cli, 're', 'family', 'mis', '3', '2', '0'], {stdio: ['ignore', 'ignore', 'ignore']}).status, 0);
     const alone = spawnSync(process.execPath, [cli], {input: ''});
     checks.check(`alone it says how it is used: ${alone.stderr}`,
-        alone.status === 2 && !alone.stdout.length && alone.stderr.toString().startsWith('usage: node page/cli.mjs PROGRAM WORD.. < FILE\n'));
+        alone.status === 2 && !alone.stdout.length &&
+            alone.stderr.toString().startsWith('usage: node page/cli.mjs PROGRAM WORD.. < FILE\n'));
     checks.equal('no such program', spawnSync(process.execPath, [cli, 'what', 'check'], {input: ''}).status, 2);
 });
 

@@ -7,6 +7,7 @@ import {checked} from './checks.mjs';
 import {User} from './user.mjs';
 import {boundsSessions} from './user/bounds.mjs';
 import {changesSessions} from './user/changes.mjs';
+import {effortSessions} from './user/effort.mjs';
 import {failuresSessions} from './user/failures.mjs';
 import {givenSessions} from './user/given.mjs';
 import {inAndOutSessions} from './user/in_and_out.mjs';
@@ -47,6 +48,7 @@ const picture = async (name, ...selectors) => {
 const sessions = {
     ...boundsSessions,
     ...changesSessions,
+    ...effortSessions,
     ...failuresSessions,
     ...givenSessions,
     ...inAndOutSessions,

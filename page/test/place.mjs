@@ -38,8 +38,10 @@ export function catalogueTables() {
 }
 export const linesOfTable = text => text.trimEnd().split('\n').map(line => line.split('\t'));
 // What the columns behind a problem claim: [{line, shownBy}].
-export const claimsOfLine = ([claim, by, identifiers, identifiersBy = '']) => [[claim, by], [identifiers && `with identifiers: ${identifiers}`, identifiersBy]]
-    .filter(([line]) => line).map(([line, commands]) => ({line, shownBy: commands ? commands.split('; ') : []}));
+export const claimsOfLine = ([
+    claim, by, identifiers, identifiersBy = ''
+]) => [[claim, by], [identifiers && `with identifiers: ${identifiers}`, identifiersBy]].filter(([line]) => line).map(([line,
+    commands]) => ({line, shownBy: commands ? commands.split('; ') : []}));
 
 // Numbers from a seed, the same ones each time: random(n) is below n.
 export function randomFrom(seed) {

@@ -4,13 +4,16 @@ import {natively} from './place.mjs';
 
 export const explored = wordsIn(natively('explore', ['help']).text);
 
-// Gives the page words, with their answers {'settle': [status, text]} whatever is read, until the page is opened anew.
-export async function teach(page, answers) {
+// Gives the page words, with their answers {'settle': [status, text]} whatever is read, until the page is opened anew. `forms` are further
+// ones as words.js has them, as `longest given`. What is sent is kept in `sent`, as [words, text].
+export async function teach(page, answers, forms = []) {
     await page.value(`(() => {
         const taught = ${JSON.stringify(answers)}, start = engine.start.bind(engine);
-        for (const words of Object.keys(taught)) bench.words.add(words.split(' ')[0]);
+        for (const words of [...Object.keys(taught).map(words => words.split(' ')[0]), ...${JSON.stringify(forms)}]) bench.words.add(words);
+        window.sent = [];
         engine.start = (program, words, input, options) => {
             const given = program === 'explore' && taught[words.join(' ')];
+            sent.push([words.join(' '), input]);
             return given ? {title: words.join(' '), started: 0, isOver: true, stop() {}, answer: Promise.resolve({status: given[0], text: given[1]})} : start(program, words, input, options);
         };
     })()`);

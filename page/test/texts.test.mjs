@@ -6,16 +6,16 @@ import * as certificates from '../src/certificates.js';
 import * as chains from '../src/chains.js';
 import * as sessions from '../src/sessions.js';
 import {catalogueLine, namedForCatalogue, tableName} from '../src/catalogue.js';
-import {graphPlaces, isGraphText, readGraph, readSolution} from '../src/graphs.js';
-import {inputCommand, raisedInput, readFit, readGiven} from '../src/inputs.js';
+import {graphInput, graphPlaces, isGraphText, readGraph, readSolution} from '../src/graphs.js';
+import {inputCommand, raisedInput, readFit, readGiven, withoutInput} from '../src/inputs.js';
 import {findRelaxation, findRenaming} from '../src/maps.js';
 import {blocksOfReport, latexOfReport, partsOfText, roundsOfGraph} from '../src/reports.js';
-import {commandsIn, nameLabels, readSettled} from '../src/settled.js';
+import {commandsIn, leavesQuestion, nameLabels, readSettled} from '../src/settled.js';
 import {clauseFault} from '../src/certificates.js';
 import {inWords, modelOf} from '../src/claims.js';
 import {nameOfJob} from '../src/job_names.js';
 import {sharedIn} from '../src/sessions.js';
-import {wordsIn} from '../src/words.js';
+import {isUnknown, wordsIn} from '../src/words.js';
 import {deliveriesOf, randomFrom, readRun, runInput, treeAround} from '../src/trees.js';
 import {checked} from './checks.mjs';
 import {answer, catalogueTables, certificatesOfGallery, claimsOfLine, example, linesOfTable, namesIn, natively, randomFrom as numbersFrom, re} from './place.mjs';
@@ -149,7 +149,15 @@ await about('trees', () => {
 await about('words of help', () => {
     is('words of help',
         [...wordsIn('help: reads nothing\nlongest K L: reads a chain, gives ..\nbegin lower: ..\nbegin upper: ..\n\nno word\n')],
-        ['help', 'longest', 'begin']);
+        ['help', 'longest', 'longest N', 'begin']);
+    is('a word with a number or without, and one that reads what is given',
+        [
+            ...wordsIn(
+                'settle, settle N: reads a problem, gives ..\ncycle K M N: reads a chain, or one with a line == given and an input problem, gives ..\n')
+        ],
+        ['settle', 'settle N', 'cycle', 'cycle N', 'cycle given']);
+    is('a word that the program lacks', ['words: not a command\nhelp: ..', 'not found: graphs 3\n'].map(text => isUnknown({text})),
+        [true, false]);
 });
 
 const path = [
@@ -208,8 +216,7 @@ await about('what is given', () => {
     const refused = readGiven(
         'refused: given that input, step 2, clause END\nyes\n1 [A]\nholds: given that input, not solvable in 1 or fewer rounds\n');
     is('refused, with what holds still', [refused.accepted, refused.line, refused.still, refused.map], [
-        false, 'refused: given that input, step 2, clause END', 'holds: given that input, not solvable in 1 or fewer rounds',
-        [['1', '[A]']]
+        false, 'refused: given that input, step 2, clause END', 'holds: given that input, not solvable in 1 or fewer rounds', [['1', '[A]']]
     ]);
 });
 
@@ -234,26 +241,39 @@ await about('what settles a problem', () => {
     is('lines', readSettled('more than 4, at most 6 (3 rounds of the graph)\nby: re lower 4 0\nby: re upper 6 1\n'),
         [{line: 'more than 4, at most 6 (3 rounds of the graph)', shownBy: ['re lower 4 0', 're upper 6 1']}]);
     is('further lines, each with what shows it, whatever they are',
-        readSettled('not solvable in any number of rounds\nby: re fixed 4 0\nwith identifiers: order log* N\nby: explore rounds 8 given 4 colours\nanother line\n'),
+        readSettled(
+            'not solvable in any number of rounds\nby: re fixed 4 0\nwith identifiers: order log* N\nby: explore rounds 8 given 4 colours\nanother line\n'),
         [
             {line: 'not solvable in any number of rounds', shownBy: ['re fixed 4 0']},
             {line: 'with identifiers: order log* N', shownBy: ['explore rounds 8 given 4 colours']}, {line: 'another line', shownBy: []}
         ]);
+    is('what leaves a question',
+        [
+            'exactly 4 (2 rounds of the graph)\n', 'not solvable in any number of rounds\nwith identifiers: order log* N\n',
+            'more than 4\n', 'more than 4, at most 6\n', 'exactly 4\nwith identifiers: constant, more than 1, at most 4\n',
+            'not solvable in any number of rounds\nwith identifiers: at least order log* N\n',
+            'not solvable in any number of rounds\nwith identifiers: at least order log N\n'
+        ].map(leavesQuestion),
+        [false, false, true, true, true, true, false]);
     is('a command', commandsIn('explore cycle 3 1 2000', ['re', 'explore']), [{program: 'explore', words: ['cycle', '3', '1', '2000']}]);
     is('a command with a colouring that is given', commandsIn('explore shortest 12 8 given 4 colours', ['re', 'explore']),
         [{program: 'explore', words: ['shortest', '12', '8'], colours: 4}]);
     for (const [a, b] of [['A', 'B'], [`'A'`, `'B'`]])
         is('a pipe', commandsIn(`explore merge ${a} ${b} | explore closure`, ['re', 'explore']),
             [{program: 'explore', words: ['merge', 'A', 'B']}, {program: 'explore', words: ['closure']}]);
-    is('labels with long names', commandsIn(`explore merge '(Far)' 'B'`, ['explore']), [{program: 'explore', words: ['merge', '(Far)', 'B']}]);
+    is('labels with long names', commandsIn(`explore merge '(Far)' 'B'`, ['explore']),
+        [{program: 'explore', words: ['merge', '(Far)', 'B']}]);
     is('a diagram', commandsIn('explore closure with diagram (Far) C', ['explore']),
         [{program: 'explore', words: ['closure'], diagram: '(Far) C'}]);
+    is('a text with an input problem', ['A\n\nA\n== given\nB\n\nB\n', 'A\n\nA\n'].map(withoutInput),
+        [{text: 'A\n\nA\n', input: 'B\n\nB\n'}, {text: 'A\n\nA\n', input: null}]);
     is('what a diagram raises', raisedInput('A B\n\nA B\n', ['A B']), 'A B\n\nA B\n== diagram\nA B\n');
     is('names of labels',
         ['explore merge A B | explore closure', 'explore closure with diagram A B', 're lower 2 0', 'explore step | explore closure 2'].map(
             text => nameLabels(commandsIn(text, ['re', 'explore']))),
         [true, true, false, false]);
-    is('no command', ['rm file', 're', 'explore closure of problem A', `explore merge 'A' 'B`, ''].map(text => commandsIn(text, ['re', 'explore'])),
+    is('no command',
+        ['rm file', 're', 'explore closure of problem A', `explore merge 'A' 'B`, ''].map(text => commandsIn(text, ['re', 'explore'])),
         [null, null, null, null, null]);
 });
 
@@ -264,21 +284,24 @@ await about('what lines say in words', () => {
             'with identifiers: at least order log N', 'accepted: solvable in 1 rounds', 'more than 4'
         ].map(modelOf),
         ['with port numbers alone', 'with port numbers and that input', '', '', '']);
-    is('a search that found nothing', ['not found: nodes 15, cut 0', 'not found: nodes 1, cut 3', 'not found: graphs 16', 'more than 4'].map(inWords), [
-        'not found: 15 problems looked at, none of them cut at a limit', 'not found: 1 problem looked at, 3 of them cut at a limit',
-        'not found: 16 graphs tried', 'more than 4'
-    ]);
-    is('a refusal at END says what is wrong',
-        ['lower', 'upper'].map(kind => clauseFault({clause: 'END', kind})), [
-            'END: the last problem is solvable in 0 rounds, so this is no lower bound',
-            'END: the last problem is not solvable in 0 rounds, with port numbers alone, so this is no upper bound'
+    is('a search that found nothing',
+        ['not found: nodes 15, cut 0', 'not found: nodes 1, cut 3', 'not found: graphs 16', 'more than 4'].map(inWords), [
+            'not found: 15 problems looked at, none of them cut at a limit', 'not found: 1 problem looked at, 3 of them cut at a limit',
+            'not found: 16 graphs tried', 'more than 4'
         ]);
-    is('jobs by what they do', ['groups', 'zero', 'readCertificate', 'check, lower', 'diagram passive', 'lower 8 2 from problem 1', 'step of problem 1'].map(nameOfJob),
+    is('a refusal at END says what is wrong', ['lower', 'upper'].map(kind => clauseFault({clause: 'END', kind})), [
+        'END: the last problem is solvable in 0 rounds, so this is no lower bound',
+        'END: the last problem is not solvable in 0 rounds, with port numbers alone, so this is no upper bound'
+    ]);
+    is('jobs by what they do',
+        ['groups', 'zero', 'readCertificate', 'check, lower', 'diagram passive', 'lower 8 2 from problem 1', 'step of problem 1'].map(
+            nameOfJob),
         [
             'writing a problem in groups', 'asking for 0 rounds', 'reading a certificate', 'checking the chain', 'asking for a diagram',
             'lower 8 2 from problem 1', 'step of problem 1'
         ]);
-    is('a session that was shared', [`MIS: 2 cards. Open it.\n#s=eJw-_9\n`, 'file:///a/workbench.html#s=eJw', 'A B\n\nA B\n', '{"format": 1}'].map(sharedIn),
+    is('a session that was shared',
+        [`MIS: 2 cards. Open it.\n#s=eJw-_9\n`, 'file:///a/workbench.html#s=eJw', 'A B\n\nA B\n', '{"format": 1}'].map(sharedIn),
         ['eJw-_9', 'eJw', null, null]);
 });
 
@@ -287,6 +310,14 @@ await about('finite graphs', () => {
     is('read', [isGraphText(text), graph.count, graph.passive.length, graph.passive[2]],
         [true, 2, 3, [{node: 1, port: 3}, {node: 2, port: 3}]]);
     is('of another form', [readGraph('A\n\nA\n== graph\n1.1 x\n'), readGraph('A\n\nA\n'), isGraphText('A B\n')], [null, null, false]);
+    const whole = 'M^3\n\nM^2\n== given\nA B C\n\nA B\n== graph\n1.1 1.2\n2.1 2.2\n1.3 2.3\n== labels\nA B C\nB A (Far)\n',
+          given = readGraph(whole);
+    is('with what is given', [given.problem, given.input, given.lines.length, given.count, given.given],
+        ['M^3\n\nM^2', 'A B C\n\nA B', 3, 2, [['A', 'B', 'C'], ['B', 'A', '(Far)']]]);
+    is('without', [graph.input, graph.given], [null, null]);
+    is('as solve reads them',
+        [graphInput(graph.problem, graph.lines), graphInput(given.problem, given.lines, given.input, ['A B C', 'B A (Far)'])],
+        [text, whole]);
     const {active, passive} = graphPlaces(graph), all = [...active, ...passive];
     is('places',
         [

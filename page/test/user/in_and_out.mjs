@@ -93,7 +93,8 @@ export const inAndOutSessions = {
         await user.openProblem(...MIS);
         await user.step(2);
         await page.choose('#given-kind', 'a colouring');
-        const line = await page.until(`document.querySelector('#given-line .line')?.textContent`), input = await page.value('bench.cards.path()[0].given.problem');
+        const line = await page.until(`document.querySelector('#given-line .line')?.textContent`),
+              input = await page.value('bench.cards.path()[0].given.problem');
         await user.watchCopies();
         await page.click('#report');
         await page.until(`document.querySelector('.paper')?.textContent.includes('What is given')`);
@@ -103,11 +104,14 @@ export const inAndOutSessions = {
         checks.check('its name', (await page.value(`document.querySelector('.paper').textContent`)).includes('a colouring, 4 colours'));
         await page.click('#report-box button', 'Copy Markdown');
         const text = await user.copied();
-        checks.check('in the Markdown', text.startsWith(natively('explore', ['describe'], await user.certificate()).text) && text.includes(`    ${line}\n`));
+        checks.check('in the Markdown',
+            text.startsWith(natively('explore', ['describe'], await user.certificate()).text) && text.includes(`    ${line}\n`));
         await page.click('#report-box button', 'Copy LaTeX');
         checks.check('in the LaTeX', (await user.copied()).includes(line));
         await page.ask('Emulation.setEmulatedMedia', {media: 'print'});
-        checks.check('on paper', await page.value(`['#given-kind', '#given input', '#given-line .line'].every(selector => document.querySelector(selector).getClientRects().length)`));
+        checks.check('on paper',
+            await page.value(
+                `['#given-kind', '#given input', '#given-line .line'].every(selector => document.querySelector(selector).getClientRects().length)`));
         await page.ask('Emulation.setEmulatedMedia', {media: ''});
         await page.choose('#given-kind', 'nothing');
         await page.until(`!document.querySelector('.paper').textContent.includes('What is given')`);

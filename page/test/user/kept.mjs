@@ -49,8 +49,9 @@ export const keptSessions = {
         await page.click('#theme');
         await wait(700);
         await kept(page);
-        const seen = `[[...document.querySelectorAll('.card.last .note')].map(note => note.textContent), document.querySelector('.card.last .tried').textContent.replace(/[\\d.]+ s/, ''), ${
-            texts}, document.querySelector('#given-kind')?.value, bench.cards.done.length, document.documentElement.dataset.theme]`;
+        const seen =
+            `[[...document.querySelectorAll('.card.last .note')].map(note => note.textContent), document.querySelector('.card.last .tried').textContent.replace(/[\\d.]+ s/, ''), ${
+                texts}, document.querySelector('#given-kind')?.value, bench.cards.done.length, document.documentElement.dataset.theme]`;
         const before = await page.value(seen);
         await page.reload();
         await page.until(`${cardsAre(2)} && ${drawn} && document.querySelector('#verdict-line')`);
@@ -74,6 +75,21 @@ export const keptSessions = {
         checks.equal('the last word', (await page.until(`document.querySelector('#editor .state').textContent && ${texts}`))[0], 'D^3');
     },
 
+    async 'light and dark at once'(user, page, checks) {
+        const theme = 'document.documentElement.dataset.theme',
+              before = await page.value(`matchMedia('(prefers-color-scheme: dark)').matches`);
+        await page.click('#theme');
+        await page.reload();
+        checks.equal('behind a reload at once', await page.value(theme), before ? 'light' : 'dark');
+        checks.equal('for another tab too', await page.value(`localStorage.getItem('re-workbench-theme')`), before ? 'light' : 'dark');
+        // A browser whose storage is full or shut: the tab keeps it.
+        await page.value(
+            `Storage.prototype.setItem = (set => function(...words) { if (this === localStorage) throw new Error('full'); set.apply(this, words); })(Storage.prototype.setItem)`);
+        await page.click('#theme');
+        await page.reload();
+        checks.equal('where the browser keeps nothing', await page.value(theme), before ? 'dark' : 'light');
+    },
+
     async 'the file opened anew'(user, page, checks) {
         await user.openProblem(...MIS);
         await user.step(2);
@@ -90,19 +106,22 @@ export const keptSessions = {
         await wait(900);
         await page.open();
         checks.equal('both are there',
-            await page.until(`document.querySelectorAll('.welcome.last button').length === 2 && [...document.querySelectorAll('.welcome.last button')].map(node => node.textContent)`),
+            await page.until(
+                `document.querySelectorAll('.welcome.last button').length === 2 && [...document.querySelectorAll('.welcome.last button')].map(node => node.textContent)`),
             ['1^3, 1 card', 'M^3, 2 cards']);
         await page.click('.welcome.last button', 'M^3');
         await page.until(cardsAre(2));
         await user.says('accepted: not solvable in 1 or fewer rounds');
         checks.equal('with its notes', await page.value(`document.querySelectorAll('.card.last .note').length`), 1);
         // What others could write there is examined as a foreign session is.
-        await page.value(`localStorage.setItem('re-workbench-last', '[{"tab": "x", "title": "<b>x</b>", "count": 2, "packed": "{\\\\"a\\\\": 1}"}]')`);
+        await page.value(
+            `localStorage.setItem('re-workbench-last', '[{"tab": "x", "title": "<b>x</b>", "count": 2, "packed": "{\\\\"a\\\\": 1}"}]')`);
         await page.value('sessionStorage.clear()');
         await page.value(`bench.keeper.isReady = false`);
         await page.open();
         await page.click('.welcome.last button');
-        checks.check('damaged', (await page.until(`document.querySelector('#message.fault')?.textContent`)).startsWith(`That session can't be opened: `));
+        checks.check('damaged',
+            (await page.until(`document.querySelector('#message.fault')?.textContent`)).startsWith(`That session can't be opened: `));
         checks.equal('the page is as before', await page.value('bench.cards.cards.length'), 0);
     },
 

@@ -34,7 +34,8 @@ const sessions = {
         await page.until(`document.querySelector('#verdict-line')?.textContent.includes('in 3 or')`);
         await page.click('#undo');
         await settled();
-        checks.equal('of the chain that is shown', await page.value(`[...document.querySelectorAll('#rounds-of-graph')].map(node => node.textContent)`),
+        checks.equal('of the chain that is shown',
+            await page.value(`[...document.querySelectorAll('#rounds-of-graph')].map(node => node.textContent)`),
             [` · Problem 0 isn't solvable in 1 or fewer rounds of the graph.`]);
     },
 
@@ -76,12 +77,21 @@ const sessions = {
         await page.choose('#given-kind', 'a colouring');
         const line = `document.querySelector('#given-line').textContent`;
         await page.until(`${line}.includes('in 1 or fewer')`);
+        // While the next chain is checked nothing is said of it.
+        await delay(page, ['check'], LATE);
+        await user.act('Step');
+        await page.until(cardsAre(3));
+        checks.equal('nothing of the chain before', await page.value(line), 'asking…');
+        await page.until(`${line}.includes('in 2 or fewer')`);
+        await page.click('#undo');
+        await page.until(`${line}.includes('in 1 or fewer')`);
         await delay(page, ['given'], LATE);
         await user.step(3);
         await page.until(`document.querySelector('#verdict-line')?.textContent.includes('in 2 or fewer')`);
         await page.click('#undo');
         await settled();
-        const wanted = natively('explore', ['given'], `${await user.certificate()}== given\n${await page.value('bench.cards.path()[0].given.problem')}`)
+        const wanted = natively(
+            'explore', ['given'], `${await user.certificate()}== given\n${await page.value('bench.cards.path()[0].given.problem')}`)
                            .text.split('\n', 1)[0];
         checks.check(`of the chain that is shown: ${await page.value(line)}`, (await page.value(line)).startsWith(wanted));
         // A kind that is chosen while another one is asked for.
@@ -91,7 +101,8 @@ const sessions = {
         await page.choose('#given-kind', 'an orientation');
         await settled();
         checks.equal('the kind that was chosen last',
-            await page.value(`[document.querySelector('#given-kind').value, bench.cards.path()[0].given.kind]`), ['orientation', 'orientation']);
+            await page.value(`[document.querySelector('#given-kind').value, bench.cards.path()[0].given.kind]`),
+            ['orientation', 'orientation']);
     },
 
     async 'late badges and diagrams of a card'(user, page, checks) {
@@ -103,7 +114,9 @@ const sessions = {
             await wait(500);
             await page.choose('#given-kind', 'nothing');
             await settled();
-            checks.check('no badge of what was given', await page.value(`[...document.querySelectorAll('.card .badge')].every(badge => badge.hidden || !badge.textContent.includes('given'))`));
+            checks.check('no badge of what was given',
+                await page.value(
+                    `[...document.querySelectorAll('.card .badge')].every(badge => badge.hidden || !badge.textContent.includes('given'))`));
         }
         await delay(page, ['zero', 'diagram passive'], LATE);
         await user.act('Step');
@@ -112,7 +125,8 @@ const sessions = {
         await page.until(cardsAre(1));
         await user.openProblem('1^3\n2^3', '[12]^2');
         await settled();
-        checks.check('0 rounds of the card that is shown', (await page.value(`document.querySelector('.card.last .badges').textContent`)).includes('0 rounds: yes'));
+        checks.check('0 rounds of the card that is shown',
+            (await page.value(`document.querySelector('.card.last .badges').textContent`)).includes('0 rounds: yes'));
         const classes = ['active', 'passive'].flatMap(side => answer(['diagram', side], '1^3\n2^3\n\n[12]^2\n').match(/^class/gm)).length;
         checks.equal('its diagrams', await page.value(`document.querySelectorAll('.card.last svg.diagram .node').length`), classes);
     },
@@ -144,7 +158,8 @@ const sessions = {
         await page.until(`document.querySelector('#verdict-line')?.textContent.includes('in 2 or')`);
         await page.click('#undo');
         await settled();
-        checks.equal('that of the chain that is shown', await page.value(`document.querySelector('.paper pre').textContent`), await user.verdict());
+        checks.equal(
+            'that of the chain that is shown', await page.value(`document.querySelector('.paper pre').textContent`), await user.verdict());
         checks.equal('which has one step', await user.verdict(), 'accepted: not solvable in 1 or fewer rounds');
     },
 
@@ -159,7 +174,8 @@ const sessions = {
         await page.click('dialog button', 'Other port numbers');
         await page.until(`document.querySelector('dialog svg.run')`);
         await wait(600);
-        const ports = `[...document.querySelectorAll('dialog svg.run text.small')].map(node => node.textContent).join('')`, second = await page.value(ports);
+        const ports = `[...document.querySelectorAll('dialog svg.run text.small')].map(node => node.textContent).join('')`,
+              second = await page.value(ports);
         await settled();
         checks.equal('the ports that are copied are those that are drawn', await page.value(ports), second);
         await page.key('Escape');
@@ -171,8 +187,11 @@ const sessions = {
         await wait(600);
         await page.fill('dialog .editor textarea', 'M^3', 0);
         await settled();
-        checks.check('no yes for another text', (await page.value(`document.querySelector('dialog .map ~ .state, dialog > .state').textContent`)) !== 're relax: yes' ||
-            answer(['read'], await page.value(`[...document.querySelectorAll('dialog .editor textarea')].map(area => area.value).join('\\n\\n')`)).startsWith('M^3\n\n'));
+        checks.check('no yes for another text',
+            (await page.value(`document.querySelector('dialog .map ~ .state, dialog > .state').textContent`)) !== 're relax: yes' ||
+                answer(['read'],
+                    await page.value(`[...document.querySelectorAll('dialog .editor textarea')].map(area => area.value).join('\\n\\n')`))
+                    .startsWith('M^3\n\n'));
         await page.key('Escape');
         // A graph: the answer to the lines that stood there before.
         if (!explored.has('solve')) return;
@@ -196,7 +215,8 @@ const sessions = {
         await wait(400);
         await page.fill('#editor textarea', 'A^3\nB', 0);
         await settled();
-        checks.check('the fault of the text that stands there', (await page.value(`document.querySelector('#editor .state').textContent`)).includes('wrong degree'));
+        checks.check('the fault of the text that stands there',
+            (await page.value(`document.querySelector('#editor .state').textContent`)).includes('wrong degree'));
         checks.check('no card of it', await page.value(`[...document.querySelectorAll('#editor button')].at(-1).disabled`));
     },
 };

@@ -27,9 +27,13 @@ export const problemsSessions = {
             (await page.value(`document.querySelector('#editor .state').textContent`))
                 .includes('input: line 2: wrong degree (active, line 2)'));
         await page.fill('#editor textarea', 'M^3\nP O^2', 0);
-        for (const [text, said] of [['M [PO', 'A bracket [ is open: its ] lacks.'], ['M (PO', 'A bracket ( is open: its ) lacks.'], ['M PO]', 'A bracket ] has no [ before it.']]) {
+        for (const [text, said] of [['M [PO', 'A bracket [ is open: its ] lacks.'], ['M (PO', 'A bracket ( is open: its ) lacks.'],
+                 ['M PO]', 'A bracket ] has no [ before it.']]) {
             await page.fill('#editor textarea', text, 1);
-            checks.check(text, await page.until(`document.querySelector('#editor .state .faulty') && document.querySelector('#editor .state').textContent.includes('${said}')`));
+            checks.check(text,
+                await page.until(
+                    `document.querySelector('#editor .state .faulty') && document.querySelector('#editor .state').textContent.includes('${
+                        said}')`));
         }
         // A whole problem is pasted into the first area.
         await page.fill('#editor textarea', '', 1);

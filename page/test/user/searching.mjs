@@ -24,7 +24,8 @@ export const searchingSessions = {
         checks.check(`Stop keeps the best: ${kept}`, /not solvable in [1-9] or fewer/.test(kept));
         checks.equal('by the program', answer(['check'], await user.certificate()).trim(), kept);
         checks.check('it is said on the card',
-            /lower 8 2: stopped; the best so far is kept, that of lower [1-7] 2\./.test(await page.value(`document.querySelector('.card .remarks').textContent`)));
+            /lower 8 2: stopped; the best so far is kept, that of lower [1-7] 2\./.test(
+                await page.value(`document.querySelector('.card .remarks').textContent`)));
         await page.click('#undo');
         await page.until(cardsAre(1));
         await user.search('lower', 4, 0);
@@ -90,17 +91,19 @@ export const searchingSessions = {
         await user.says(line);
         checks.check(`by the program: ${line}`, /^accepted: solvable in \d+ rounds$/.test(line));
         const words = `[...document.querySelectorAll('.card.last .ask')].map(ask => ask.dataset.search)`;
-        const on = `[...document.querySelectorAll('.card.last .ask')].filter(ask => !ask.querySelector('button').disabled).map(ask => ask.dataset.search)`;
+        const on =
+            `[...document.querySelectorAll('.card.last .ask')].filter(ask => !ask.querySelector('button').disabled).map(ask => ask.dataset.search)`;
         checks.check('not longest behind it', !(await page.value(on)).includes('longest') && (await page.value(on)).includes('shortest'));
-        checks.check('it stays, with the reason', (await page.value(words)).includes('longest') &&
-            /Not here: [a-z, ]*longest[a-z, ]*: a restriction \(Leave out/.test(await page.value(`document.querySelector('.card.last .search').textContent`)));
+        checks.check('it stays, with the reason',
+            (await page.value(words)).includes('longest') &&
+                /Not here: [a-z, ]*longest[a-z, ]*: a restriction \(Leave out/.test(
+                    await page.value(`document.querySelector('.card.last .search').textContent`)));
         // Behind a merge the chain is of kind lower.
         await user.openExample('no sinks no sources');
         await user.select('I', 'O');
         await user.actOnSelected('Merge into I');
         await page.until(`${cardsAre(2)} && document.querySelector('.card.last .ask')`);
-        checks.check(
-            'not behind a merge', !(await page.value(on)).includes('shortest') && (await page.value(on)).includes('longest'));
+        checks.check('not behind a merge', !(await page.value(on)).includes('shortest') && (await page.value(on)).includes('longest'));
     },
 
     async 'cycle, with more until one is found'(user, page, checks) {
@@ -139,10 +142,14 @@ export const searchingSessions = {
         await user.openProblem('A^3\nB^2 C', 'A C\nB^2');
         await behind('A C\n\nA D');
         const text = `${answer(['read'], 'A^3\nB^2 C\n\nA C\nB^2\n')}== diagram\nA C\nA D\n`;
-        const fault = natively('explore', ['closure', '2'], text).text.trim(), said = await page.until(`document.querySelector('dialog .state .faulty')?.textContent`);
-        checks.equal('the fault of the program, at the line that stands there', said, `line 3: ${fault.replace(/^input: line \d+: /, '')}: “A D”. `);
-        checks.equal('the line is marked', await page.value(`document.querySelector('dialog .area').style.getPropertyValue('--fault')`), '3');
-        checks.check('the labels that the card has', (await page.value(`document.querySelector('dialog .state').textContent`)).includes('labels of this problem: A, B, C.'));
+        const fault = natively('explore', ['closure', '2'], text).text.trim(),
+              said = await page.until(`document.querySelector('dialog .state .faulty')?.textContent`);
+        checks.equal(
+            'the fault of the program, at the line that stands there', said, `line 3: ${fault.replace(/^input: line \d+: /, '')}: “A D”. `);
+        checks.equal(
+            'the line is marked', await page.value(`document.querySelector('dialog .area').style.getPropertyValue('--fault')`), '3');
+        checks.check('the labels that the card has',
+            (await page.value(`document.querySelector('dialog .state').textContent`)).includes('labels of this problem: A, B, C.'));
         checks.equal('no note of it', await page.value(`document.querySelectorAll('.card.last .note').length`), 0);
     },
 

@@ -102,12 +102,14 @@ export const settlingSessions = {
             await page.value(`bench.settling.draw(${quoted('A B C\n\nA B\n== graph\n')} + ${quoted(`${lines}\n`)})`);
             await page.until(`document.querySelectorAll('dialog svg.graph .end').length === ${lines.split(/\s/).length}`);
             // Of each end the node where it begins, by its place, the port that stands next to it, and the label between.
-            const ends = await page.value(`(() => { const nodes = [...document.querySelectorAll('dialog svg.graph rect')].map(node => [node.nextElementSibling.textContent, Number(node.getAttribute('x')) + 11, Number(node.getAttribute('y')) + 11]);
+            const ends = await page.value(
+                `(() => { const nodes = [...document.querySelectorAll('dialog svg.graph rect')].map(node => [node.nextElementSibling.textContent, Number(node.getAttribute('x')) + 11, Number(node.getAttribute('y')) + 11]);
                 return [...document.querySelectorAll('dialog svg.graph .end')].map(end => { const [, x, y] = /^M ([-\\d.]+) ([-\\d.]+) /.exec(end.querySelector('path').getAttribute('d')).map(Number),
                     near = nodes.map(([name, u, v]) => [Math.hypot(x - u, y - v), name]).sort((a, b) => a[0] - b[0])[0][1],
                     ports = [...end.querySelectorAll('.small')].map(text => [Math.hypot(text.getAttribute('x') - x, text.getAttribute('y') - y), text.textContent]).sort((a, b) => a[0] - b[0]);
                     return [near + '.' + ports[0][1], end.querySelector('.output').textContent]; }).sort(); })()`);
-            checks.equal(lines.replaceAll('\n', ', '), ends, lines.split(/\s/).map(end => [end, labels[end.split('.')[0] - 1].split(' ')[end.split('.')[1] - 1]]).sort());
+            checks.equal(lines.replaceAll('\n', ', '), ends,
+                lines.split(/\s/).map(end => [end, labels[end.split('.')[0] - 1].split(' ')[end.split('.')[1] - 1]]).sort());
             await page.click('dialog button.close');
             await page.until(`!document.querySelector('dialog')`);
         }
@@ -121,8 +123,10 @@ export const settlingSessions = {
         await page.fill('dialog textarea', '1.1 1.2\n\n2.1 2.2\n1.3 nonsense');
         await page.click('dialog button', 'Solve');
         const said = natively('explore', ['solve'], `${problem}== graph\n1.1 1.2\n2.1 2.2\n1.3 nonsense\n`).text.trim();
-        checks.equal('the fault', await page.until(`document.querySelector('dialog .faulty')?.textContent`), `line 4: ${said.replace(/^input: line \d+: /, '')}`);
-        checks.equal('the line is marked', await page.value(`document.querySelector('dialog .area').style.getPropertyValue('--fault')`), '4');
+        checks.equal('the fault', await page.until(`document.querySelector('dialog .faulty')?.textContent`),
+            `line 4: ${said.replace(/^input: line \d+: /, '')}`);
+        checks.equal(
+            'the line is marked', await page.value(`document.querySelector('dialog .area').style.getPropertyValue('--fault')`), '4');
         checks.check('the window is open', await page.value(`Boolean(document.querySelector('dialog[open]'))`));
     },
 
@@ -133,7 +137,11 @@ export const settlingSessions = {
             const table = linesOfTable(catalogueTables()[name]), [number, , ...columns] = table.find(line => line[1] === text);
             await user.openProblem(...problem);
             checks.equal(`its line in ${name}`, await page.until(shown),
-                `The catalogue's line, number ${number}:${claimsOfLine(columns).map(({line, shownBy}) => `${line}${modelOf(line) && ` ${modelOf(line)}`}${shownBy.length ? `shown by${shownBy.join('')}` : ''}`).join('')}`);
+                `The catalogue's line, number ${number}:${
+                    claimsOfLine(columns)
+                        .map(({line, shownBy}) =>
+                                 `${line}${modelOf(line) && ` ${modelOf(line)}`}${shownBy.length ? `shown by${shownBy.join('')}` : ''}`)
+                        .join('')}`);
             const title = await page.value(`document.querySelector('.card.last .catalogue .hint').title`);
             checks.check(
                 title, title.endsWith(`under these names: ${text}`) && title.includes(` ${table.length.toLocaleString('en')} problems `));

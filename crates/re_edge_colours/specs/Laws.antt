@@ -2,6 +2,8 @@
 use Rattle.std.specs.Prelude.{ℕ, ◌+◌, ◌-◌, ◌*◌, ◌^◌, ◌≤◌}
 use Rattle.re_given.specs.Given.{SolvableGiven}
 use Rattle.re_given.specs.InputExamples.{edge_colouring}
+use Rattle.re_given.specs.Inputs.{IsInput}
+use Rattle.re_given.specs.Products.{product}
 use Rattle.re_local.specs.LocalAlgorithms.{SolvableLocal}
 use Rattle.re_local.specs.Towers.{tower}
 use Rattle.re_problem.specs.Problems.{IsProblem, Problem}
@@ -22,3 +24,12 @@ abbrev pub FewEdgeColoursLocalLaw : Type 0
 FewEdgeColoursLocalLaw = (K : ℕ → ℕ → ℕ) × ((problem : Problem) (k h N : ℕ) → IsProblem problem →
     let a : ℕ = problem.active.degree in let p : ℕ = problem.passive.degree in
     SolvableGiven problem (edge_colouring a p (p * (a - 1) + 1)) k → N ≤ tower h → SolvableLocal problem N (2 * h + k + K a p))
+
+-- two input problems are one: their product
+abbrev pub ProductInputLaw : Type 0
+ProductInputLaw = (problem one two : Problem) → IsInput problem one → IsInput problem two → IsInput problem (product one two)
+
+-- what two local algorithms solve one solves at once
+abbrev pub ProductLocalLaw : Type 0
+ProductLocalLaw = (one two : Problem) (N T : ℕ) → IsProblem one → IsInput one two →
+    SolvableLocal one N T → SolvableLocal two N T → SolvableLocal (product one two) N T

@@ -3,8 +3,8 @@
 #![tactic(auto)]
 
 ghost use Rattle.re_edge_colours.specs.EdgeBounds.{NoEdgeColouredLaw, UpperBoundEdgeColouredLaw};
-ghost use Rattle.re_edge_colours.specs.EdgeClasses.{EdgeColouredLaw, OrderEdgeColouredLaw};
-ghost use Rattle.re_edge_colours.specs.Laws.{EdgesColouredLaw, FewEdgeColoursLaw, FewEdgeColoursLocalLaw};
+ghost use Rattle.re_edge_colours.specs.EdgeClasses.{BothColouredLaw, EdgeColouredLaw, OrderBothColouredLaw, OrderEdgeColouredLaw};
+ghost use Rattle.re_edge_colours.specs.Laws.{EdgesColouredLaw, FewEdgeColoursLaw, FewEdgeColoursLocalLaw, ProductInputLaw, ProductLocalLaw};
 
 /// In one hop active nodes with unique identifiers below N colour the passive nodes properly with N^p colours: by the p identifiers around each. So they
 /// colour edges with N^2, where p is 2.
@@ -44,4 +44,25 @@ pub fn upper_bound_edge_coloured_law()
 /// No number of rounds solves what is accepted as a fixed point given so few edge colours.
 pub fn no_edge_coloured_law()
     ensures { NoEdgeColouredLaw }
+{}
+
+/// The product of two input problems is an input problem: a solution of both is given.
+pub fn product_input_law()
+    ensures { ProductInputLaw }
+{}
+
+/// What two local algorithms of T rounds solve, one of T rounds solves at once.
+pub fn product_local_law()
+    ensures { ProductLocalLaw }
+{}
+
+/// What is solvable given few colours of active and of passive nodes at once takes at most the order of log* N rounds: given degree + 1 node colours and
+/// 2 a - 1 edge colours, where passive nodes are edges.
+pub fn both_coloured_law()
+    ensures { BothColouredLaw }
+{}
+
+/// What is solvable given both, but in no number of rounds with port numbers alone, takes the order of log* N rounds.
+pub fn order_both_coloured_law()
+    ensures { OrderBothColouredLaw }
 {}

@@ -30,12 +30,12 @@ at-paired d m xs ys k l =
     let port_is : get_or (count_from 1 d) k 0 ≡ suc k = get_or-count_from 1 d k 0 l ∙ one-add k in
     get_or-map (λ port. at_port xs port * m + at_port ys port) (count_from 1 d) k 0 0 (omega (arith, length-count_from 1 d)) ∙ ap (λ port. at_port xs port * m + at_port ys port) port_is
 
-at-paired' : (d m : ℕ) (xs ys : List ℕ) (port : ℕ) → 1 ≤ port → port ≤ d → at_port (paired d m xs ys) port ≡ at_port xs port * m + at_port ys port
+pub at-paired' : (d m : ℕ) (xs ys : List ℕ) (port : ℕ) → 1 ≤ port → port ≤ d → at_port (paired d m xs ys) port ≡ at_port xs port * m + at_port ys port
 at-paired' d m xs ys zero low high = absurd (omega arith)
 at-paired' d m xs ys (suc k) low high = at-paired d m xs ys k (omega arith)
 
 -- pairs of a configuration of one constraint and one of the other
-Has-paired : (n m d : ℕ) (own given : Constraint) (xs ys : List ℕ) → IsConstraint n own → IsConstraint m given → own.degree ≡ d → given.degree ≡ d → Has own xs → Has given ys → Has (pairs_of n m own given) (paired d m xs ys)
+pub Has-paired : (n m d : ℕ) (own given : Constraint) (xs ys : List ℕ) → IsConstraint n own → IsConstraint m given → own.degree ≡ d → given.degree ≡ d → Has own xs → Has given ys → Has (pairs_of n m own given) (paired d m xs ys)
 Has-paired n m d own given xs ys own_is given_is own_degree given_degree has has' =
     let xs_count : length xs ≡ d = count_of n own xs own_is has ∙ own_degree in
     let ys_count : length ys ≡ d = count_of m given ys given_is has' ∙ given_degree in

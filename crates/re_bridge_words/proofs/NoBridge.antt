@@ -5,7 +5,7 @@ use Rattle.re_problem.specs.NamedProblems.{IsNamedProblem, NamedProblem, unnamed
 use Rattle.re_problem.specs.Steps.{IsUpperStep, LowerMap, SetEntry}
 use Rattle.re_cert.specs.Bounds.{Bound, last_problem}
 use Rattle.re_cert.specs.declared.certificate.TheConstants.{MAX_STEPS}
-use Rattle.re_frame.specs.Outcomes.{Outcome, limit, refused}
+use Rattle.re_frame.specs.Outcomes.{Outcome, limit, limit_of, refused}
 use Rattle.re_frame.specs.Runs.{MaySay}
 use Rattle.re_frame.specs.StepLimits.{limit_line}
 use Rattle.re_frame.specs.declared.status.Status.TheVariants.{Limit, No}
@@ -33,7 +33,7 @@ limit_isnt : Limit ≡ No → ⊥
 limit_isnt e = cc
 
 no_map : (next : NamedProblem) (chain : Bound) (room many : Bool) (bridge : Bridge) → IsBridge (last_problem chain) next bridge
-    → (if room then if many then limit (limit_line (suc (length chain.steps)) Rows) else over_bridge bridge next chain else limit (codes "limit: more than 64 steps\n")) ≡ refused (codes "no\n")
+    → (if room then if many then limit (limit_line (suc (length chain.steps)) Rows) else over_bridge bridge next chain else limit_of MAX_STEPS (codes "steps")) ≡ refused (codes "no\n")
     → (map : LowerMap) → Meets (last_problem chain) next map → ⊥
 no_map next chain true true bridge is e map meets = limit_isnt (ap (λ (o : Outcome). o.status) e)
 no_map next chain true false (over other) is e map meets = given_isnt (bridged chain next other) (ap (λ (o : Outcome). o.status) e)
@@ -48,7 +48,7 @@ no_means law next chain last to e map meets =
 
 -- ---- of kind upper
 no_sets : (next : NamedProblem) (chain : Bound) (room : Bool) (walk : Walk) → (walk ≡ nowhere → (entries : List SetEntry) → IsUpperStep (unnamed (last_problem chain)) (unnamed next) entries → ⊥)
-    → (if room then over_walk walk next chain else limit (codes "limit: more than 64 steps\n")) ≡ refused (codes "no\n") → (entries : List SetEntry) → IsUpperStep (unnamed (last_problem chain)) (unnamed next) entries → ⊥
+    → (if room then over_walk walk next chain else limit_of MAX_STEPS (codes "steps")) ≡ refused (codes "no\n") → (entries : List SetEntry) → IsUpperStep (unnamed (last_problem chain)) (unnamed next) entries → ⊥
 no_sets next chain true (found labels) none e = absurd (given_isnt (upper_bridged chain next (sets_by next labels)) (ap (λ (o : Outcome). o.status) e))
 no_sets next chain true nowhere none e = none refl
 no_sets next chain true cut none e = absurd (limit_isnt (ap (λ (o : Outcome). o.status) e))

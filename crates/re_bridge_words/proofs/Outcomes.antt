@@ -12,7 +12,7 @@ use Rattle.re_check.specs.declared.verdict.Verdict.{Verdict}
 use Rattle.re_chain_texts.proofs.WordsGiven.{certificate_says, or_fault_says}
 use Rattle.re_chain_texts.specs.OverChains.{or_refusal, steps_refusal}
 use Rattle.re_frame.proofs.Said.{check_says}
-use Rattle.re_frame.specs.Outcomes.{Outcome, limit}
+use Rattle.re_frame.specs.Outcomes.{Outcome, limit, limit_of}
 use Rattle.re_frame.specs.Runs.{MaySay}
 use Rattle.re_frame.specs.StepLimits.{limit_line}
 use Rattle.re_step.specs.declared.derivation.StepLimit.TheVariants.{Rows}
@@ -36,7 +36,7 @@ module _ (next : NamedProblem) (chain : Bound) where
       → bridge_outcome next chain ≡ (if many then limit (limit_line (suc (length chain.steps)) Rows) else over_bridge bridge next chain)
   roomy room many is bridge told =
       ap (λ b. if b then if has_many_rows (last_problem chain) next then limit (limit_line (suc (length chain.steps)) Rows) else over_bridge (bridge_of (last_problem chain) next MAX_TRIES) next chain
-      else limit (codes "limit: more than 64 steps\n")) (true-below (length chain.steps) MAX_STEPS room)
+      else limit_of MAX_STEPS (codes "steps")) (true-below (length chain.steps) MAX_STEPS room)
       ∙ ap (λ b. if b then limit (limit_line (suc (length chain.steps)) Rows) else over_bridge (bridge_of (last_problem chain) next MAX_TRIES) next chain) is
       ∙ ap (λ b. if many then limit (limit_line (suc (length chain.steps)) Rows) else over_bridge b next chain) told
 
@@ -52,7 +52,7 @@ module _ (next : NamedProblem) (chain : Bound) where
   -- the walk for upper steps tells
   pub by_walk : length chain.steps < MAX_STEPS → (w : Walk) → upper_walk (last_problem chain) next MAX_TRIES ≡ w → upper_outcome next chain ≡ over_walk w next chain
   by_walk room w is =
-      ap (λ b. if b then over_walk (upper_walk (last_problem chain) next MAX_TRIES) next chain else limit (codes "limit: more than 64 steps\n")) (true-below (length chain.steps) MAX_STEPS room)
+      ap (λ b. if b then over_walk (upper_walk (last_problem chain) next MAX_TRIES) next chain else limit_of MAX_STEPS (codes "steps")) (true-below (length chain.steps) MAX_STEPS room)
       ∙ ap (λ w. over_walk w next chain) is
 
 -- ---- what may be said
@@ -61,7 +61,7 @@ walk_says (found labels) next chain = certificate_says (upper_bridged chain next
 walk_says nowhere next chain = refl
 walk_says cut next chain = tt
 
-upper_says : (room : Bool) (w : Walk) (next : NamedProblem) (chain : Bound) → MaySay (if room then over_walk w next chain else limit (codes "limit: more than 64 steps\n")).status true
+upper_says : (room : Bool) (w : Walk) (next : NamedProblem) (chain : Bound) → MaySay (if room then over_walk w next chain else limit_of MAX_STEPS (codes "steps")).status true
 upper_says true w next chain = walk_says w next chain
 upper_says false w next chain = tt
 
@@ -76,7 +76,7 @@ many_says true bridge next chain = tt
 many_says false bridge next chain = over_says bridge next chain
 
 room_says : (room many : Bool) (bridge : Bridge) (next : NamedProblem) (chain : Bound)
-    → MaySay (if room then if many then limit (limit_line (suc (length chain.steps)) Rows) else over_bridge bridge next chain else limit (codes "limit: more than 64 steps\n")).status true
+    → MaySay (if room then if many then limit (limit_line (suc (length chain.steps)) Rows) else over_bridge bridge next chain else limit_of MAX_STEPS (codes "steps")).status true
 room_says true many bridge next chain = many_says many bridge next chain
 room_says false many bridge next chain = tt
 

@@ -7,7 +7,7 @@ use Rattle.re_cert.specs.declared.certificate.Kind.TheVariants.{Fixed, Lower, Up
 use Rattle.re_cert.specs.declared.certificate.TheConstants.{MAX_STEPS}
 use Rattle.re_chain_parts.specs.Chains.{chain_of}
 use Rattle.re_chain_texts.specs.OverChains.{IsTextOf, certificate_outcome, or_fault, or_refusal, steps_refusal}
-use Rattle.re_frame.specs.Outcomes.{Outcome, limit, refused}
+use Rattle.re_frame.specs.Outcomes.{Outcome, limit, limit_of, refused}
 use Rattle.re_frame.specs.StepLimits.{limit_line}
 use Rattle.re_step.specs.declared.derivation.StepLimit.TheVariants.{Rows}
 use Rattle.re_walks.specs.Walking.{Walk, cut, found, nowhere}
@@ -20,25 +20,25 @@ use Rattle.re_bridge_words.specs.declared.answering.TheConstants.{MAX_TRIES}
 abbrev pub over_bridge : Bridge → NamedProblem → Bound → Outcome
 over_bridge (over map) next chain = certificate_outcome (bridged chain next map)
 over_bridge missing next chain = refused (codes "no\n")
-over_bridge cut_off next chain = limit (codes "limit: more than 1000000 tries\n")
+over_bridge cut_off next chain = limit_of MAX_TRIES (codes "tries")
 
 -- the limits that come before: of the steps of a chain, and of the rows of a step
 abbrev pub bridge_outcome : NamedProblem → Bound → Outcome
 bridge_outcome next chain =
     if nat_lt (length chain.steps) MAX_STEPS
     then if has_many_rows (last_problem chain) next then limit (limit_line (suc (length chain.steps)) Rows) else over_bridge (bridge_of (last_problem chain) next MAX_TRIES) next chain
-    else limit (codes "limit: more than 64 steps\n")
+    else limit_of MAX_STEPS (codes "steps")
 
 -- ---- of kind upper
 -- the chain with the step by the sets that the walk finds, or that there are none, or that the tries don't suffice
 abbrev pub over_walk : Walk → NamedProblem → Bound → Outcome
 over_walk (found labels) next chain = certificate_outcome (upper_bridged chain next (sets_by next labels))
 over_walk nowhere next chain = refused (codes "no\n")
-over_walk cut next chain = limit (codes "limit: more than 1000000 tries\n")
+over_walk cut next chain = limit_of MAX_TRIES (codes "tries")
 
 abbrev pub upper_outcome : NamedProblem → Bound → Outcome
 upper_outcome next chain =
-    if nat_lt (length chain.steps) MAX_STEPS then over_walk (upper_walk (last_problem chain) next MAX_TRIES) next chain else limit (codes "limit: more than 64 steps\n")
+    if nat_lt (length chain.steps) MAX_STEPS then over_walk (upper_walk (last_problem chain) next MAX_TRIES) next chain else limit_of MAX_STEPS (codes "steps")
 
 -- ---- of either kind
 abbrev pub kind_outcome : Kind → NamedProblem → Bound → Outcome

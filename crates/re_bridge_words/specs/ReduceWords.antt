@@ -5,14 +5,14 @@ use Rattle.re_problem.specs.NamedProblems.{NamedProblem, unnamed}
 use Rattle.re_problem.specs.ProblemTexts.{first_fault, lines_of, problem_of}
 use Rattle.re_laws.specs.Algorithms.{Solvable}
 use Rattle.re_chain_texts.specs.OverChains.{or_fault}
-use Rattle.re_frame.specs.Outcomes.{Outcome, done, limit}
+use Rattle.re_frame.specs.Outcomes.{Outcome, done, limit_of}
 use Rattle.re_bridge.specs.Reductions.{Reduces, reduced_of, reduction}
 use Rattle.re_bridge_words.specs.declared.answering.TheConstants.{MAX_TRIES}
 
 -- the canonical text of the reduced problem, or that the tries don't suffice
 abbrev pub reduced_outcome : Option NamedProblem → Outcome
 reduced_outcome (Some reduced) = done (canonical reduced)
-reduced_outcome None = limit (codes "limit: more than 1000000 tries\n")
+reduced_outcome None = limit_of MAX_TRIES (codes "tries")
 
 -- what the word gives to a problem text
 unfoldable pub reduce_outcome : List ℕ → Outcome

@@ -5,7 +5,7 @@ ghost use Rattle.re_cert.specs.Bounds.{last_problem};
 ghost use Rattle.re_cert.specs.declared.certificate.Kind.TheVariants.{Fixed, Lower};
 ghost use Rattle.re_cert.specs.declared.certificate.TheConstants.{MAX_STEPS};
 ghost use Rattle.re_chain_parts.specs.Chains.{IsSound, chain_of};
-ghost use Rattle.re_frame.specs.Outcomes.{limit as limited_by, outcome_of};
+ghost use Rattle.re_frame.specs.Outcomes.{outcome_of};
 ghost use Rattle.re_frame.specs.declared.status.Status.TheVariants.{Done};
 ghost use Rattle.re_io.specs.declared.read.TheConstants.{MAX_BYTES};
 ghost use Rattle.std.specs.Prelude.{◌≡◌, ◌<◌, ◌≤◌, IfOk, length, suc};
@@ -16,7 +16,7 @@ use re_cert::{Certificate, Kind, MAX_STEPS};
 use re_chain_parts::chain;
 use re_chain_texts::{certificate_output, steps_refusal};
 use re_fit::FitFault;
-use re_frame::{Answer, Output, begun, fault_output, limit_output, refused, verdict_output};
+use re_frame::{Output, begun, fault_output, limit_of, limit_output, refused, verdict_output};
 use re_labels::NoMemory;
 use re_problem::{Problem, TextFault};
 use re_step::StepLimit;
@@ -28,17 +28,6 @@ const TO: &[u8] = b"to";
 
 /// The most tries of each walk: of `bridge` over maps by sets, over maps by rows, and over the sets of an upper step, and of `reduce` over the maps to so many labels.
 pub const MAX_TRIES: u32 = 1_000_000;
-
-/// The output of a line that tells of a limit.
-pub(crate) fn limited(alloc: Global, line: &str) -> Result<Output, NoMemory>
-    ensures output { IfOk result (λ output. outcome_of output ≡ limited_by line.now) }
-    ensures limit { IfOk result (λ output. output.answer ≡ Answer.Limit) }
-{
-    Ok(Output {
-        answer: Answer::Limit,
-        text: begun(alloc, line)?,
-    })
-}
 
 // The number of the step that would come next.
 fn next_number(chain: &Certificate) -> u8
@@ -58,7 +47,7 @@ fn found_output(alloc: Global, chain: &Certificate, to: &Problem) -> Result<Outp
     match bridge(alloc, chain, to, MAX_TRIES) {
         Ok(Some(longer)) => certificate_output(alloc, &longer),
         Ok(None) => Ok(refused(begun(alloc, "no\n")?)),
-        Err(BridgeFault::TooManyTries) => limited(alloc, "limit: more than 1000000 tries\n"),
+        Err(BridgeFault::TooManyTries) => limit_of(alloc, MAX_TRIES as usize, "tries"),
         Err(BridgeFault::TooManyRows) => limit_output(alloc, next_number(chain), StepLimit::Rows),
         Err(BridgeFault::NoMemory) => Err(NoMemory),
     }
@@ -74,7 +63,7 @@ fn lower_output(alloc: Global, chain: &Certificate, to: &Problem) -> Result<Outp
     if chain.steps().len() < MAX_STEPS {
         found_output(alloc, chain, to)
     } else {
-        limited(alloc, "limit: more than 64 steps\n")
+        limit_of(alloc, MAX_STEPS, "steps")
     }
 }
 
@@ -89,7 +78,7 @@ fn found_upper_output(alloc: Global, chain: &Certificate, to: &Problem) -> Resul
     match bridge_upper(alloc, chain, to, MAX_TRIES) {
         Ok(Some(longer)) => certificate_output(alloc, &longer),
         Ok(None) => Ok(refused(begun(alloc, "no\n")?)),
-        Err(FitFault::TooManyTries) => limited(alloc, "limit: more than 1000000 tries\n"),
+        Err(FitFault::TooManyTries) => limit_of(alloc, MAX_TRIES as usize, "tries"),
         Err(FitFault::NoMemory) => Err(NoMemory),
     }
 }
@@ -104,7 +93,7 @@ fn upper_output(alloc: Global, chain: &Certificate, to: &Problem) -> Result<Outp
     if chain.steps().len() < MAX_STEPS {
         found_upper_output(alloc, chain, to)
     } else {
-        limited(alloc, "limit: more than 64 steps\n")
+        limit_of(alloc, MAX_STEPS, "steps")
     }
 }
 

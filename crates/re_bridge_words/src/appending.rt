@@ -6,29 +6,12 @@ ghost use Rattle.re_chain_steps.specs.RowForms.{step_by_rows as rows_of_step};
 ghost use Rattle.re_clauses.specs.Clauses.{step_fault};
 ghost use Rattle.std.specs.Prelude.{◌≡◌, ◌<◌, ◌||◌, ◌++◌, ◌∷◌, [], IfOk, None, length, true};
 
-use re_cert::{Certificate, Kind, LowerMap, MAX_STEPS, Step, StepParts};
-use re_chain_parts::{copied_step, copied_steps, over_problems};
+use re_cert::{Certificate, Kind, MAX_STEPS, Step, is_by_row};
+use re_chain_parts::{copied_step, copied_steps, have_row_maps, over_problems};
 use re_chain_steps::by_rows;
 use re_labels::NoMemory;
 use re_problem::Problem;
 use std::alloc::Global;
-
-// Whether the map of the step is by rows.
-fn is_by_row(step: &Step) -> bool
-    ensures { result ≡ is_map_by_row step.now.map }
-{
-    match &step.parts {
-        StepParts::Lower { map, .. } => matches!(map, LowerMap::ByRow(_)),
-        StepParts::Upper { .. } => false,
-    }
-}
-
-// Whether some step has a map by rows.
-fn have_row_maps(steps: &[Step]) -> bool
-    ensures { result ≡ have_row_maps steps.now }
-{
-    steps.iter().any(|step| is_by_row(step))
-}
 
 // Whether some step of the chain has a map by rows, or this step.
 fn has_row_maps(chain: &Certificate, step: &Step) -> bool

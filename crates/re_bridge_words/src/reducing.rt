@@ -7,9 +7,9 @@ ghost use Rattle.re_frame.specs.declared.status.Status.TheVariants.{Done};
 ghost use Rattle.re_io.specs.declared.read.TheConstants.{MAX_BYTES};
 ghost use Rattle.std.specs.Prelude.{◌≡◌, ◌≤◌, IfOk, length};
 
-use crate::answering::{MAX_TRIES, limited};
+use crate::answering::MAX_TRIES;
 use re_bridge::{ReduceFault, reduce};
-use re_frame::{Output, done, fault_output};
+use re_frame::{Output, done, fault_output, limit_of};
 use re_labels::NoMemory;
 use re_problem::{Problem, TextFault, print_problem, read_problem};
 use std::alloc::Global;
@@ -21,7 +21,7 @@ fn problem_output(alloc: Global, problem: &Problem) -> Result<Output, NoMemory>
 {
     match reduce(alloc, problem, MAX_TRIES) {
         Ok(reduced) => Ok(done(print_problem(alloc, &reduced)?)),
-        Err(ReduceFault::TooManyTries) => limited(alloc, "limit: more than 1000000 tries\n"),
+        Err(ReduceFault::TooManyTries) => limit_of(alloc, MAX_TRIES as usize, "tries"),
         Err(ReduceFault::NoMemory) => Err(NoMemory),
     }
 }

@@ -1,8 +1,9 @@
-//! Chains of steps: the certificates whose END and BACK aren't asked for. What a certificate stands for as a chain, and copies of its
-//! parts.
+//! Chains of steps: the certificates whose END and BACK aren't asked for. What a certificate stands for as a chain, copies of its
+//! parts, and the form of the maps of steps.
 #![tactic(auto)]
 
 mod copies;
+mod forms;
 mod sound;
 
 ghost use Rattle.re_chain_parts.specs.Chains.{ChainLaw};
@@ -11,6 +12,7 @@ pub use copies::{
     chain, chain_kind, copied_entries, copied_image, copied_images, copied_map, copied_rows,
     copied_step, copied_steps,
 };
+pub use forms::have_row_maps;
 pub use sound::over_problems;
 
 /// The chain that a certificate stands for is as sound as the certificate.

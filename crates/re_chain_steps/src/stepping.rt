@@ -1,5 +1,5 @@
 //! One derived step more.
-ghost use Rattle.re_cert.specs.Bounds.{has_row_maps as have_row_maps, is_by_row as is_map_by_row, is_lower, map_of};
+ghost use Rattle.re_cert.specs.Bounds.{has_row_maps as have_row_maps, is_lower, map_of};
 ghost use Rattle.re_chain_parts.specs.Chains.{IsSound, IsSoundChain};
 ghost use Rattle.re_chain_steps.specs.RowForms.{map_by_rows, step_by_rows as rows_of_step};
 ghost use Rattle.re_chain_steps.specs.Stepped.{derived_step as step_of_problem, next_step, own_entries as entries_of_sets, stepped, stepping_fault};
@@ -13,7 +13,7 @@ ghost use Rattle.std.specs.Prelude.{◌≡◌, ◌≤◌, Err, IfOk, None, Some,
 use crate::building::built;
 use crate::row_form::row_form;
 use re_cert::{Certificate, Kind, LowerMap, MAX_STEPS, SetEntry, Step, StepParts};
-use re_chain_parts::{chain_kind, copied_steps, over_problems};
+use re_chain_parts::{chain_kind, copied_steps, have_row_maps, over_problems};
 use re_config::Row;
 use re_labels::{LabelSet, MAX_LABELS, NoMemory};
 use re_problem::Problem;
@@ -61,23 +61,6 @@ fn has_lower_steps(kind: Kind) -> bool
     !matches!(kind, Kind::Upper)
 }
 
-// Whether the map of the step is by rows.
-fn is_by_row(step: &Step) -> bool
-    ensures { result ≡ is_map_by_row step.now.map }
-{
-    match &step.parts {
-        StepParts::Lower { map, .. } => matches!(map, LowerMap::ByRow(_)),
-        StepParts::Upper { .. } => false,
-    }
-}
-
-// Whether some step has a map by rows.
-fn have_row_maps(steps: &[Step]) -> bool
-    ensures { result ≡ have_row_maps steps.now }
-{
-    steps.iter().any(|step| is_by_row(step))
-}
-
 // Each set with its own label, which is its place.
 fn own_entries(alloc: Global, sets: &[LabelSet]) -> Result<Vec<SetEntry>, NoMemory>
     requires { length sets.now ≤ MAX_LABELS }
@@ -93,8 +76,9 @@ fn own_entries(alloc: Global, sets: &[LabelSet]) -> Result<Vec<SetEntry>, NoMemo
     Ok(entries)
 }
 
-// The map of a lower step with these rows and entries, by rows where that is asked.
-fn lower_map(
+/// The map of a lower step with these rows and entries, which have the sets of the rows: by rows where that is asked. A set of a row then
+/// takes about log n comparisons, where n sets have entries.
+pub fn lower_map(
     alloc: Global,
     by_row: bool,
     rows: &[Row],

@@ -29,6 +29,10 @@ chain_fault bytes = if is_certificate_text bytes then certificate_fault (text_li
 abbrev pub problem_chain : NamedProblem → Bound
 problem_chain problem = chain_with Lower problem []
 
+-- the bound that the text writes, where it has no fault: that of its certificate, or the lower bound without steps of its problem
+abbrev pub text_bound : List ℕ → Bound
+text_bound bytes = if is_certificate_text bytes then certificate_of (text_lines bytes) else problem_chain (problem_of (lines_of bytes))
+
 -- the chain that the text writes, where it has no fault: that of its certificate, or that of its problem
 abbrev pub text_chain : List ℕ → Bound
 text_chain bytes = if is_certificate_text bytes then chain_of (certificate_of (text_lines bytes)) else problem_chain (problem_of (lines_of bytes))

@@ -1,7 +1,7 @@
 //! The reading of chains.
 ghost use Rattle.re_cert.specs.CertificateTexts.{certificate_fault, certificate_of, text_lines};
 ghost use Rattle.re_chain_parts.specs.Chains.{chain_of};
-ghost use Rattle.re_chain_texts.specs.ChainTexts.{ReadGives, chain_fault, is_certificate_text, problem_chain, text_chain};
+ghost use Rattle.re_chain_texts.specs.ChainTexts.{ReadGives, chain_fault, is_certificate_text, problem_chain, text_bound, text_chain};
 ghost use Rattle.re_io.specs.declared.read.TheConstants.{MAX_BYTES};
 ghost use Rattle.re_problem.specs.ProblemTexts.{first_fault, lines_of, problem_of};
 ghost use Rattle.std.specs.Prelude.{◌≡◌, ◌≤◌, IfOk, length};
@@ -72,6 +72,27 @@ fn read_start(alloc: Global, text: &[u8]) -> Result<Certificate, TextFault>
     match read_problem(alloc, text) {
         Ok(problem) => Ok(problem_chain(alloc, problem)),
         Err(fault) => Err(fault),
+    }
+}
+
+// The certificate that the text writes.
+fn read_whole(alloc: Global, text: &[u8]) -> Result<Certificate, TextFault>
+    requires { length text.now ≤ MAX_BYTES }
+    ensures { ReadGives (certificate_fault (text_lines text.now)) (certificate_of (text_lines text.now)) result }
+{
+    read_certificate(alloc, text)
+}
+
+/// The bound that a text writes: that of its certificate, where the first of its lines that isn't of blanks alone begins with `==`, and
+/// else the lower bound without steps of its problem. `Bad` comes exactly where the text has a fault, with its first one.
+pub fn read_bound(alloc: Global, text: &[u8]) -> Result<Certificate, TextFault>
+    requires { length text.now ≤ MAX_BYTES }
+    ensures { ReadGives (chain_fault text.now) (text_bound text.now) result }
+{
+    if is_certificate_text(text) {
+        read_whole(alloc, text)
+    } else {
+        read_start(alloc, text)
     }
 }
 

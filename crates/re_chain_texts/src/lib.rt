@@ -4,5 +4,5 @@
 mod chain_text;
 mod over_chains;
 
-pub use chain_text::{is_certificate_text, problem_chain, read_chain};
+pub use chain_text::{is_certificate_text, problem_chain, read_bound, read_chain};
 pub use over_chains::{ChainRead, certificate_output, read_any, read_sound, steps_refusal};

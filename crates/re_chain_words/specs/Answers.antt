@@ -5,7 +5,8 @@ use Rattle.re_problem.specs.ProblemTexts.{first_fault, lines_of, problem_of}
 use Rattle.re_cert.specs.Bounds.{Bound, last_problem}
 use Rattle.re_cert.specs.CertificateTexts.{certificate_fault, certificate_of, text_lines}
 use Rattle.re_cert.specs.declared.certificate.Kind.{Kind}
-use Rattle.re_frame.specs.Outcomes.{Outcome, done, limit}
+use Rattle.re_cert.specs.declared.certificate.TheConstants.{MAX_STEPS}
+use Rattle.re_frame.specs.Outcomes.{Outcome, done, limit, limit_of}
 use Rattle.re_frame.specs.StepLimits.{limit_line}
 use Rattle.re_frame.specs.declared.status.Status.TheVariants.{Done}
 use Rattle.re_chain_parts.specs.Chains.{chain_with}
@@ -43,7 +44,7 @@ tidy_outcome bytes = or_fault (certificate_fault (text_lines bytes)) (certificat
 abbrev pub or_stop : ℕ → Option ChainStepFault → Bound → Outcome
 or_stop number None chain = certificate_outcome chain
 or_stop number (Some (Limit passed)) chain = limit (limit_line number passed)
-or_stop number (Some fault) chain = limit (codes "limit: more than 64 steps\n")
+or_stop number (Some fault) chain = limit_of MAX_STEPS (codes "steps")
 
 -- `step`: the chain with one more step, to the derived problem
 unfoldable pub step_outcome : Bound → Outcome

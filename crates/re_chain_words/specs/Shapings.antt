@@ -3,6 +3,7 @@ use Rattle.std.specs.Prelude.{ℕ, ◌==◌, List, ◌++◌, codes, if◌then◌
 use Rattle.re_labels.specs.Lists.{place_of}
 use Rattle.re_cert.specs.Bounds.{Bound, last_problem}
 use Rattle.re_frame.specs.Outcomes.{Outcome, limit, refused}
+use Rattle.re_frame.specs.SearchLines.{not_lower_line, not_upper_line}
 use Rattle.re_frame.specs.StepLimits.{limit_line}
 use Rattle.re_step.specs.declared.derivation.StepLimit.{StepLimit}
 use Rattle.re_chain.specs.Dropping.{drop_refusal, dropped}
@@ -20,8 +21,8 @@ label_in chain label = place_of (last_problem chain).names label.name
 
 -- the line of a refusal of what words ask of x, which is this label, and y
 abbrev pub refusal_line : LabelWord → LabelWord → ℕ → Refusal → List ℕ
-refusal_line x y from NotLower = codes "no: not a lower chain\n"
-refusal_line x y from NotUpper = codes "no: not an upper chain\n"
+refusal_line x y from NotLower = not_lower_line
+refusal_line x y from NotUpper = not_upper_line
 refusal_line x y from NoStep = codes "no: no step\n"
 refusal_line x y from (NotALabel label) = codes "no: not a label: " ++ given_text (if label == from then x else y) ++ codes "\n"
 refusal_line x y from Same = codes "no: not a label: " ++ given_text x ++ codes "\n"

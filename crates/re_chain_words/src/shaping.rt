@@ -14,13 +14,13 @@ ghost use Rattle.std.specs.Prelude.{◌≡◌, ◌++◌, IfOk, codes, length, su
 
 use crate::labels::{LabelWord, push_given};
 use crate::words::Shaping;
-use re_cert::Certificate;
+use re_cert::{Certificate, MAX_STEPS};
 use re_chain::{
     ChainFault, MergeFault, Refusal, drop_label, drop_law, merge, merge_law, name_label, name_law,
 };
 use re_chain_steps::{ChainStepFault, step, step_law};
 use re_chain_texts::certificate_output;
-use re_frame::{Answer, Output, begun, limit_output, push_words, refused};
+use re_frame::{Output, begun, limit_of, limit_output, push_words, refused};
 use re_labels::NoMemory;
 use std::alloc::Global;
 
@@ -160,10 +160,7 @@ fn step_output(alloc: Global, chain: &Certificate) -> Result<Output, NoMemory>
     step_law();
     match step(alloc, chain) {
         Ok(stepped) => certificate_output(alloc, &stepped),
-        Err(ChainStepFault::TooManySteps) => Ok(Output {
-            answer: Answer::Limit,
-            text: begun(alloc, "limit: more than 64 steps\n")?,
-        }),
+        Err(ChainStepFault::TooManySteps) => limit_of(alloc, MAX_STEPS, "steps"),
         Err(ChainStepFault::Limit(passed)) => limit_output(alloc, next_number(chain), passed),
         Err(ChainStepFault::NoMemory) => Err(NoMemory),
     }

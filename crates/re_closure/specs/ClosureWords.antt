@@ -6,6 +6,7 @@ use Rattle.re_problem.specs.NamedProblems.{NamedProblem, unnamed}
 use Rattle.re_problem.specs.Zero.{zero_place}
 use Rattle.re_problem.specs.declared.fault.InputFault.{InputFault}
 use Rattle.re_cert.specs.Bounds.{Bound, last_problem}
+use Rattle.re_cert.specs.declared.certificate.TheConstants.{MAX_STEPS}
 use Rattle.re_cert.specs.declared.certificate.Kind.{Kind}
 use Rattle.re_cert.specs.declared.certificate.Kind.TheVariants.{Upper}
 use Rattle.re_items.specs.Numerals.{number_of}
@@ -27,8 +28,8 @@ use Rattle.re_closure.specs.declared.types.ClosureLimit.{ClosureLimit}
 use Rattle.re_closure.specs.declared.types.ClosureLimit.TheVariants.{Combinations, Configurations, Labels, Rows, Steps}
 use Rattle.re_frame.specs.Check.{verdict_outcome}
 use Rattle.re_extend.specs.Extensions.{IsSoundChain}
-use Rattle.re_frame.specs.Outcomes.{Outcome, limit, outcome_of, refused}
-use Rattle.re_frame.specs.SearchLines.{solvable_line}
+use Rattle.re_frame.specs.Outcomes.{Outcome, limit, limit_of, outcome_of, refused}
+use Rattle.re_frame.specs.SearchLines.{not_lower_line, solvable_line}
 use Rattle.re_frame.specs.StepLimits.{limit_line as step_line}
 use Rattle.re_frame.specs.TextFaults.{fault_outcome}
 use Rattle.re_frame.specs.declared.output.Output.{Output}
@@ -60,7 +61,7 @@ limit_line Rows = codes "limit: closure: more than 1024 rows\n"
 limit_line Combinations = codes "limit: closure: more than 1048576 combinations\n"
 limit_line (Labels count) = codes "limit: closure: more than 128 labels: " ++ decimal count ++ codes "\n"
 limit_line Configurations = codes "limit: closure: more than 1048576 configurations\n"
-limit_line Steps = codes "limit: more than 64 steps\n"
+limit_line Steps = (limit_of MAX_STEPS (codes "steps")).text
 
 -- ---- answers
 -- the text of the fixed point of the closure of the last problem; it is read as this fixed point
@@ -89,7 +90,7 @@ MayFindBehind MayGiveSolvable None chain outcome = MayFind MayGiveSolvable chain
 -- the line of what keeps a chain from its step of this number
 abbrev pub stop_outcome : ℕ → ChainStepFault → Outcome
 stop_outcome number (chain_step_fault.Limit passed) = limit (step_line number passed)
-stop_outcome number fault = limit (codes "limit: more than 64 steps\n")
+stop_outcome number fault = limit_of MAX_STEPS (codes "steps")
 
 -- that line, and where nothing keeps the chain from the step what the chain with this step may be given
 abbrev pub MayStep : ℕ → Option ChainStepFault → (Outcome → Type 0) → Outcome → Type 0
@@ -153,7 +154,7 @@ MayFindBy (Some edges) more chain outcome = MayFindRaisedWithin more edges chain
 -- ---- texts
 -- a chain of kind upper is refused
 abbrev pub MayGiveAt : Kind → Option (List (ℕ × ℕ)) → ℕ → Bound → Outcome → Type 0
-MayGiveAt Upper diagram more chain outcome = outcome ≡ refused (codes "no: not a lower chain\n")
+MayGiveAt Upper diagram more chain outcome = outcome ≡ refused not_lower_line
 MayGiveAt kind diagram more chain outcome = MayFindBy diagram more chain outcome
 
 -- the line of `check` for the first step that fails, and else what may be given to the chain

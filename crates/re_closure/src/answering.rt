@@ -13,7 +13,7 @@ ghost use Rattle.re_io.specs.declared.read.TheConstants.{MAX_BYTES};
 ghost use Rattle.re_two_texts.specs.TwoTexts.{IsCut};
 ghost use Rattle.std.specs.Prelude.{◌≡◌, ◌<◌, ◌≤◌, ◌+◌, ℕ, Err, IfOk, List, None, Some, codes, length, map, string_bytes};
 
-use crate::limit_lines::{limit_output, solvable, solvable_closure};
+use crate::limit_lines::{limit_output, solvable_closure};
 use crate::raised_output::raised_output;
 use crate::reading::read_diagram;
 use crate::{Closing, ClosureFault, ClosureLimit, find_closure};
@@ -21,8 +21,8 @@ use re_cert::{Certificate, Kind};
 use re_chain_steps::{ChainStepFault, step};
 use re_chain_texts::{certificate_output, read_chain, steps_refusal};
 use re_frame::{
-    Finding, Output, begun, fault_output, limit_output as step_limit_output, refused,
-    verdict_output,
+    Finding, Output, fault_output, limit_output as step_limit_output, not_lower_output,
+    solvable_output, verdict_output,
 };
 use re_items::read_number;
 use re_labels::NoMemory;
@@ -122,7 +122,7 @@ pub fn closure_output(alloc: Global, chain: &Certificate, more: u8) -> Result<Ou
 {
     let sets = match find_closure(alloc, chain) {
         Ok(Closing::Found(certificate)) => return certificate_output(alloc, &certificate),
-        Ok(Closing::Solvable(place)) => return solvable(alloc, chain.last(), place),
+        Ok(Closing::Solvable(place)) => return solvable_output(alloc, chain.last(), place),
         Ok(Closing::SolvableClosure(sets)) => sets,
         Err(ClosureFault::Limit(limit)) => return limit_output(alloc, limit),
         Err(ClosureFault::NoMemory) => return Err(NoMemory),
@@ -146,7 +146,7 @@ fn refusal_output(alloc: Global, chain: &Certificate) -> Result<Option<Output>, 
     }
     match chain.kind() {
         Kind::Lower => Ok(None),
-        Kind::Upper => Ok(Some(refused(begun(alloc, "no: not a lower chain\n")?))),
+        Kind::Upper => Ok(Some(not_lower_output(alloc)?)),
         Kind::Fixed => unreachable!(),
     }
 }

@@ -1,5 +1,5 @@
 //! The certificate that the closure of a problem comes back.
-ghost use Rattle.re_cert.specs.Bounds.{has_row_maps as have_row_maps, is_by_row as is_map_by_row, last_problem};
+ghost use Rattle.re_cert.specs.Bounds.{has_row_maps as have_row_maps, last_problem};
 ghost use Rattle.re_closure.specs.Closed.{IsClosureOf};
 ghost use Rattle.re_closure.specs.Closures.{Answers, HasRoom, IsClosed, IsSolvableBy, LimitIs};
 ghost use Rattle.re_closure.specs.Sides.{IsMapOf};
@@ -17,8 +17,9 @@ use crate::closure::{Closure, closure_of};
 use crate::occurring::map_of;
 use crate::stepping::step_with;
 use crate::types::{Closing, ClosureFault, ClosureLimit, StepMap};
-use re_cert::{Certificate, LowerMap, MAX_STEPS, Step, StepParts};
-use re_chain_parts::over_problems;
+use re_cert::{Certificate, MAX_STEPS};
+use re_chain_parts::{have_row_maps, over_problems};
+use re_closure_lines::set_at;
 use re_config::Row;
 use re_labels::{LabelSet, MAX_LABELS, NoMemory};
 use re_problem::Problem;
@@ -28,23 +29,6 @@ use std::alloc::Global;
 
 /// How many steps lead to the closure and back.
 pub(crate) const CLOSURE_STEPS: usize = 3;
-
-// Whether the map of the step is by rows.
-fn is_by_row(step: &Step) -> bool
-    ensures { result ≡ is_map_by_row step.now.map }
-{
-    match &step.parts {
-        StepParts::Lower { map, .. } => matches!(map, LowerMap::ByRow(_)),
-        StepParts::Upper { .. } => false,
-    }
-}
-
-// Whether some step has a map by rows.
-fn have_row_maps(steps: &[Step]) -> bool
-    ensures { result ≡ have_row_maps steps.now }
-{
-    steps.iter().any(|step| is_by_row(step))
-}
 
 /// The maximal rows of the problem, which are few.
 pub(crate) fn rows_of(alloc: Global, problem: &Problem) -> Result<Vec<Row>, NoMemory>
@@ -87,17 +71,6 @@ fn certificate_of(
     let between = closure.between.copy()?;
     let first = step_with(alloc, between, map, by_rows)?;
     certificate_by(alloc, by_rows, chain, first, closure)
-}
-
-// The set at this place, or the empty one where there is none.
-fn set_at(sets: &[LabelSet], place: usize) -> LabelSet
-    ensures { result ≡ set_at sets.now place }
-{
-    if place < sets.len() {
-        sets[place]
-    } else {
-        LabelSet::empty()
-    }
 }
 
 /// The right-closed sets of the labels of the active configuration of the closure at this place.

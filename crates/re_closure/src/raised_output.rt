@@ -19,7 +19,7 @@ ghost use Rattle.std.specs.Prelude.{◌≡◌, ◌≤◌, ◌∷◌, ◌++◌, [
 
 use crate::answering::{closure_output, stop_output};
 use crate::diagrams::raised;
-use crate::limit_lines::{limit_output, solvable, solvable_closure};
+use crate::limit_lines::{limit_output, solvable_closure};
 use crate::raising::find_raised;
 use crate::types::{Closing, ClosureFault};
 use arrayvec::ArrayVec;
@@ -28,7 +28,7 @@ use re_chain::relaxed_step;
 use re_chain_parts::{copied_steps, over_problems};
 use re_chain_steps::{ChainStepFault, by_rows};
 use re_chain_texts::certificate_output;
-use re_frame::Output;
+use re_frame::{Output, solvable_output};
 use re_labels::NoMemory;
 use re_problem::Problem;
 use re_step::StepFault;
@@ -132,7 +132,7 @@ pub(crate) fn raised_output(
 {
     let sets = match find_raised(alloc, chain, edges) {
         Ok(Closing::Found(certificate)) => return certificate_output(alloc, &certificate),
-        Ok(Closing::Solvable(place)) => return solvable(alloc, chain.last(), place),
+        Ok(Closing::Solvable(place)) => return solvable_output(alloc, chain.last(), place),
         Ok(Closing::SolvableClosure(sets)) => sets,
         Err(ClosureFault::Limit(limit)) => return limit_output(alloc, limit),
         Err(ClosureFault::NoMemory) => return Err(NoMemory),

@@ -59,8 +59,8 @@ fn all_others(alloc: Global, labels: u8, sets: &[LabelSet]) -> Result<Vec<LabelS
     Ok(left)
 }
 
-// The set at this place, or the empty one where there is none.
-fn set_at(sets: &[LabelSet], place: usize) -> LabelSet
+/// The set at this place, or the empty one where there is none.
+pub fn set_at(sets: &[LabelSet], place: usize) -> LabelSet
     ensures { result ≡ set_at sets.now place }
 {
     if place < sets.len() {

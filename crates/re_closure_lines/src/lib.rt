@@ -7,6 +7,6 @@ mod families;
 mod line;
 mod topmost;
 
-pub use families::{Families, closure_families, others_of};
+pub use families::{Families, closure_families, others_of, set_at};
 pub use line::SetLine;
 pub use topmost::{LinesFault, MAX_COMBINATIONS, topmost_lines};

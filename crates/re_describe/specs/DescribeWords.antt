@@ -1,12 +1,10 @@
 -- The word `describe`, and what it may answer.
-use Rattle.std.specs.Prelude.{◌≡◌, ℕ, Bool, false, List, [], ◌∷◌, codes, if◌then◌else◌, Option, Some, None}
+use Rattle.std.specs.Prelude.{◌≡◌, ℕ, Bool, false, List, [], ◌∷◌, codes, Option, Some, None}
 use Rattle.std.specs.Io.{StartsWith}
 use Rattle.std.specs.Str.{bytes_eq}
-use Rattle.re_problem.specs.ProblemTexts.{lines_of, problem_of}
 use Rattle.re_problem.specs.declared.fault.InputFault.{InputFault}
 use Rattle.re_cert.specs.Bounds.{Bound}
-use Rattle.re_cert.specs.CertificateTexts.{certificate_of, text_lines}
-use Rattle.re_chain_texts.specs.ChainTexts.{chain_fault, is_certificate_text, problem_chain}
+use Rattle.re_chain_texts.specs.ChainTexts.{chain_fault, text_bound}
 use Rattle.re_describe.specs.Heads.{head}
 use Rattle.re_frame.specs.Outcomes.{Outcome}
 use Rattle.re_frame.specs.TextFaults.{fault_outcome}
@@ -21,10 +19,6 @@ names_describe words = false
 unfoldable pub describe_help : List ℕ
 describe_help = codes "describe: reads a certificate or a problem, gives a report on it in Markdown\n"
 
--- the certificate that a text stands for, where it has no fault: its own one, or that of kind lower without steps of its problem
-abbrev pub described : List ℕ → Bound
-described bytes = if is_certificate_text bytes then certificate_of (text_lines bytes) else problem_chain (problem_of (lines_of bytes))
-
 -- the outcome is Done, with a text that begins with the head of the report on the certificate
 pub record IsReport (bound : Bound) (outcome : Outcome) : Type 0 where
   pub status : outcome.status ≡ Done
@@ -37,4 +31,4 @@ MayReport None bound outcome = IsReport bound outcome
 
 -- what the word may give to a text
 unfoldable pub MayDescribe : List ℕ → Outcome → Type 0
-MayDescribe bytes outcome = MayReport (chain_fault bytes) (described bytes) outcome
+MayDescribe bytes outcome = MayReport (chain_fault bytes) (text_bound bytes) outcome

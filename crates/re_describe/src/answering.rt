@@ -4,9 +4,9 @@ ghost use Rattle.re_frame.specs.Outcomes.{outcome_of};
 ghost use Rattle.re_io.specs.declared.read.TheConstants.{MAX_BYTES};
 ghost use Rattle.std.specs.Prelude.{◌≡◌, ◌≤◌, IfOk, length, map, string_bytes};
 
-use crate::reading::read_described;
 use crate::report;
 use re_cert::Certificate;
+use re_chain_texts::read_bound;
 use re_frame::{Finding, Output, done, fault_output};
 use re_labels::NoMemory;
 use re_problem::TextFault;
@@ -47,7 +47,7 @@ fn text_output(alloc: Global, text: &[u8]) -> Result<Output, NoMemory>
     requires { length text.now ≤ MAX_BYTES }
     ensures { IfOk result (λ output. MayDescribe text.now (outcome_of output)) }
 {
-    match read_described(alloc, text) {
+    match read_bound(alloc, text) {
         Ok(certificate) => reported(alloc, &certificate),
         Err(TextFault::Bad(fault)) => Ok(fault_output(alloc, fault)?),
         Err(TextFault::NoMemory) => Err(NoMemory),

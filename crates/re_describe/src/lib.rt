@@ -9,7 +9,6 @@ mod marks;
 mod meanings;
 mod pieces;
 mod problems;
-mod reading;
 mod reporting;
 mod steps;
 

@@ -1,3 +1,3 @@
-mod Continued
+pub mod Continued
 mod PathSteps
 mod RouteSteps

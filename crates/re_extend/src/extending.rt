@@ -25,8 +25,8 @@ pub struct Extension {
     pub renaming: Vec<(u8, u8)>,
 }
 
-// The certificate of the chain and what stands behind it, where they make one.
-fn joined(
+/// The certificate of the chain and what stands behind it, where they make one.
+pub fn joined(
     alloc: Global,
     chain: &Certificate,
     extension: Extension,
@@ -46,8 +46,8 @@ fn joined(
     Ok(Certificate::build(kind, back, first, steps, renaming))
 }
 
-// Whether each step leads to a problem of at most so many labels.
-fn are_small(steps: &[Step], labels: u8) -> bool
+/// Whether each step leads to a problem of at most so many labels.
+pub fn are_small(steps: &[Step], labels: u8) -> bool
     ensures { IsTrue result ↔ AreSmall labels steps.now }
 {
     let [step, others @ ..] = steps else {

@@ -5,6 +5,6 @@ mod extending;
 mod routing;
 mod stepping;
 
-pub use extending::{Extension, extended, repeated};
+pub use extending::{Extension, are_small, extended, joined, repeated};
 pub use routing::{Route, route_steps, takes_merges};
 pub use stepping::{Stop, steps_along};

@@ -5,9 +5,9 @@ ghost use Rattle.re_extend.specs.Along.{image_left};
 ghost use Rattle.re_extend.specs.Routes.{are_by_row, are_two, first_step, has_few_rows, merge_step, merge_steps, route_steps, takes_merges};
 ghost use Rattle.std.specs.Prelude.{◌≡◌, IfOk, map, true};
 
-use crate::stepping::{Stop, image_left, is_by_row, push_along, steps_along};
+use crate::stepping::{Stop, image_left, push_along, steps_along};
 use arrayvec::ArrayVec;
-use re_cert::{Certificate, LowerMap, RowImage, Step, StepParts};
+use re_cert::{Certificate, LowerMap, RowImage, Step, StepParts, is_by_row};
 use re_chain::first_merged;
 use re_config::MAX_ROWS;
 use re_labels::NoMemory;

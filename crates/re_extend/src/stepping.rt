@@ -1,5 +1,5 @@
 //! The step from a problem to what merges have made of its derived problem.
-ghost use Rattle.re_cert.specs.Bounds.{has_row_maps as have_row_maps, is_by_row as is_map_by_row, last_problem, map_of, next_problems};
+ghost use Rattle.re_cert.specs.Bounds.{has_row_maps as have_row_maps, last_problem, map_of, next_problems};
 ghost use Rattle.re_extend.specs.Along.{image_left, label_left, map_along, step_found, steps_along};
 ghost use Rattle.re_problem.specs.ProblemTexts.{last_or};
 ghost use Rattle.re_tree.specs.Nodes.{entries_of};
@@ -7,6 +7,7 @@ ghost use Rattle.std.specs.Prelude.{◌≡◌, ◌++◌, IfOk, OnOk, map, true};
 
 use arrayvec::ArrayVec;
 use re_cert::{Certificate, LowerMap, RowImage, SetEntry, Step, StepParts};
+use re_chain_parts::have_row_maps;
 use re_config::Row;
 use re_labels::{LabelSet, NoMemory};
 use re_problem::Problem;
@@ -21,23 +22,6 @@ pub struct Stop {
     pub problem: Problem,
     /// The labels that those of the derived problem have become.
     pub images: Vec<Option<u8>>,
-}
-
-/// Whether the step has a map by rows.
-pub(crate) fn is_by_row(step: &Step) -> bool
-    ensures { result ≡ is_map_by_row step.now.map }
-{
-    match &step.parts {
-        StepParts::Lower { map, .. } => matches!(map, LowerMap::ByRow(_)),
-        StepParts::Upper { .. } => false,
-    }
-}
-
-// Whether some step has a map by rows.
-fn have_row_maps(steps: &[Step]) -> bool
-    ensures { result ≡ have_row_maps steps.now }
-{
-    steps.iter().any(|step| is_by_row(step))
 }
 
 /// What the label at this place has become, and 0 where there is none, or it is not left.

@@ -1,5 +1,6 @@
 -- The status of a run, and the text that goes with it.
-use Rattle.std.specs.Prelude.{ℕ, List, codes, if◌then◌else◌, length, nat_lt}
+use Rattle.std.specs.Prelude.{ℕ, List, ◌++◌, codes, if◌then◌else◌, length, nat_lt}
+use Rattle.std.specs.Fmt.{decimal}
 use Rattle.re_io.specs.declared.read.TheConstants.{MAX_BYTES}
 use Rattle.re_frame.specs.declared.output.Output.{Output}
 use Rattle.re_frame.specs.declared.status.Status.{Status}
@@ -49,6 +50,10 @@ refused text = record { status = status.No; text = text }
 
 abbrev pub limit : List ℕ → Outcome
 limit text = record { status = status.Limit; text = text }
+
+-- more than this number of what the unit counts
+abbrev pub limit_of : ℕ → List ℕ → Outcome
+limit_of number unit = limit (codes "limit: more than " ++ decimal number ++ codes " " ++ unit ++ codes "\n")
 
 abbrev pub too_long : Outcome
 too_long = limit (codes "limit: more than 16777216 bytes\n")

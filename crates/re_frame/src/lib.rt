@@ -1,4 +1,4 @@
-//! What programs of words share: how a run ended, what a command puts out, the lines of faults, limits and verdicts, the reading of a
+//! What programs of words share: how a run ended, what a command puts out, the lines of faults, limits, verdicts and searches, the reading of a
 //! whole input into an answer, or into one of the answers that a search may have, and the putting of its text.
 #![tactic(auto)]
 
@@ -6,6 +6,7 @@ mod answering;
 mod finding;
 mod output;
 mod putting;
+mod search_lines;
 mod status;
 mod step_limits;
 mod text;
@@ -14,8 +15,9 @@ mod verdicts;
 
 pub use answering::{Answering, answer_input};
 pub use finding::{Finding, find_input};
-pub use output::{Output, Stop, done, refused, too_long};
+pub use output::{Output, Stop, done, limit_of, limited, refused, too_long};
 pub use putting::put_output;
+pub use search_lines::{not_found_output, not_lower_output, not_upper_output, solvable_output};
 pub use status::{Answer, Status};
 pub use step_limits::limit_output;
 pub use text::{begun, push_number, push_words};

@@ -2,7 +2,7 @@
 use Rattle.std.specs.Prelude.{◌≡◌, ℕ, List, ◌++◌, codes, flat_map}
 use Rattle.re_cert_text.specs.CertificateLines.{image_text}
 use Rattle.re_cover.specs.Graphs.{IsSolution, PortGraph}
-use Rattle.re_frame.specs.Outcomes.{Outcome, done, limit, refused}
+use Rattle.re_frame.specs.Outcomes.{Outcome, done, limit_of, refused}
 use Rattle.re_graph.specs.Solving.{labels_of, solution_walk}
 use Rattle.re_problem.specs.NamedProblems.{NamedProblem, unnamed}
 use Rattle.re_walks.specs.Walking.{Walk, cut, found, nowhere}
@@ -20,7 +20,7 @@ solution_text problem nodes = codes "yes:\n" ++ node_lines problem.names nodes
 abbrev pub walked_with : List ℕ → NamedProblem → PortGraph → Walk → Outcome
 walked_with line problem graph (found labels) = done (solution_text problem (labels_of problem.active.degree graph.nodes labels))
 walked_with line problem graph nowhere = refused line
-walked_with line problem graph cut = limit (codes "limit: more than 1000000 tries\n")
+walked_with line problem graph cut = limit_of MAX_TRIES (codes "tries")
 
 abbrev pub solution_outcome : List ℕ → NamedProblem → PortGraph → Outcome
 solution_outcome line problem graph = walked_with line problem graph (solution_walk (unnamed problem) graph MAX_TRIES)

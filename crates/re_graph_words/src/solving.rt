@@ -17,7 +17,7 @@ use crate::given_solving::given_output;
 use crate::texts::{GraphText, read_graph_text};
 use re_cert::RowImage;
 use re_cert_text::push_image;
-use re_frame::{Answer, Output, begun, done, refused};
+use re_frame::{Output, begun, done, limit_of, refused};
 use re_given_words::GIVEN;
 use re_graph::{Graph, SolveFault, solve};
 use re_labels::{Names, NoMemory};
@@ -111,10 +111,7 @@ pub(crate) fn solution_output(
     match solve(alloc, problem, graph, MAX_TRIES) {
         Ok(Some(labels)) => found_output(alloc, none, problem, graph, labels.as_slice()),
         Ok(None) => Ok(refused(begun(alloc, none)?)),
-        Err(SolveFault::TooManyTries) => Ok(Output {
-            answer: Answer::Limit,
-            text: begun(alloc, "limit: more than 1000000 tries\n")?,
-        }),
+        Err(SolveFault::TooManyTries) => limit_of(alloc, MAX_TRIES as usize, "tries"),
         Err(SolveFault::NoMemory) => Err(NoMemory),
     }
 }

@@ -18,10 +18,12 @@ use crate::types::Relaxed;
 use crate::words::RelaxedWord;
 use re_cert::{Certificate, Kind};
 use re_chain_texts::{certificate_output, read_chain, steps_refusal};
-use re_frame::{Finding, Output, begun, fault_output, refused, verdict_output};
+use re_frame::{
+    Finding, Output, fault_output, limit_of, not_found_output, not_lower_output, solvable_output,
+    verdict_output,
+};
 use re_labels::NoMemory;
 use re_problem::TextFault;
-use re_search_words::{not_found, solvable, too_many};
 use std::alloc::Global;
 
 // What the word gives to a chain of kind lower.
@@ -30,9 +32,9 @@ fn relaxed_output(alloc: Global, chain: &Certificate, nodes: u32) -> Result<Outp
 {
     match find_relaxed(alloc, chain, nodes)? {
         Relaxed::Found(certificate) => certificate_output(alloc, &certificate),
-        Relaxed::Solvable(place) => solvable(alloc, chain.last(), place),
-        Relaxed::NotFound { nodes: seen, cut } => not_found(alloc, seen, cut),
-        Relaxed::TooMany => too_many(alloc, nodes),
+        Relaxed::Solvable(place) => solvable_output(alloc, chain.last(), place),
+        Relaxed::NotFound { nodes: seen, cut } => not_found_output(alloc, seen, cut),
+        Relaxed::TooMany => limit_of(alloc, nodes as usize, "nodes"),
     }
 }
 
@@ -43,7 +45,7 @@ fn chain_output(alloc: Global, chain: &Certificate, nodes: u32) -> Result<Output
 {
     match chain.kind() {
         Kind::Lower => relaxed_output(alloc, chain, nodes),
-        Kind::Upper => Ok(refused(begun(alloc, "no: not a lower chain\n")?)),
+        Kind::Upper => not_lower_output(alloc),
         Kind::Fixed => unreachable!(),
     }
 }

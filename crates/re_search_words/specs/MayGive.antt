@@ -1,6 +1,5 @@
 -- What the words `longest`, `shortest` and `cycle` may answer.
-use Rattle.std.specs.Prelude.{◌≡◌, ℕ, List, [], ◌++◌, codes, if◌then◌else◌, Option, Some, None, ◌⊎◌}
-use Rattle.std.specs.Fmt.{decimal}
+use Rattle.std.specs.Prelude.{◌≡◌, ℕ, List, [], codes, if◌then◌else◌, Option, Some, None, ◌⊎◌}
 use Rattle.re_labels.specs.declared.TheConstants.{MAX_LABELS}
 use Rattle.re_problem.specs.NamedProblems.{unnamed}
 use Rattle.re_problem.specs.Zero.{zero_place}
@@ -14,16 +13,11 @@ use Rattle.re_chain_texts.specs.OverChains.{GivesText, certificate_outcome, step
 use Rattle.re_check.specs.declared.verdict.Verdict.{Verdict}
 use Rattle.re_extend.specs.Extensions.{GoesOn}
 use Rattle.re_frame.specs.Check.{verdict_outcome}
-use Rattle.re_frame.specs.Outcomes.{Outcome, limit, refused}
-use Rattle.re_frame.specs.SearchLines.{not_found_line, solvable_line}
+use Rattle.re_frame.specs.Outcomes.{Outcome, limit_of, refused}
+use Rattle.re_frame.specs.SearchLines.{not_found_line, not_lower_line, not_upper_line, solvable_line}
 use Rattle.re_frame.specs.TextFaults.{fault_outcome}
 use Rattle.re_search_words.specs.declared.words.SearchWord.{SearchWord}
 use Rattle.re_search_words.specs.declared.words.SearchWord.TheVariants.{Cycle, Longest, Shortest}
-
--- ---- lines
--- the line for more problems than may be looked at
-abbrev pub too_many_line : ℕ → List ℕ
-too_many_line nodes = codes "limit: more than " ++ decimal nodes ++ codes " nodes\n"
 
 -- ---- answers
 -- the text of a bound of this kind that goes on from the chain; it is read as this bound
@@ -44,7 +38,7 @@ MayFind (Shortest steps labels) chain outcome = ⊥
 MayFind (Cycle steps merges nodes) chain outcome =
     IsFound Fixed steps MAX_LABELS chain outcome
     ⊎ (((seen : ℕ) × (cut : ℕ) × (outcome ≡ refused (not_found_line seen cut)))
-    ⊎ (outcome ≡ limit (too_many_line nodes)))
+    ⊎ (outcome ≡ limit_of nodes (codes "nodes")))
 
 -- the line of the configuration where the last problem is solvable without communication, and else what may be found
 abbrev pub MayFindBehind : Option ℕ → SearchWord → Bound → Outcome → Type 0
@@ -64,10 +58,10 @@ MayShorten None steps labels chain outcome =
 -- a chain of the other kind is refused
 abbrev pub MayGiveAt : Kind → SearchWord → Bound → Outcome → Type 0
 MayGiveAt Upper (Shortest steps labels) chain outcome = MayShorten (zero_place (unnamed (last_problem chain))) steps labels chain outcome
-MayGiveAt Lower (Shortest steps labels) chain outcome = outcome ≡ refused (codes "no: not an upper chain\n")
-MayGiveAt Fixed (Shortest steps labels) chain outcome = outcome ≡ refused (codes "no: not an upper chain\n")
-MayGiveAt Upper (Longest steps labels) chain outcome = outcome ≡ refused (codes "no: not a lower chain\n")
-MayGiveAt Upper (Cycle steps merges nodes) chain outcome = outcome ≡ refused (codes "no: not a lower chain\n")
+MayGiveAt Lower (Shortest steps labels) chain outcome = outcome ≡ refused not_upper_line
+MayGiveAt Fixed (Shortest steps labels) chain outcome = outcome ≡ refused not_upper_line
+MayGiveAt Upper (Longest steps labels) chain outcome = outcome ≡ refused not_lower_line
+MayGiveAt Upper (Cycle steps merges nodes) chain outcome = outcome ≡ refused not_lower_line
 MayGiveAt Lower (Longest steps labels) chain outcome = MayFindBehind (zero_place (unnamed (last_problem chain))) (Longest steps labels) chain outcome
 MayGiveAt Lower (Cycle steps merges nodes) chain outcome = MayFindBehind (zero_place (unnamed (last_problem chain))) (Cycle steps merges nodes) chain outcome
 MayGiveAt Fixed (Longest steps labels) chain outcome = MayFindBehind (zero_place (unnamed (last_problem chain))) (Longest steps labels) chain outcome

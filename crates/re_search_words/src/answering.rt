@@ -5,12 +5,11 @@ ghost use Rattle.re_chain_texts.specs.ChainTexts.{text_chain};
 ghost use Rattle.re_chain_texts.specs.OverChains.{steps_refusal};
 ghost use Rattle.re_extend.specs.Extensions.{IsSoundChain};
 ghost use Rattle.re_check.specs.Verdicts.{steps_fault};
-ghost use Rattle.re_frame.specs.Outcomes.{limit as limited_by, outcome_of, refused as refused_with};
-ghost use Rattle.re_frame.specs.SearchLines.{not_found_line, solvable_line};
+ghost use Rattle.re_frame.specs.Outcomes.{outcome_of};
 ghost use Rattle.re_io.specs.declared.read.TheConstants.{MAX_BYTES};
 ghost use Rattle.re_problem.specs.NamedProblems.{unnamed};
 ghost use Rattle.re_problem.specs.Zero.{zero_place};
-ghost use Rattle.re_search_words.specs.MayGive.{MayFindBehind, MayGive, MayGiveAt, MayGiveSound, MayShorten, too_many_line, upper_chain, word_chain};
+ghost use Rattle.re_search_words.specs.MayGive.{MayFindBehind, MayGive, MayGiveAt, MayGiveSound, MayShorten, upper_chain, word_chain};
 ghost use Rattle.std.specs.Prelude.{◌≡◌, ◌≤◌, IfOk, None, Some, length};
 
 use crate::words::SearchWord;
@@ -18,49 +17,13 @@ use re_cert::{Certificate, Kind};
 use re_chain_texts::{certificate_output, is_certificate_text, read_chain, steps_refusal};
 use re_cycle::{Cycle, find_cycle};
 use re_frame::{
-    Answer, Finding, Output, begun, fault_output, push_number, push_words, refused, verdict_output,
+    Finding, Output, fault_output, limit_of, not_found_output, not_lower_output, not_upper_output,
+    solvable_output, verdict_output,
 };
 use re_labels::NoMemory;
 use re_longest::{Longest, Shortest, find_longest, find_shortest};
-use re_problem::{Problem, TextFault, print_active};
+use re_problem::TextFault;
 use std::alloc::Global;
-
-/// The line for a problem that the configuration at this place shows to be solvable without communication.
-pub fn solvable(alloc: Global, problem: &Problem, place: usize) -> Result<Output, NoMemory>
-    requires { zero_place (unnamed problem.now) ≡ Some place }
-    ensures { IfOk result (λ output. outcome_of output ≡ refused_with (solvable_line problem.now place)) }
-{
-    let mut text = begun(alloc, "not found: solvable without communication: ")?;
-    let config = print_active(alloc, problem, place)?;
-    text.extend_from_slice(config.as_slice())?;
-    push_words(&mut text, "\n")?;
-    Ok(refused(text))
-}
-
-/// The line of a search without success.
-pub fn not_found(alloc: Global, nodes: u32, cut: u32) -> Result<Output, NoMemory>
-    ensures { IfOk result (λ output. outcome_of output ≡ refused_with (not_found_line nodes cut)) }
-{
-    let mut text = begun(alloc, "not found: nodes ")?;
-    push_number(alloc, &mut text, nodes as usize)?;
-    push_words(&mut text, ", cut ")?;
-    push_number(alloc, &mut text, cut as usize)?;
-    push_words(&mut text, "\n")?;
-    Ok(refused(text))
-}
-
-/// The line for more problems than may be looked at.
-pub fn too_many(alloc: Global, nodes: u32) -> Result<Output, NoMemory>
-    ensures { IfOk result (λ output. outcome_of output ≡ limited_by (too_many_line nodes)) }
-{
-    let mut text = begun(alloc, "limit: more than ")?;
-    push_number(alloc, &mut text, nodes as usize)?;
-    push_words(&mut text, " nodes\n")?;
-    Ok(Output {
-        answer: Answer::Limit,
-        text,
-    })
-}
 
 // What `longest` gives to a sound chain of kind lower.
 fn longest_output(
@@ -74,7 +37,7 @@ fn longest_output(
 {
     match find_longest(alloc, chain, steps, labels)? {
         Longest::Found(certificate) => certificate_output(alloc, &certificate),
-        Longest::Solvable(place) => solvable(alloc, chain.last(), place),
+        Longest::Solvable(place) => solvable_output(alloc, chain.last(), place),
     }
 }
 
@@ -90,9 +53,9 @@ fn cycle_output(
 {
     match find_cycle(alloc, chain, steps, merges, nodes)? {
         Cycle::Found(certificate) => certificate_output(alloc, &certificate),
-        Cycle::Solvable(place) => solvable(alloc, chain.last(), place),
-        Cycle::NotFound { nodes: seen, cut } => not_found(alloc, seen, cut),
-        Cycle::TooMany => too_many(alloc, nodes),
+        Cycle::Solvable(place) => solvable_output(alloc, chain.last(), place),
+        Cycle::NotFound { nodes: seen, cut } => not_found_output(alloc, seen, cut),
+        Cycle::TooMany => limit_of(alloc, nodes as usize, "nodes"),
     }
 }
 
@@ -109,7 +72,7 @@ fn shortest_output(
 {
     match find_shortest(alloc, chain, steps, labels)? {
         Shortest::Found(certificate) => certificate_output(alloc, &certificate),
-        Shortest::NotFound { nodes, cut } => not_found(alloc, nodes, cut),
+        Shortest::NotFound { nodes, cut } => not_found_output(alloc, nodes, cut),
     }
 }
 
@@ -121,7 +84,7 @@ fn longest_at(alloc: Global, chain: &Certificate, steps: u8, labels: u8) -> Resu
 {
     match chain.kind() {
         Kind::Lower => longest_output(alloc, chain, steps, labels),
-        Kind::Upper => Ok(refused(begun(alloc, "no: not a lower chain\n")?)),
+        Kind::Upper => not_lower_output(alloc),
         Kind::Fixed => unreachable!(),
     }
 }
@@ -139,7 +102,7 @@ fn cycle_at(
 {
     match chain.kind() {
         Kind::Lower => cycle_output(alloc, chain, steps, merges, nodes),
-        Kind::Upper => Ok(refused(begun(alloc, "no: not a lower chain\n")?)),
+        Kind::Upper => not_lower_output(alloc),
         Kind::Fixed => unreachable!(),
     }
 }
@@ -157,7 +120,7 @@ fn shortest_at(
 {
     match chain.kind() {
         Kind::Upper => shortest_output(alloc, chain, steps, labels),
-        Kind::Lower => Ok(refused(begun(alloc, "no: not an upper chain\n")?)),
+        Kind::Lower => not_upper_output(alloc),
         Kind::Fixed => unreachable!(),
     }
 }

@@ -4,5 +4,4 @@
 mod answering;
 mod words;
 
-pub use answering::{not_found, solvable, too_many};
 pub use words::{SearchWord, search_help, search_word};

@@ -4,8 +4,8 @@ use Rattle.re_problem.specs.NamedProblems.{NamedProblem}
 use Rattle.re_cert.specs.Bounds.{Bound, BoundStep}
 use Rattle.re_clauses.specs.declared.clause.Clause.{Clause}
 use Rattle.re_clauses.specs.declared.clause.Clause.TheVariants.{Back, End, L1, L2, L3, L4, L5, U1, U2, U3, U4}
-use Rattle.re_witness.specs.Witnesses.{IsShown, ShowsInSteps}
-use Rattle.re_witness.specs.declared.witness.Witness.{Witness}
+use Rattle.re_why.specs.Witnesses.{IsShown, ShowsInSteps}
+use Rattle.re_why.specs.declared.witness.Witness.{Witness}
 
 within : (before : NamedProblem) (from : ℕ) (steps : List BoundStep) (n : ℕ) (c : Clause) (w : Witness) → ShowsInSteps before from steps n c w → (from ≤ n) × (n < from + length steps)
 within before from [] n c w h = absurd h

@@ -8,7 +8,7 @@ use Rattle.re_check.specs.Verdicts.{verdict_of}
 use Rattle.re_frame.specs.Check.{verdict_outcome}
 use Rattle.re_frame.specs.Outcomes.{Outcome}
 use Rattle.re_frame.specs.TextFaults.{fault_outcome}
-use Rattle.re_witness.specs.Finding.{bound_refutation}
+use Rattle.re_why.specs.Finding.{bound_refutation}
 use Rattle.re_why.specs.WitnessTexts.{refutation_line}
 
 -- the words are this one

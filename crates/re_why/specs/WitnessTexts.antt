@@ -13,10 +13,10 @@ use Rattle.re_maps.specs.declared.verdict.MapVerdict.TheVariants.{Active, Count,
 use Rattle.re_cert.specs.Bounds.{Bound, last_problem, problem_at}
 use Rattle.re_clauses.specs.declared.clause.Clause.{Clause}
 use Rattle.re_clauses.specs.declared.clause.Clause.TheVariants.{End, Back}
-use Rattle.re_witness.specs.Standing.{Standing, standing}
-use Rattle.re_witness.specs.declared.finding.Refutation.{Refutation}
-use Rattle.re_witness.specs.declared.witness.Witness.{Witness}
-use Rattle.re_witness.specs.declared.witness.Witness.TheVariants.{Degrees, BadRow, Extends, RowOrder, ManyRows, MissingRow, SetOrder, MissingSet, ForeignSet, ImageCount, LostRow, LostChoice, LabelOrder, MissingLabel, EmptySet, BadSets, ShutSets, Fit, NoActive, NoFit, PairOrder, MissingPair, Renaming}
+use Rattle.re_why.specs.Standing.{Standing, standing}
+use Rattle.re_why.specs.declared.finding.Refutation.{Refutation}
+use Rattle.re_why.specs.declared.witness.Witness.{Witness}
+use Rattle.re_why.specs.declared.witness.Witness.TheVariants.{Degrees, BadRow, Extends, RowOrder, ManyRows, MissingRow, SetOrder, MissingSet, ForeignSet, ImageCount, LostRow, LostChoice, LabelOrder, MissingLabel, EmptySet, BadSets, ShutSets, Fit, NoActive, NoFit, PairOrder, MissingPair, Renaming}
 
 -- the labels have names
 abbrev pub are_named : List (List ℕ) → List ℕ → Bool

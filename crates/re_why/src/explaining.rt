@@ -4,13 +4,13 @@ ghost use Rattle.re_io.specs.declared.read.TheConstants.{MAX_BYTES};
 ghost use Rattle.re_why.specs.Explaining.{explained, explaining_outcome, names_why, why_help};
 ghost use Rattle.std.specs.Prelude.{◌≡◌, ◌≤◌, IfOk, length, map, string_bytes};
 
+use crate::finding::why_refused;
 use crate::push_refutation;
 use re_cert::{Certificate, read_certificate};
 use re_check::check;
 use re_frame::{Answering, Output, fault_output, verdict_output};
 use re_labels::NoMemory;
 use re_problem::TextFault;
-use re_witness::why_refused;
 use std::alloc::Global;
 
 /// The word `why`. It reads a certificate as a whole and takes the time of `check` twice, and more only where a row is missing.

@@ -4,12 +4,13 @@ ghost use Rattle.std.specs.Prelude.{◌≡◌, ◌++◌, OnOk, codes};
 
 use crate::pieces::{
     push_choice, push_config_of, push_count, push_label_of, push_number, push_place, push_row_of,
-    push_set_of, push_sets, push_words,
+    push_set_of, push_sets,
 };
+use crate::witness::{PortSets, Witness};
 use re_config::{Config, Row};
+use re_frame::push_words;
 use re_labels::{LabelSet, Names, NoMemory, PortLabels, Side};
 use re_maps::MapVerdict;
-use re_witness::{PortSets, Witness};
 
 // Two of these, one behind the other, that don't ascend.
 fn push_order(text: &mut Vec<u8>, words: &str, place: usize) -> Result<(), NoMemory>

@@ -5,17 +5,11 @@ ghost use Rattle.std.specs.Prelude.{◌≡◌, ◌≤◌, ◌+◌, ◌++◌, IfO
 
 use re_cert::set_fits;
 use re_config::{Config, Row};
+use re_frame::push_words;
 use re_labels::{LabelSet, Names, NoMemory};
 use re_printing::{push_config, push_row, push_set};
 use re_problem::push_label;
 use std::alloc::{AllocError, Global};
-
-/// Appends these words.
-pub(crate) fn push_words(text: &mut Vec<u8>, words: &str) -> Result<(), NoMemory>
-    ensures { OnOk result (text.new.items ≡ text.old.items ++ words.now) }
-{
-    Ok(text.extend_from_slice(words.as_bytes())?)
-}
 
 fn digits(alloc: Global, number: u128) -> Result<String, AllocError>
     ensures { IfOk result (λ text. string_bytes text ≡ decimal number) }

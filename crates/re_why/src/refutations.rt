@@ -1,15 +1,15 @@
 //! The lines that show why certificates are refused.
 ghost use Rattle.re_cert.specs.Bounds.{last_problem, problem_at};
-ghost use Rattle.re_witness.specs.Witnesses.{IsShown};
-ghost use Rattle.re_witness.specs.Standing.{standing};
+ghost use Rattle.re_why.specs.Witnesses.{IsShown};
+ghost use Rattle.re_why.specs.Standing.{standing};
 ghost use Rattle.re_why.specs.WitnessTexts.{refutation_line, witness_text};
 ghost use Rattle.std.specs.Prelude.{◌≡◌, ◌≤◌, ◌-◌, ◌++◌, OnOk, Some, codes, length};
 
+use crate::finding::Refutation;
 use crate::lines::push_witness;
 use re_cert::Certificate;
 use re_check::Clause;
 use re_labels::NoMemory;
-use re_witness::Refutation;
 
 // The witness of a step.
 fn push_step(

@@ -35,7 +35,7 @@ use Rattle.re_words.specs.Command.{command_of, is_judging, judges}
 use Rattle.re_words.specs.Counting.{counted, rounds_outcome}
 use Rattle.re_words.specs.Making.{behind, making_outcome, one_step_outcome, sizes_text}
 use Rattle.re_words.specs.Mapping.{kind_of, map_outcome, mapped, mapping_outcome, text_verdict}
-use Rattle.re_frame.specs.Outcomes.{Outcome, done, limit, outcome_of, refused, status_of}
+use Rattle.re_frame.specs.Outcomes.{Outcome, done, limit_of, outcome_of, refused, status_of}
 use Rattle.re_words.specs.Output.{bad_words}
 use Rattle.re_words.specs.Reading.{fit_outcome, problem_outcome, read_outcome, reading_outcome}
 use Rattle.re_words.specs.Run.{Says}
@@ -94,7 +94,7 @@ universal_says : (problem : NamedProblem) (judging : Bool) → MaySay (universal
 unfolding universal_outcome
 universal_says problem judging =
     let rows = max_rows problem.passive (length problem.names) in
-    chosen (nat_lt MAX_ROWS (length rows)) (limit (codes "limit: more than 1024 rows\n")) (done (rows_text problem.names rows)) judging tt tt
+    chosen (nat_lt MAX_ROWS (length rows)) (limit_of MAX_ROWS (codes "rows")) (done (rows_text problem.names rows)) judging tt tt
 
 problem_says : (command : Reading) (problem : NamedProblem) → MaySay (problem_outcome command problem).status (judges (Reads command))
 unfolding diagram_outcome merge_outcome trim_outcome step_outcome rounds_outcome search_outcome

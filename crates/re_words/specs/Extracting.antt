@@ -8,16 +8,17 @@ use Rattle.re_cert.specs.declared.certificate.Kind.TheVariants.{Upper}
 use Rattle.re_check.specs.Verdicts.{verdict_of}
 use Rattle.re_check.specs.declared.verdict.Verdict.{Verdict}
 use Rattle.re_check.specs.declared.verdict.Verdict.TheVariants.{Accepted, Refused}
+use Rattle.re_places.specs.declared.counting.TheConstants.{MAX_VIEWS}
 use Rattle.re_algo.specs.Tables.{AnswerTable}
 use Rattle.re_table_texts.specs.PrintedTables.{table_text}
 use Rattle.re_upper_tables.specs.UpperTables.{listed_table}
 use Rattle.re_frame.specs.Check.{verdict_outcome}
-use Rattle.re_frame.specs.Outcomes.{Outcome, done, limit, refused}
+use Rattle.re_frame.specs.Outcomes.{Outcome, done, limit_of, refused}
 use Rattle.re_frame.specs.TextFaults.{fault_outcome}
 
 -- the problem with its table, unless there are too many views
 abbrev pub algorithm_outcome : NamedProblem → Option AnswerTable → Outcome
-algorithm_outcome problem None = limit (codes "limit: more than 65536 views\n")
+algorithm_outcome problem None = limit_of MAX_VIEWS (codes "views")
 algorithm_outcome problem (Some table) = done (table_text problem table)
 
 -- a certificate that is refused has the line of `check`, and one that is accepted but of no upper bound a line of its own

@@ -8,6 +8,7 @@ use Rattle.re_algo.specs.declared.solving.TableVerdict.{TableVerdict}
 use Rattle.re_algo.specs.declared.solving.TableVerdict.TheVariants.{Active, Passive, Yes}
 use Rattle.re_labels.specs.Lists.{same_list}
 use Rattle.re_places.specs.Counting.{view_count}
+use Rattle.re_places.specs.declared.counting.TheConstants.{MAX_VIEWS}
 use Rattle.re_problem.specs.NamedProblems.{NamedProblem, unnamed}
 use Rattle.re_problem.specs.declared.fault.InputFault.{InputFault}
 use Rattle.re_step.specs.Derivations.{named_derived, step_limit}
@@ -16,7 +17,7 @@ use Rattle.re_table_texts.specs.PrintedTables.{table_text}
 use Rattle.re_table_texts.specs.TableTexts.{TableText, table_input}
 use Rattle.re_table_texts.specs.declared.table_texts.TableForm.{TableForm}
 use Rattle.re_table_texts.specs.declared.table_texts.TableForm.TheVariants.{Faster, Plain, Slower}
-use Rattle.re_frame.specs.Outcomes.{Outcome, done, limit, refused}
+use Rattle.re_frame.specs.Outcomes.{Outcome, done, limit_of, refused}
 use Rattle.re_frame.specs.TextFaults.{fault_outcome}
 use Rattle.re_frame.specs.StepLimits.{or_limit}
 
@@ -56,7 +57,7 @@ abbrev pub faster_outcome : NamedProblem → AnswerTable → Outcome
 faster_outcome problem table = or_refusal (table_verdict (unnamed problem) table) (behind_step problem table)
 
 abbrev pub if_counted : Option ℕ → Outcome → Outcome
-if_counted None outcome = limit (codes "limit: more than 65536 views\n")
+if_counted None outcome = limit_of MAX_VIEWS (codes "views")
 if_counted (Some count) outcome = outcome
 
 -- the table with one round more for the problem, unless it has too many views

@@ -12,7 +12,7 @@ use Rattle.re_problem.specs.NamedProblems.{NamedProblem, unnamed}
 use Rattle.re_step.specs.Derivations.{named_derived, step_limit}
 use Rattle.re_table.specs.Constraints.{Constraint}
 use Rattle.re_table.specs.GoodRows.{max_rows, max_sets}
-use Rattle.re_frame.specs.Outcomes.{Outcome, done, limit}
+use Rattle.re_frame.specs.Outcomes.{Outcome, done, limit_of}
 use Rattle.re_frame.specs.StepLimits.{or_limit}
 
 -- the constraint of a side
@@ -27,7 +27,7 @@ diagram_outcome side problem = done (diagram_text problem.names (classes_of (con
 -- the maximal rows of the passive side, unless they are too many
 unfoldable pub universal_outcome : NamedProblem → Outcome
 universal_outcome problem =
-    if nat_lt MAX_ROWS (length (max_rows problem.passive (length problem.names))) then limit (codes "limit: more than 1024 rows\n")
+    if nat_lt MAX_ROWS (length (max_rows problem.passive (length problem.names))) then limit_of MAX_ROWS (codes "rows")
     else done (rows_text problem.names (max_rows problem.passive (length problem.names)))
 
 -- equal labels merged

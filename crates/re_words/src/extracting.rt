@@ -11,9 +11,12 @@ use crate::command::Command;
 use re_cert::{Certificate, read_certificate};
 use re_check::{Kind, Verdict, check, upper_steps};
 use re_extract::Extractor;
-use re_frame::{Answer, Answering, Output, begun, done, fault_output, refused, verdict_output};
+use re_frame::{
+    Answer, Answering, Output, begun, done, fault_output, limit_of, refused, verdict_output,
+};
 use re_io::MAX_BYTES;
 use re_labels::NoMemory;
+use re_places::MAX_VIEWS;
 use re_problem::TextFault;
 use re_table_texts::{TableForm, print_table};
 use re_upper_tables::upper_table;
@@ -26,10 +29,7 @@ fn algorithm_output(alloc: Global, extractor: &mut Extractor) -> Result<Output, 
 {
     match upper_table(alloc, extractor)? {
         Some(table) => Ok(done(print_table(alloc, extractor.certificate().first(), &table)?)),
-        None => Ok(Output {
-            answer: Answer::Limit,
-            text: begun(alloc, "limit: more than 65536 views\n")?,
-        }),
+        None => limit_of(alloc, MAX_VIEWS as usize, "views"),
     }
 }
 

@@ -3,18 +3,17 @@ ghost use Rattle.re_cert.specs.declared.certificate.TheConstants.{MAX_STEPS};
 ghost use Rattle.re_frame.specs.Check.{check_outcome};
 ghost use Rattle.re_words.specs.Command.{least_steps};
 ghost use Rattle.re_words.specs.Found.{Accepts};
-ghost use Rattle.re_frame.specs.Outcomes.{outcome_of, refused as refused_with};
-ghost use Rattle.re_frame.specs.SearchLines.{not_found_line};
+ghost use Rattle.re_frame.specs.Outcomes.{outcome_of};
 ghost use Rattle.re_words.specs.Searching.{search_outcome};
 ghost use Rattle.re_search.specs.Searches.{Answers, FindsSteps, FindsValid};
 ghost use Rattle.std.specs.Prelude.{◌≡◌, ◌≤◌, IfOk};
 
 use re_cert::Kind;
 use re_cert_text::print_certificate;
-use re_frame::{Answer, Output, begun, done, push_number, push_words, refused};
+use re_frame::{Answer, Output, done, limit_of, not_found_output};
 use re_labels::NoMemory;
 use re_problem::Problem;
-use re_search::{FindFault, Search, find_fixed, find_lower, find_upper};
+use re_search::{FindFault, MAX_NODES, Search, find_fixed, find_lower, find_upper};
 use std::alloc::Global;
 
 // What the search for a bound of this kind comes to.
@@ -39,18 +38,6 @@ fn find(
     }
 }
 
-// The output for a search without success.
-fn not_found(alloc: Global, nodes: u32, cut: u32) -> Result<Output, NoMemory>
-    ensures { IfOk result (λ output. outcome_of output ≡ refused_with (not_found_line nodes cut)) }
-{
-    let mut text = begun(alloc, "not found: nodes ")?;
-    push_number(alloc, &mut text, nodes as usize)?;
-    push_words(&mut text, ", cut ")?;
-    push_number(alloc, &mut text, cut as usize)?;
-    push_words(&mut text, "\n")?;
-    Ok(refused(text))
-}
-
 /// The certificate that a search finds, which `check` accepts, or the counts of its nodes, unless these are too many.
 #[tactic(auto, unfolding(crate::specs::Searching::search_outcome))]
 pub(crate) fn search_output(
@@ -68,11 +55,8 @@ pub(crate) fn search_output(
 {
     match find(alloc, kind, steps, changes, problem) {
         Ok(Search::Found(certificate)) => Ok(done(print_certificate(alloc, &certificate)?)),
-        Ok(Search::NotFound { nodes, cut }) => not_found(alloc, nodes, cut),
-        Err(FindFault::TooManyNodes) => Ok(Output {
-            answer: Answer::Limit,
-            text: begun(alloc, "limit: more than 20000 nodes\n")?,
-        }),
+        Ok(Search::NotFound { nodes, cut }) => not_found_output(alloc, nodes, cut),
+        Err(FindFault::TooManyNodes) => limit_of(alloc, MAX_NODES as usize, "nodes"),
         Err(FindFault::NoMemory) => Err(NoMemory),
     }
 }

@@ -15,9 +15,10 @@ ghost use Rattle.std.specs.Prelude.{◌≡◌, ◌≢◌, ◌≤◌, ◌↔◌, 
 
 use crate::command::Command;
 use re_algo::{SlowerFault, Table, TableVerdict, faster, slower, solves};
-use re_frame::{Answer, Answering, Output, begun, done, fault_output, limit_output, refused};
+use re_frame::{Answering, Output, begun, done, fault_output, limit_of, limit_output, refused};
 use re_io::MAX_BYTES;
 use re_labels::{Names, NoMemory};
+use re_places::MAX_VIEWS;
 use re_problem::{Problem, TextFault};
 use re_step::{Derived, StepFault, step};
 use re_table::Constraint;
@@ -160,10 +161,7 @@ fn more_output(
 {
     match slower(alloc, problem, derived, table) {
         Ok(more) => written(alloc, problem, &more),
-        Err(SlowerFault::TooManyViews) => Ok(Output {
-            answer: Answer::Limit,
-            text: begun(alloc, "limit: more than 65536 views\n")?,
-        }),
+        Err(SlowerFault::TooManyViews) => limit_of(alloc, MAX_VIEWS as usize, "views"),
         Err(SlowerFault::NoMemory) => Err(NoMemory),
     }
 }

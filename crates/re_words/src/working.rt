@@ -5,8 +5,9 @@ ghost use Rattle.re_problem.specs.NamedProblems.{unnamed};
 ghost use Rattle.re_step.specs.Derivations.{derivation};
 ghost use Rattle.std.specs.Prelude.{◌≡◌, ◌≤◌, ◌+◌, ◌++◌, IfOk};
 
+use re_config::MAX_ROWS;
 use re_diagram::{diagram, merge, trim};
-use re_frame::{Answer, Output, done, limit_output};
+use re_frame::{Output, done, limit_of, limit_output};
 use re_labels::{NoMemory, Side};
 use re_printing::{print_diagram, print_meanings, print_rows};
 use re_problem::{Problem, print_problem, push_problem};
@@ -51,10 +52,7 @@ pub(crate) fn universal_output(alloc: Global, problem: &Problem) -> Result<Outpu
     let names = problem.names();
     match maximal_rows(alloc, problem.passive(), names.len() as u8) {
         Ok(rows) => Ok(done(print_rows(alloc, names, rows.as_slice())?)),
-        Err(RowsFault::TooManyRows) => Ok(Output {
-            answer: Answer::Limit,
-            text: String::from_str(alloc, "limit: more than 1024 rows\n")?.into_bytes(),
-        }),
+        Err(RowsFault::TooManyRows) => limit_of(alloc, MAX_ROWS, "rows"),
         Err(RowsFault::NoMemory) => Err(NoMemory),
     }
 }

@@ -18,9 +18,9 @@ returns-in-Ok-Found t c =
 
 pub returns-in-Ok-Solvable : goal.returns-in-Ok-Solvable
 returns-in-Ok-Solvable t c =
-    IfOk-weaker c.solvable.result _ _
+    IfOk-weaker c.solvable_output.result _ _
     (λ output e. place_within c.args.more c.args.chain.now c.in-Ok-Solvable.place (outcome_of output) (subst (Answers c.args.chain.now) c.in-Ok-Solvable.field-0-is c.in-Ok-Solvable.ensures.answers)
-    (e ∙ ap (λ problem. refused (solvable_line problem c.in-Ok-Solvable.place)) c.last.ensures)) c.solvable.ensures
+    (e ∙ ap (λ problem. refused (solvable_line problem c.in-Ok-Solvable.place)) c.last.ensures)) c.solvable_output.ensures
 
 pub returns-in-Err-Limit : goal.returns-in-Err-Limit
 returns-in-Err-Limit t c =

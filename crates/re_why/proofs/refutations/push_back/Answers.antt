@@ -1,5 +1,5 @@
 use Rattle.std.proofs.Common.{◌≤◌, length, subst, sym}
-use Rattle.re_witness.proofs.Bounds.{fits_target}
+use Rattle.re_why.proofs.Bounds.{fits_target}
 use Rattle.re_why.proofs.refutations.push_back.Goals as goal
 
 pub problem_at-requires : goal.problem_at-requires

@@ -1,0 +1,13 @@
+use Rattle.std.proofs.Common.{◌<◌, ◌∙◌, ap, length, map, not, sym}
+use Rattle.std.specs.List.{AllByRecursion}
+use Rattle.re_config.specs.Rows.{set_at}
+use Rattle.re_labels.proofs.Membership.{length-map'}
+use Rattle.re_problem.specs.Steps.{set_for}
+use Rattle.re_table.specs.GoodRows.{is_allowed}
+use Rattle.re_why.proofs.Holding.{found-count, found-held}
+use Rattle.re_labels.specs.declared.TheConstants.{MAX_LABELS}
+use Rattle.re_why.proofs.upper_witness.shut_witness.Goals as goal
+
+pub sets_for-sets-requires : goal.sets_for-sets-requires
+sets_for-sets-requires c =
+    found-held (AllByRecursion (λ label. label < length c.args.entries.now)) (λ config. not (is_allowed c.args.before.now (map (set_at c.as_slice.result.now) config))) c.args.passive.now c.in-Some.config c.in-Some.ensures c.requires.known

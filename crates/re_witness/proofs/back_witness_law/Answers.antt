@@ -1,5 +1,0 @@
-use Rattle.re_witness.proofs.Ends.{back_witness_law}
-use Rattle.re_witness.proofs.back_witness_law.Goals as goal
-
-pub returns : goal.returns
-returns c = back_witness_law

@@ -1,5 +1,0 @@
-use Rattle.std.proofs.Common.{length}
-use Rattle.re_witness.proofs.finding.+are_rows.Given as goal
-
-abbrev pub decreases-are_rows : goal.decreases-are_rows
-decreases-are_rows l = length l.rows.now

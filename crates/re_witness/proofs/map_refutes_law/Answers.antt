@@ -1,5 +1,0 @@
-use Rattle.re_witness.proofs.Refuting.{map_refutes_law}
-use Rattle.re_witness.proofs.map_refutes_law.Goals as goal
-
-pub returns : goal.returns
-returns c = map_refutes_law

@@ -1,5 +1,0 @@
-use Rattle.std.proofs.Common.{length}
-use Rattle.re_witness.proofs.map_witness.+in_rows.Given as goal
-
-abbrev pub decreases-in_rows : goal.decreases-in_rows
-decreases-in_rows l = length l.rows.now

@@ -1,8 +1,0 @@
-use Rattle.std.proofs.Common.{sym}
-use Rattle.re_witness.proofs.Giving.{unordered-rising}
-use Rattle.re_witness.proofs.Maps.{ascends}
-use Rattle.re_witness.specs.Finding.{sets_ascend}
-use Rattle.re_witness.proofs.map_witness.by_set_witness.Goals as goal
-
-pub ordered_witness-requires : goal.ordered_witness-requires
-ordered_witness-requires c = ascends c.args.rows.now c.args.entries.now c.args.entries.now (unordered-rising sets_ascend 0 c.args.entries.now (sym c.in-None.ensures))

@@ -1,5 +1,0 @@
-use Rattle.re_witness.proofs.Holding.{held-test}
-use Rattle.re_witness.proofs.map_witness.is_held.Goals as goal
-
-pub returns : goal.returns
-returns c = held-test c.args.constraint.now c.args.config.now c.contains.result c.contains.ensures

@@ -1,5 +1,0 @@
-use Rattle.re_witness.proofs.Maps.{map_witness_law}
-use Rattle.re_witness.proofs.map_witness_law.Goals as goal
-
-pub returns : goal.returns
-returns c = map_witness_law

@@ -1,5 +1,0 @@
-use Rattle.re_witness.proofs.Rows.{row_witness_law}
-use Rattle.re_witness.proofs.row_witness_law.Goals as goal
-
-pub returns : goal.returns
-returns c = row_witness_law

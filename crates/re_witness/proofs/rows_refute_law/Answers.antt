@@ -1,5 +1,0 @@
-use Rattle.re_witness.proofs.Refuting.{rows_refute_law}
-use Rattle.re_witness.proofs.rows_refute_law.Goals as goal
-
-pub returns : goal.returns
-returns c = rows_refute_law

@@ -1,6 +1,0 @@
-use Rattle.re_witness.proofs.Loops.{Ascend}
-use Rattle.re_witness.specs.Finding.{labels_ascend}
-use Rattle.re_witness.proofs.upper_witness.unordered_label.Given as goal
-
-abbrev pub invariant-loop-place : goal.invariant-loop-place
-invariant-loop-place l = Ascend labels_ascend l.entries l.place

@@ -1,4 +1,7 @@
+mod CertificateLines
 mod CutLines
+mod GivenReading
+pub mod GivenSays
 mod ProblemLines
 mod Splits
 mod Wholes

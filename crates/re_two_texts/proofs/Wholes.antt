@@ -7,8 +7,8 @@ use Rattle.re_problem.specs.declared.fault.InputFault.TheVariants.{EarlyEnd}
 use Rattle.re_problem.specs.declared.fault.TextFault.{TextFault}
 use Rattle.re_problem.specs.declared.fault.TextFault.TheVariants.{Bad, NoMemory}
 use Rattle.re_cert.specs.Bounds.{Bound}
-use Rattle.re_chain_texts.specs.ChainTexts.{chain_fault}
-use Rattle.re_two_texts.specs.TwoTexts.{IsCut, ProblemRefuses, ReadGives, ReadRefuses, at_line, front_text, lines_behind, lines_to, problem_fault, problem_lines, text_bound, two_fault}
+use Rattle.re_chain_texts.specs.ChainTexts.{chain_fault, text_bound, text_chain}
+use Rattle.re_two_texts.specs.TwoTexts.{ChainReadGives, IsCut, ProblemRefuses, ReadGives, ReadRefuses, at_line, front_text, lines_behind, lines_to, problem_fault, problem_lines, two_fault}
 use Rattle.re_two_texts.specs.declared.cutting.Cut.{Cut}
 use Rattle.re_two_texts.specs.declared.reading.TwoTexts.{TwoTexts}
 
@@ -46,3 +46,9 @@ module _ (name text : List ℕ) (cut : Cut) (is : IsCut name text cut) where
   unfolding behind_fault
   both_read texts none bound right to =
       (rest none ∙ right, bound ∙ ap text_bound is.front, to ∙ ap (λ l. problem_of (problem_lines l)) is.behind)
+
+  pub chain_read : (texts : TwoTexts) → chain_fault cut.front.now ≡ None → texts.bound ≡ text_chain cut.front.now → problem_fault cut.byte cut.number (lines_of cut.behind.now) ≡ None
+      → texts.problem ≡ problem_of (problem_lines (lines_of cut.behind.now)) → ChainReadGives name text (Ok texts)
+  unfolding behind_fault
+  chain_read texts none chain right to =
+      (rest none ∙ right, chain ∙ ap text_chain is.front, to ∙ ap (λ l. problem_of (problem_lines l)) is.behind)

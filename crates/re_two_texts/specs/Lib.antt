@@ -1,1 +1,2 @@
+pub mod GivenTexts
 pub mod TwoTexts

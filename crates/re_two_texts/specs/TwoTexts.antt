@@ -13,8 +13,7 @@ use Rattle.re_problem.specs.TextReading.{Stands}
 use Rattle.re_problem.specs.declared.text_reader.TextReader.{TextReader}
 use Rattle.re_sections.specs.SectionLines.{is_section, section_name}
 use Rattle.re_cert.specs.Bounds.{Bound}
-use Rattle.re_cert.specs.CertificateTexts.{certificate_of, text_lines}
-use Rattle.re_chain_texts.specs.ChainTexts.{chain_fault, is_certificate_text, problem_chain}
+use Rattle.re_chain_texts.specs.ChainTexts.{chain_fault, text_bound, text_chain}
 use Rattle.re_two_texts.specs.declared.cutting.Cut.{Cut}
 use Rattle.re_two_texts.specs.declared.reading.TwoTexts.{TwoTexts}
 
@@ -41,10 +40,6 @@ lines_to name bytes = take (length (lines_before name bytes) + 1) (lines_of byte
 -- the text in front of the line
 abbrev pub front_text : List ℕ → List ℕ → List ℕ
 front_text name bytes = take (bytes_of (lines_before name bytes)) bytes
-
--- the bound that a text writes: that of its certificate, or the lower bound without steps of its problem
-abbrev pub text_bound : List ℕ → Bound
-text_bound bytes = if is_certificate_text bytes then certificate_of (text_lines bytes) else problem_chain (problem_of (lines_of bytes))
 
 -- a certificate that hasn't come to its end before the line, which has this number, doesn't expect it
 abbrev pub at_line : ℕ → InputFault → InputFault
@@ -76,16 +71,11 @@ front_bound name bytes = text_bound (front_text name bytes)
 abbrev pub back_problem : List ℕ → List ℕ → NamedProblem
 back_problem name bytes = problem_of (problem_lines (lines_behind name bytes))
 
+-- the chain that the text in front of the line writes
+abbrev pub front_chain : List ℕ → List ℕ → Bound
+front_chain name bytes = text_chain (front_text name bytes)
+
 -- ---- reading
--- what a text gives with this first fault, if any: its bound exactly where there is none, and else the fault
-abbrev pub BoundRefuses : List ℕ → TextFault → Type 0
-BoundRefuses text (Bad fault) = chain_fault text ≡ Some fault
-BoundRefuses text NoMemory = Unit {0}
-
-abbrev pub BoundGives : List ℕ → Result Bound TextFault → Type 0
-BoundGives text (Ok bound) = (chain_fault text ≡ None) × (bound ≡ text_bound text)
-BoundGives text (Err fault) = BoundRefuses text fault
-
 -- the text is cut here: the text in front of the line, and what stands behind it, of which the first line stands at this byte and has this number
 pub record IsCut (name text : List ℕ) (cut : Cut) : Type 0 where
   pub has : has_line name text ≡ true
@@ -118,6 +108,11 @@ ReadRefuses name text NoMemory = Unit {0}
 abbrev pub ReadGives : List ℕ → List ℕ → Result TwoTexts TextFault → Type 0
 ReadGives name text (Ok texts) = (two_fault name text ≡ None) × (texts.bound ≡ front_bound name text) × (texts.problem ≡ back_problem name text)
 ReadGives name text (Err fault) = ReadRefuses name text fault
+
+-- the same with the chain in place of the bound
+abbrev pub ChainReadGives : List ℕ → List ℕ → Result TwoTexts TextFault → Type 0
+ChainReadGives name text (Ok texts) = (two_fault name text ≡ None) × (texts.bound ≡ front_chain name text) × (texts.problem ≡ back_problem name text)
+ChainReadGives name text (Err fault) = ReadRefuses name text fault
 
 -- the fault of lines that the reader stands for, where a section line of this number stands behind them
 abbrev pub SectionRefuses : TextReader → ℕ → TextFault → Type 0

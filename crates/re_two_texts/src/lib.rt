@@ -2,7 +2,16 @@
 #![tactic(auto)]
 
 mod cutting;
+mod printing;
 mod reading;
 
+ghost use Rattle.re_two_texts.specs.GivenTexts.{GivenTextLaw};
+
 pub use cutting::{Cut, cut_at, has_line};
-pub use reading::{TwoTexts, at_line, read_bound, read_problem_at, read_two};
+pub use printing::print_given;
+pub use reading::{TwoTexts, at_line, read_chain_two, read_problem_at, read_two};
+
+/// What is printed of a bound and an input problem is read as them: no text of a certificate has a line `== given`.
+pub fn given_text_law()
+    ensures { GivenTextLaw }
+{}

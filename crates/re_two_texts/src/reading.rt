@@ -2,13 +2,13 @@
 ghost use Rattle.re_io.specs.declared.read.TheConstants.{MAX_BYTES};
 ghost use Rattle.re_problem.specs.ProblemTexts.{lines_of};
 ghost use Rattle.re_problem.specs.TextReading.{IsFed};
-ghost use Rattle.re_two_texts.specs.TwoTexts.{BoundGives, ProblemGives, ReadGives, ReadRefuses, SectionRefuses, at_line, has_line};
-ghost use Rattle.std.specs.Prelude.{◌≡◌, ◌<◌, ◌≤◌, ◌+◌, false, length};
+ghost use Rattle.re_two_texts.specs.TwoTexts.{ChainReadGives, ProblemGives, ReadGives, ReadRefuses, SectionRefuses, at_line, has_line};
+ghost use Rattle.std.specs.Prelude.{◌≡◌, ◌<◌, ◌≤◌, ◌+◌, false, length, true};
 
 use crate::cutting::cut_at;
-use re_cert::{Certificate, read_certificate};
-use re_chain_texts::{is_certificate_text, problem_chain};
-use re_problem::{InputFault, Problem, TextFault, TextReader, cut_line, read_problem};
+use re_cert::Certificate;
+use re_chain_texts::{read_bound, read_chain};
+use re_problem::{InputFault, Problem, TextFault, TextReader, cut_line};
 use re_sections::begins_section;
 use std::alloc::Global;
 
@@ -17,21 +17,6 @@ use std::alloc::Global;
 pub struct TwoTexts {
     pub bound: Certificate,
     pub problem: Problem,
-}
-
-/// The bound that a text writes: that of its certificate, or the lower bound without steps of its problem. `Bad` comes exactly where the
-/// text has a fault, with its first one.
-pub fn read_bound(alloc: Global, text: &[u8]) -> Result<Certificate, TextFault>
-    requires { length text.now ≤ MAX_BYTES }
-    ensures { BoundGives text.now result }
-{
-    if is_certificate_text(text) {
-        return read_certificate(alloc, text);
-    }
-    match read_problem(alloc, text) {
-        Ok(problem) => Ok(problem_chain(alloc, problem)),
-        Err(fault) => Err(fault),
-    }
 }
 
 /// The fault of the text in front of a line of this number: where it ends too early, that line isn't expected.
@@ -114,6 +99,27 @@ pub fn read_two(alloc: Global, name: &[u8], text: &[u8]) -> Result<TwoTexts, Tex
     };
     let bound = match read_bound(alloc, cut.front) {
         Ok(bound) => bound,
+        Err(TextFault::Bad(fault)) => return Err(TextFault::Bad(at_line(cut.number - 1, fault))),
+        Err(TextFault::NoMemory) => return Err(TextFault::NoMemory),
+    };
+    match read_problem_at(alloc, cut.byte, cut.number, cut.behind) {
+        Ok(problem) => Ok(TwoTexts { bound, problem }),
+        Err(fault) => Err(fault),
+    }
+}
+
+/// The chain and the problem that a text with a line `==` and the name writes: as `read_two`, with the chain that `read_chain` of
+/// `re_chain_texts` reads in front of the line.
+pub fn read_chain_two(alloc: Global, name: &[u8], text: &[u8]) -> Result<TwoTexts, TextFault>
+    requires few { length text.now ≤ MAX_BYTES }
+    requires has { has_line name.now text.now ≡ true }
+    ensures { ChainReadGives name.now text.now result }
+{
+    let Some(cut) = cut_at(name, text) else {
+        unreachable!();
+    };
+    let bound = match read_chain(alloc, cut.front) {
+        Ok(chain) => chain,
         Err(TextFault::Bad(fault)) => return Err(TextFault::Bad(at_line(cut.number - 1, fault))),
         Err(TextFault::NoMemory) => return Err(TextFault::NoMemory),
     };

@@ -1,5 +1,6 @@
 use Rattle.std.proofs.Common.{◌-◌, ◌∙◌, ap, subst}
-use Rattle.re_two_texts.specs.TwoTexts.{BoundRefuses, at_line}
+use Rattle.re_chain_texts.specs.ChainTexts.{ReadRefuses, chain_fault}
+use Rattle.re_two_texts.specs.TwoTexts.{at_line}
 use Rattle.re_two_texts.specs.declared.reading.TwoTexts.{TwoTexts}
 use Rattle.re_two_texts.proofs.Wholes.{both_read, chain_wrong, problem_wrong}
 use Rattle.re_two_texts.proofs.reading.read_two.Goals as goal
@@ -7,7 +8,7 @@ use Rattle.re_two_texts.proofs.reading.read_two.Goals as goal
 pub returns-in-Err-Bad : goal.returns-in-Err-Bad
 returns-in-Err-Bad c =
     chain_wrong c.args.name.now c.args.text.now c.in-Some.cut c.in-Some.ensures c.in-Err-Bad.fault c.at_line.result
-    (subst (BoundRefuses c.in-Some.cut.front.now) c.in-Err-Bad.field-0-is c.in-Err-Bad.ensures)
+    (subst (ReadRefuses (chain_fault c.in-Some.cut.front.now)) c.in-Err-Bad.field-0-is c.in-Err-Bad.ensures)
     (c.at_line.ensures ∙ ap (at_line (c.in-Some.cut.number - 1)) c.in-Err-Bad.fault-is)
 
 pub returns-in-Ok-read_problem_at : goal.returns-in-Ok-read_problem_at

@@ -24,11 +24,12 @@ pub enum Cycle {
     /// The chain's last problem is solvable without communication: the place of its first active configuration that shows it.
     Solvable(usize),
     /// There is none among the problems that were looked at: how many these were; and how many times the derived problem of one passed a
-    /// limit, or a renaming of two was given up. Where that is 0, no walk of so many steps with so many merges each comes back.
+    /// limit, a renaming of two was given up, or merges of the chain's last problem couldn't be looked at. Where that is 0, no walk of so many
+    /// steps with so many merges each comes back.
     NotFound {
         /// How many problems.
         nodes: u32,
-        /// How many limits, and renamings that were given up.
+        /// How many limits, renamings that were given up, and looks that there couldn't be.
         cut: u32,
     },
     /// None was found among the most problems that may be looked at.
@@ -136,7 +137,7 @@ fn answer_of(
 }
 
 // What is found where the chain's last problem isn't solvable without communication; one of the merges of the first step may be of labels of
-// this problem, where that is asked.
+// this problem, where that is asked. Where it can't be, though merges are asked for, it counts as a limit once.
 fn walked_from(
     alloc: Global,
     chain: &Certificate,
@@ -150,13 +151,14 @@ fn walked_from(
 {
     let room = MAX_STEPS.saturating_sub(chain.steps().len());
     let depth = (room.min(MAX_STEPS) as u8).min(steps);
+    let once = !begins && merges > 0 && !takes_merges(alloc, chain)?;
     let mut walk = Walk {
         alloc,
         graph: Graph::of_chain(alloc, chain)?,
         most: nodes as usize,
         merges,
         begins,
-        limits: 0,
+        limits: u32::from(once),
     };
     let walked = walk.walk(depth)?;
     answer_of(alloc, chain, steps, &walk, &walked)

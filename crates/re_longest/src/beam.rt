@@ -1,6 +1,8 @@
 //! The search from level to level.
+use crate::given::Given;
 use crate::levels::{Built, Level, next_level, plain_stop};
 use crate::pool::Kept;
+use crate::spreads::Spreads;
 use crate::starts::Start;
 use re_extend::{Route, Stop};
 use re_labels::NoMemory;
@@ -10,14 +12,16 @@ use std::alloc::Global;
 /// How many levels are built at most.
 const MAX_BUILDS: usize = 128;
 
-// A search under way: where it begins, the levels behind, and the longest route so far.
+// A search under way: what is given, where it begins, the levels behind, and the longest route so far.
 #[derive(Drop)]
 struct Search<'a> {
     alloc: Global,
     labels: u8,
+    given: &'a Given,
     start: &'a Start,
     levels: Vec<Level>,
     longest: Route,
+    larger: bool,
 }
 
 // The problem as one on a path.
@@ -64,10 +68,18 @@ fn fewest_labels(level: &Level) -> u8 {
 
 impl<'a> Search<'a> {
     // The level behind the last one, with problems of at most so many labels.
-    fn build(&self, most: u8) -> Result<Built, NoMemory> {
+    fn build(&self, spreads: &mut Spreads, most: u8) -> Result<Built, NoMemory> {
+        let steps = self.levels.len().saturating_add(1);
         match self.levels.as_slice().last() {
-            Some(level) => next_level(self.alloc, level, most),
-            None => next_level(self.alloc, &self.start.level, most),
+            Some(level) => next_level(self.alloc, spreads, self.given, level, steps, most),
+            None => next_level(
+                self.alloc,
+                spreads,
+                self.given,
+                &self.start.level,
+                steps,
+                most,
+            ),
         }
     }
 
@@ -82,8 +94,13 @@ impl<'a> Search<'a> {
 
     // One level more, of problems of at most so many labels, or the last one away, where a derived problem passed a limit. The answer is
     // the most labels of the next level to build; None at the end.
-    fn advance(&mut self, most: u8) -> Result<Option<u8>, NoMemory> {
-        let Built { level, limited } = self.build(most)?;
+    fn advance(&mut self, spreads: &mut Spreads, most: u8) -> Result<Option<u8>, NoMemory> {
+        let Built {
+            level,
+            limited,
+            larger,
+        } = self.build(spreads, most)?;
+        self.larger = self.larger || larger;
         if !level.kept.is_empty() {
             self.enter(level)?;
             return Ok(Some(self.labels));
@@ -98,40 +115,57 @@ impl<'a> Search<'a> {
     }
 }
 
-// The longest route that one beam finds from the start: at most so many levels, of problems of at most so many labels.
-fn beam_route(alloc: Global, start: &Start, levels: usize, labels: u8) -> Result<Route, NoMemory> {
+// The longest route that one beam finds from the start: at most so many levels, of problems of at most so many labels. And whether some
+// problem had more labels: where none had, beams with more labels find the same.
+fn beam_route(
+    alloc: Global,
+    spreads: &mut Spreads,
+    given: &Given,
+    start: &Start,
+    levels: usize,
+    labels: u8,
+) -> Result<(Route, bool), NoMemory> {
     let mut search = Search {
         alloc,
         labels,
+        given,
         start,
         levels: Vec::new(alloc),
         longest: route_over(Vec::new(alloc)),
+        larger: false,
     };
     let mut most = labels;
     for _build in 0..MAX_BUILDS {
         if search.levels.len() >= levels {
             break;
         }
-        match search.advance(most)? {
+        match search.advance(spreads, most)? {
             Some(next) => most = next,
             None => break,
         }
     }
-    Ok(search.longest)
+    let Search {
+        longest,
+        larger,
+        ..
+    } = search;
+    Ok((longest, larger))
 }
 
 // The path of the derived problem, its derived problem and so on, as they are: at most so many, of at most so many labels each.
 fn plain_path(
     alloc: Global,
+    given: &Given,
     problem: &Problem,
     levels: usize,
     labels: u8,
 ) -> Result<Vec<Stop>, NoMemory> {
     let mut path: Vec<Stop> = Vec::new(alloc);
     for _level in 0..levels {
+        let steps = path.len().saturating_add(1);
         let next = match path.as_slice().last() {
-            Some(stop) => plain_stop(alloc, &stop.problem, labels)?,
-            None => plain_stop(alloc, problem, labels)?,
+            Some(stop) => plain_stop(alloc, given, &stop.problem, steps, labels)?,
+            None => plain_stop(alloc, given, problem, steps, labels)?,
         };
         match next {
             Some(stop) => path.push(stop)?,
@@ -156,20 +190,25 @@ pub(crate) fn next_size(labels: u8) -> u8 {
 // The longest one of the route and those that the beams find from the start: at most so many levels, of problems of at most so many labels.
 fn longest_from(
     alloc: Global,
+    given: &Given,
     start: &Start,
     route: Route,
     levels: usize,
     labels: u8,
 ) -> Result<Route, NoMemory> {
     let mut longest = route;
+    let mut spreads = Spreads::new(alloc);
     let mut size = 2;
     for _size in 0..labels {
         if size > labels || longest.stops.len() >= levels {
             break;
         }
-        let route = beam_route(alloc, start, levels, size)?;
+        let (route, larger) = beam_route(alloc, &mut spreads, given, start, levels, size)?;
         if route.stops.len() > longest.stops.len() {
             longest = route;
+        }
+        if !larger {
+            break;
         }
         size = next_size(size);
     }
@@ -179,23 +218,25 @@ fn longest_from(
 /// The longest route that is found from the problem without a merge in it: at most so many levels, of problems of at most so many labels.
 pub(crate) fn longest_route(
     alloc: Global,
+    given: &Given,
     problem: &Problem,
     levels: usize,
     labels: u8,
 ) -> Result<Route, NoMemory> {
     let start = Start::at(alloc, problem)?;
-    let plain = route_over(plain_path(alloc, problem, levels, labels)?);
-    longest_from(alloc, &start, plain, levels, labels)
+    let plain = route_over(plain_path(alloc, given, problem, levels, labels)?);
+    longest_from(alloc, given, &start, plain, levels, labels)
 }
 
 /// The longest route that is found from the problem with a merge in it.
 pub(crate) fn longest_merged(
     alloc: Global,
+    given: &Given,
     problem: &Problem,
     levels: usize,
     labels: u8,
 ) -> Result<Route, NoMemory> {
-    let start = Start::of_merges(alloc, problem)?;
+    let start = Start::of_merges(alloc, given, problem)?;
     let none = route_over(Vec::new(alloc));
-    longest_from(alloc, &start, none, levels, labels)
+    longest_from(alloc, given, &start, none, levels, labels)
 }

@@ -80,10 +80,15 @@ fn weights_of(alloc: Global, problem: &Problem, stay: LabelSet) -> Result<Vec<u6
 fn weight_of(config: &Config, weights: &[u64]) -> u64 {
     let mut weight: u64 = 1;
     let mut orders: u64 = 1;
+    let mut alike: u64 = 1;
     let mut place: u64 = 0;
     let mut run: u64 = 0;
     let mut last = None;
     for label in config.labels() {
+        weight = weight.wrapping_mul(weights.get(*label as usize).copied().unwrap_or(0));
+        if weight == 0 {
+            return 0;
+        }
         place = place.wrapping_add(1);
         run = if last == Some(*label) {
             run.wrapping_add(1)
@@ -91,10 +96,10 @@ fn weight_of(config: &Config, weights: &[u64]) -> u64 {
             1
         };
         last = Some(*label);
-        orders = orders.wrapping_mul(place).checked_div(run).unwrap_or(0);
-        weight = weight.wrapping_mul(weights.get(*label as usize).copied().unwrap_or(0));
+        orders = orders.wrapping_mul(place);
+        alike = alike.wrapping_mul(run);
     }
-    weight.wrapping_mul(orders)
+    weight.wrapping_mul(orders.checked_div(alike).unwrap_or(0))
 }
 
 /// The chance that the labels around a passive node are a configuration, where each active node takes one of the active configurations

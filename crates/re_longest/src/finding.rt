@@ -8,6 +8,7 @@ ghost use Rattle.re_problem.specs.Zero.{zero_place};
 ghost use Rattle.std.specs.Prelude.{◌≡◌, IfOk, IfSome, None};
 
 use crate::beam::{longest_merged, longest_route};
+use crate::given::Given;
 use re_cert::{Certificate, Kind, MAX_STEPS};
 use re_extend::{Extension, Route, extended, repeated, route_steps, takes_merges};
 use re_labels::NoMemory;
@@ -42,10 +43,29 @@ fn along(
     extended(alloc, chain, extension, steps, labels)
 }
 
-// How many levels there may be.
-fn levels_behind(chain: &Certificate, steps: u8) -> usize {
+/// How many levels there may be.
+pub(crate) fn levels_behind(chain: &Certificate, steps: u8) -> usize {
     let room = MAX_STEPS.saturating_sub(chain.steps().len());
     room.min(steps as usize)
+}
+
+/// A route that begins with a merge and has more than so many stops, if one is found.
+pub(crate) fn longer_route(
+    alloc: Global,
+    given: &Given,
+    chain: &Certificate,
+    least: usize,
+    levels: usize,
+    labels: u8,
+) -> Result<Option<Route>, NoMemory> {
+    if levels <= least || !takes_merges(alloc, chain)? {
+        return Ok(None);
+    }
+    let route = longest_merged(alloc, given, chain.last(), levels, labels)?;
+    if route.stops.len() <= least {
+        return Ok(None);
+    }
+    Ok(Some(route))
 }
 
 // A lower bound that begins with a merge and is longer than so many steps, if one is found.
@@ -59,14 +79,10 @@ fn longer(
     ensures { IfOk result (λ found. IfSome found (GoesOn Lower steps labels chain.now)) }
 {
     let levels = levels_behind(chain, steps);
-    if levels <= least || !takes_merges(alloc, chain)? {
-        return Ok(None);
+    match longer_route(alloc, &Given::nothing(), chain, least, levels, labels)? {
+        Some(route) => along(alloc, chain, route, steps, labels),
+        None => Ok(None),
     }
-    let route = longest_merged(alloc, chain.last(), levels, labels)?;
-    if route.stops.len() <= least {
-        return Ok(None);
-    }
-    along(alloc, chain, route, steps, labels)
 }
 
 // The longest lower bound that is found.
@@ -80,7 +96,8 @@ fn searched(
     requires ends { zero_place (unnamed (last_problem chain.now)) ≡ None }
     ensures { IfOk result (GoesOn Lower steps labels chain.now) }
 {
-    let route = longest_route(alloc, chain.last(), levels_behind(chain, steps), labels)?;
+    let levels = levels_behind(chain, steps);
+    let route = longest_route(alloc, &Given::nothing(), chain.last(), levels, labels)?;
     if let Some(certificate) = longer(alloc, chain, route.stops.len(), steps, labels)? {
         return Ok(certificate);
     }

@@ -1,6 +1,7 @@
 //! The levels of the search.
-use crate::merges::{State, after_merge, state_of};
-use crate::pool::{Kept, Pool, kept_of};
+use crate::given::Given;
+use crate::pool::{Kept, Pool};
+use crate::spreads::{Spread, Spreads, Trace};
 use re_changes::Changed;
 use re_extend::Stop;
 use re_labels::{MAX_LABELS, NoMemory};
@@ -19,102 +20,113 @@ pub(crate) struct Level {
     pub(crate) plain: bool,
 }
 
-/// A level, and whether a derived problem passed a limit on the way to it.
+/// A level, and whether a derived problem passed a limit on the way to it, or some problem had too many labels.
 #[derive(Drop)]
 pub(crate) struct Built {
     pub(crate) level: Level,
     pub(crate) limited: bool,
+    pub(crate) larger: bool,
 }
 
-// A level that is being built: problems of at most so many labels.
+// A level that is being built behind so many steps: problems of at most so many labels.
 #[derive(Drop)]
-struct Building {
+struct Building<'a> {
     alloc: Global,
+    given: &'a Given,
+    steps: usize,
     most: u8,
     pool: Pool,
     plain: Option<Kept>,
     limited: bool,
+    larger: bool,
 }
 
-// How many labels it has.
-fn labels_of(state: &State) -> usize {
-    state.made.problem().names().len()
-}
-
-impl Building {
-    fn new(alloc: Global, most: u8) -> Building {
+impl<'a> Building<'a> {
+    fn new(alloc: Global, given: &'a Given, steps: usize, most: u8) -> Building<'a> {
         Building {
             alloc,
+            given,
+            steps,
             most,
             pool: Pool::new(alloc, WIDTH),
             plain: None,
             limited: false,
+            larger: false,
         }
     }
 
-    // Whether the problem has few enough labels.
-    fn is_small(&self, state: &State) -> bool {
-        labels_of(state) <= self.most as usize
-    }
-
     // Offers each problem of the inner beam that has few enough labels.
-    fn offer_all(&mut self, states: &[State], parent: usize) -> Result<(), NoMemory> {
-        for state in states {
-            if self.is_small(state) {
-                self.pool.offer(state, parent)?;
+    fn offer_all(&mut self, spread: &Spread, merges: usize, parent: usize) -> Result<(), NoMemory> {
+        for trace in spread.beam(merges) {
+            if trace.labels <= self.most as usize {
+                self.pool.offer_trace(spread, trace, parent)?;
+            } else {
+                self.larger = true;
             }
         }
         Ok(())
     }
 
     // Whether no merge of the problems of the inner beam counts any more.
-    fn is_done(&self, states: &[State]) -> bool {
-        match states.first() {
+    fn is_done(&self, beam: &[Trace]) -> bool {
+        match beam.first() {
             None => true,
-            Some(state) => {
-                let left = labels_of(state).saturating_sub(1);
+            Some(trace) => {
+                let left = trace.labels.saturating_sub(1);
                 left < self.most as usize && !self.pool.is_open(left)
             }
         }
     }
 
     // Offers the derived problem and what merges make of it.
-    fn spread(&mut self, derived: State, parent: usize) -> Result<(), NoMemory> {
-        let mut states = Vec::new(self.alloc);
-        states.push(derived)?;
-        for _merge in 0..MAX_LABELS {
-            self.offer_all(states.as_slice(), parent)?;
-            if self.is_done(states.as_slice()) {
+    fn spread(&mut self, spread: &mut Spread, parent: usize) -> Result<(), NoMemory> {
+        for merges in 0..MAX_LABELS as usize {
+            spread.reach(self.alloc, merges)?;
+            self.offer_all(spread, merges, parent)?;
+            if self.is_done(spread.beam(merges)) {
                 break;
             }
-            states = after_merge(self.alloc, states.as_slice())?;
         }
         Ok(())
     }
 
-    // Takes the derived problem in, which is plain or not.
-    fn take(&mut self, problem: Problem, parent: usize, plain: bool) -> Result<(), NoMemory> {
-        let Some(state) = state_of(Changed::unchanged(problem)) else {
+    // Takes the derived problem in as the plain one, where it counts.
+    fn take_plain(&mut self, spread: &Spread, parent: usize) -> Result<(), NoMemory> {
+        let [trace] = spread.beam(0) else {
             return Ok(());
         };
-        if plain && self.is_small(&state) {
-            self.plain = Some(kept_of(self.alloc, &state, parent)?);
+        if trace.labels > self.most as usize {
+            return Ok(());
         }
-        self.spread(state, parent)
+        if let Some(kept) = spread.kept(self.alloc, trace, parent)? {
+            if self.given.is_open(self.alloc, &kept.problem, self.steps)? {
+                self.plain = Some(kept);
+            }
+        }
+        Ok(())
     }
 
-    // Takes the derived problem of a problem of the level before in.
-    fn derive(&mut self, problem: &Problem, parent: usize, plain: bool) -> Result<(), NoMemory> {
-        match step(self.alloc, problem) {
-            Ok(derived) => {
-                let Derived { problem, .. } = derived;
-                self.take(problem, parent, plain)
-            }
-            Err(StepFault::Limit(_)) => {
-                self.limited = true;
-                Ok(())
-            }
-            Err(StepFault::NoMemory) => Err(NoMemory),
+    // Takes what merges make of a derived problem in, which is plain or not.
+    fn take(&mut self, spread: &mut Spread, parent: usize, plain: bool) -> Result<(), NoMemory> {
+        self.limited = self.limited || spread.is_limited();
+        if plain {
+            self.take_plain(spread, parent)?;
+        }
+        self.spread(spread, parent)
+    }
+
+    // Takes the derived problem of a problem of the level before in, which is plain or not.
+    fn derive(
+        &mut self,
+        spreads: &mut Spreads,
+        kept: &Kept,
+        parent: usize,
+        plain: bool,
+    ) -> Result<(), NoMemory> {
+        let place = spreads.place_for(&kept.problem, kept.mark)?;
+        match spreads.all.as_mut_slice().get_mut(place) {
+            Some(spread) => self.take(spread, parent, plain),
+            None => Ok(()),
         }
     }
 
@@ -122,9 +134,12 @@ impl Building {
     fn finish(self) -> Result<Built, NoMemory> {
         let Building {
             alloc,
+            given,
+            steps,
             pool,
             plain,
             limited,
+            larger,
             ..
         } = self;
         let mut pool = pool;
@@ -137,20 +152,31 @@ impl Building {
         if let Some(plain) = plain {
             kept.push(plain)?;
         }
-        pool.choose(&mut kept, mark)?;
+        pool.choose(&mut kept, mark, given, steps)?;
         let level = Level {
             kept,
             plain: is_plain,
         };
-        Ok(Built { level, limited })
+        Ok(Built {
+            level,
+            limited,
+            larger,
+        })
     }
 }
 
-/// The level behind this one, with problems of at most so many labels.
-pub(crate) fn next_level(alloc: Global, level: &Level, most: u8) -> Result<Built, NoMemory> {
-    let mut building = Building::new(alloc, most);
+/// The level behind this one and so many steps, with problems of at most so many labels.
+pub(crate) fn next_level(
+    alloc: Global,
+    spreads: &mut Spreads,
+    given: &Given,
+    level: &Level,
+    steps: usize,
+    most: u8,
+) -> Result<Built, NoMemory> {
+    let mut building = Building::new(alloc, given, steps, most);
     for (parent, kept) in level.kept.iter().enumerate() {
-        building.derive(&kept.problem, parent, level.plain && parent == 0)?;
+        building.derive(spreads, kept, parent, level.plain && parent == 0)?;
     }
     building.finish()
 }
@@ -168,10 +194,12 @@ pub(crate) fn first_level(alloc: Global, problem: &Problem) -> Result<Level, NoM
     Ok(Level { kept, plain: true })
 }
 
-/// The derived problem as one on a path, where it passes no limit, isn't solvable without communication, and has at most so many labels.
+/// The derived problem as one on a path behind so many steps, where it passes no limit, isn't solvable there, and has at most so many labels.
 pub(crate) fn plain_stop(
     alloc: Global,
+    given: &Given,
     problem: &Problem,
+    steps: usize,
     labels: u8,
 ) -> Result<Option<Stop>, NoMemory> {
     let made = match step(alloc, problem) {
@@ -184,6 +212,9 @@ pub(crate) fn plain_stop(
     };
     let names = made.problem().names().len();
     if names > labels as usize || zero_round(made.problem()).is_some() {
+        return Ok(None);
+    }
+    if !given.is_open(alloc, made.problem(), steps)? {
         return Ok(None);
     }
     Ok(Some(Stop {

@@ -30,8 +30,13 @@
 //! that was offered first stays first. Problems are taken for equal where a number of 64 bits that is mixed of their configurations is:
 //! a rare mistake loses a candidate, and nothing else rests on it.
 //!
-//! **Memory.** At most `3 * WIDTH` candidates of one level, `2 * INNER_WIDTH` problems of the inner beam, and `WIDTH + 1` problems of
-//! each level before. It uses no clock and no random numbers.
+//! **What is kept.** What merges make of a derived problem is kept for the other beams: the derived problem, the problems of the last inner
+//! beam, and of those before it the labels that the derived problem's have become, the number and the rank. Where they are 256 derived problems,
+//! or these have more than a million configurations together, all are forgotten. Where no problem had more labels than a beam's number,
+//! the beams behind it would find the same, and are passed over.
+//!
+//! **Memory.** At most `3 * WIDTH` candidates of one level, `2 * INNER_WIDTH` problems of the inner beam, `WIDTH + 1` problems of each
+//! level before, and what is kept. It uses no clock and no random numbers.
 //!
 //! # Upper bounds
 //!
@@ -66,12 +71,27 @@
 //! Mayer, Naor and Stockmeyer 1995, for weak colourings). Else those of the most choices stay, as many as have few enough labels, and two
 //! steps follow. In degree 5, where derived problems are dear, no beam has more than 8 labels if patterns of 20 labels lead to the end,
 //! however many steps and labels are wanted.
+//!
+//! # Given an input problem
+//!
+//! The same searches, where a solution of an input problem is given. A path ends at a problem that is solvable in 0 rounds given it: given the
+//! input problem with its sides exchanged as often as there are steps from the chain's first problem. `re_fit::find_fit` tells whether it
+//! is, with `FEW_TRIES` tries; where they don't suffice, it counts as not known.
+//!
+//! **Lower bounds.** Problems that are solvable without communication are left out as above. Of the candidates of a level, in the order in
+//! which they would stay, those stay that are told not to be solvable given the input problem. So each path is a bound.
+//!
+//! **Upper bounds.** Each derived problem that isn't solvable without communication is asked first. Where it is told to be solvable, with a set
+//! of its labels for each input label, its labels are left out but those of these sets; where these are no more than the beam's number, the
+//! beam ends. Where they are more, or it isn't known, the candidates that stay and are made of it are asked, and the first that is told to
+//! be solvable ends the beam.
 #![tactic(auto)]
 
 mod beam;
 mod chance;
 mod closed_sets;
 mod finding;
+mod given;
 mod levels;
 mod losses;
 mod merges;
@@ -80,6 +100,7 @@ mod pairing;
 mod patterns;
 mod pool;
 mod shortening;
+mod spreads;
 mod starts;
 mod thinning;
 mod upper_beam;

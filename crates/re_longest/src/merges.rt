@@ -184,8 +184,13 @@ fn merges_of(alloc: Global, states: &[State]) -> Result<Vec<Merge>, NoMemory> {
     Ok(merges)
 }
 
-// What the merge makes of the problem, where there are such labels.
-fn changed(alloc: Global, made: &Changed, low: u8, high: u8) -> Result<Option<Changed>, NoMemory> {
+/// What the merge makes of the problem, where there are such labels.
+pub(crate) fn changed(
+    alloc: Global,
+    made: &Changed,
+    low: u8,
+    high: u8,
+) -> Result<Option<Changed>, NoMemory> {
     let labels = made.problem().names().len();
     if low < high && (high as usize) < labels {
         Ok(Some(made.changed(alloc, Change::Merge(low, high))?))

@@ -370,6 +370,14 @@ fn path_of_size(
     Ok(path)
 }
 
+/// What the searches by patterns come to: the shortest path that one finds, if any, and whether one finds a path to problems of at most
+/// `FEWEST` labels.
+#[derive(Drop)]
+pub(crate) struct Paired {
+    pub(crate) path: Option<Vec<Step>>,
+    few: bool,
+}
+
 /// The shortest path by patterns that is found from a problem of passive degree 2 and active degree 3 or 5 to one that is solvable without
 /// communication: at most so many steps, to problems of at most so many labels. There is a search for each number of labels up to that.
 pub(crate) fn pattern_path(
@@ -377,11 +385,14 @@ pub(crate) fn pattern_path(
     problem: &Problem,
     steps: usize,
     labels: u8,
-) -> Result<Option<Vec<Step>>, NoMemory> {
+) -> Result<Paired, NoMemory> {
     let degree = problem.active().degree();
-    let mut path = None;
+    let mut paired = Paired {
+        path: None,
+        few: false,
+    };
     if problem.passive().degree() != 2 || (degree != 3 && degree != 5) {
-        return Ok(path);
+        return Ok(paired);
     }
     let mut most = steps;
     let mut size = if degree == 3 { 6 } else { FEWEST };
@@ -391,18 +402,27 @@ pub(crate) fn pattern_path(
         }
         if let Some(found) = path_of_size(alloc, problem, most, size)? {
             most = found.len().saturating_sub(1);
-            path = Some(found);
+            paired.path = Some(found);
+            paired.few = paired.few || size == FEWEST;
         }
         size = next_size(size);
     }
-    Ok(path)
+    Ok(paired)
 }
 
 /// The most labels of a beam, of so many that are wanted: in degree 5 at most `MAX_BEAM` where patterns of `FEWEST` labels lead to the end,
 /// however many steps and labels are wanted.
-pub(crate) fn beam_labels(alloc: Global, problem: &Problem, labels: u8) -> Result<u8, NoMemory> {
+pub(crate) fn beam_labels(
+    alloc: Global,
+    problem: &Problem,
+    paired: &Paired,
+    labels: u8,
+) -> Result<u8, NoMemory> {
     if problem.passive().degree() != 2 || problem.active().degree() != 5 {
         return Ok(labels);
+    }
+    if paired.few {
+        return Ok(labels.min(MAX_BEAM));
     }
     match path_of_size(alloc, problem, MAX_PATH, FEWEST)? {
         Some(_path) => Ok(labels.min(MAX_BEAM)),

@@ -1,5 +1,7 @@
 //! The candidates of a level.
+use crate::given::Given;
 use crate::merges::State;
+use crate::spreads::{Spread, Trace};
 use re_labels::NoMemory;
 use re_problem::Problem;
 use std::alloc::Global;
@@ -96,13 +98,11 @@ impl Pool {
         }
     }
 
-    // Whether the candidate would stay, and isn't there.
-    fn takes(&self, state: &State) -> bool {
-        let problem = state.made.problem();
-        let labels = problem.names().len();
+    // Whether a candidate of so many labels, of this rank and this number would stay, and isn't there.
+    fn takes(&self, labels: usize, rank: u64, mark: u64) -> bool {
         for group in self.groups.as_slice() {
             if group.labels == labels {
-                return group.takes(state.rank) && !group.has(state.mark);
+                return group.takes(rank) && !group.has(mark);
             }
         }
         self.is_open(labels)
@@ -130,18 +130,37 @@ impl Pool {
 
     /// Offers the problem of the inner beam as a candidate.
     pub(crate) fn offer(&mut self, state: &State, parent: usize) -> Result<(), NoMemory> {
-        if self.takes(state) {
+        let labels = state.made.problem().names().len();
+        if self.takes(labels, state.rank, state.mark) {
             let kept = kept_of(self.alloc, state, parent)?;
             self.put(kept)?;
         }
         Ok(())
     }
 
-    /// Appends those that stay, without the one of this number if any.
+    /// Offers a problem of what merges make of a derived problem as a candidate.
+    pub(crate) fn offer_trace(
+        &mut self,
+        spread: &Spread,
+        trace: &Trace,
+        parent: usize,
+    ) -> Result<(), NoMemory> {
+        if self.takes(trace.labels, trace.rank, trace.mark) {
+            if let Some(kept) = spread.kept(self.alloc, trace, parent)? {
+                self.put(kept)?;
+            }
+        }
+        Ok(())
+    }
+
+    /// Appends those that stay, without the one of this number if any, and without those that aren't told to be unsolvable behind so many
+    /// steps.
     pub(crate) fn choose(
         &mut self,
         beam: &mut Vec<Kept>,
         without: Option<u64>,
+        given: &Given,
+        steps: usize,
     ) -> Result<(), NoMemory> {
         for group in self.groups.as_mut_slice() {
             group.kept.reverse();
@@ -149,7 +168,8 @@ impl Pool {
         for _turn in 0..self.width {
             for group in self.groups.as_mut_slice() {
                 if let Some(kept) = group.kept.pop() {
-                    if Some(kept.mark) != without && beam.len() < self.width {
+                    let counts = Some(kept.mark) != without && beam.len() < self.width;
+                    if counts && given.is_open(self.alloc, &kept.problem, steps)? {
                         beam.push(kept)?;
                     }
                 }

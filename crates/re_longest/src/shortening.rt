@@ -8,6 +8,7 @@ ghost use Rattle.re_problem.specs.NamedProblems.{unnamed};
 ghost use Rattle.re_problem.specs.Zero.{zero_place};
 ghost use Rattle.std.specs.Prelude.{◌≡◌, [], IfOk, IfSome, None};
 
+use crate::given::Given;
 use crate::upper_beam::{Climb, shortest_path};
 use re_cert::{Certificate, Kind, MAX_STEPS, Step};
 use re_chain_parts::over_problems;
@@ -26,8 +27,8 @@ pub enum Shortest {
     NotFound { nodes: u32, cut: u32 },
 }
 
-// What makes an upper bound of steps.
-fn upper_with(alloc: Global, steps: Vec<Step>) -> Extension
+/// What makes an upper bound of steps.
+pub(crate) fn upper_with(alloc: Global, steps: Vec<Step>) -> Extension
     ensures kind { result.kind ≡ Upper }
     ensures back { result.back ≡ 0 }
     ensures steps { result.steps ≡ steps }
@@ -86,7 +87,13 @@ fn searched(alloc: Global, chain: &Certificate, most: u8, labels: u8) -> Result<
 {
     let room = MAX_STEPS.saturating_sub(chain.steps().len());
     let levels = room.min(most as usize);
-    let Climb { path, count } = shortest_path(alloc, chain.last(), levels, labels)?;
+    let Climb { path, count } = shortest_path(
+        alloc,
+        &Given::nothing(),
+        chain.last(),
+        levels,
+        labels,
+    )?;
     match found_along(alloc, chain, path, most, labels)? {
         Some(certificate) => Ok(Shortest::Found(certificate)),
         None => Ok(Shortest::NotFound {

@@ -1,4 +1,5 @@
 //! Where a search begins.
+use crate::given::Given;
 use crate::levels::{Level, WIDTH, first_level};
 use crate::merges::merged;
 use crate::pool::Pool;
@@ -50,7 +51,11 @@ impl Start {
     }
 
     /// What merges of two labels make of the problem, as many as stay on a level.
-    pub(crate) fn of_merges(alloc: Global, problem: &Problem) -> Result<Start, NoMemory> {
+    pub(crate) fn of_merges(
+        alloc: Global,
+        given: &Given,
+        problem: &Problem,
+    ) -> Result<Start, NoMemory> {
         let level = Level {
             kept: Vec::new(alloc),
             plain: false,
@@ -58,7 +63,7 @@ impl Start {
         let mut start = Start::with(alloc, level);
         let mut pool = Pool::new(alloc, WIDTH);
         start.offer_all(alloc, &mut pool, problem)?;
-        pool.choose(&mut start.level.kept, None)?;
+        pool.choose(&mut start.level.kept, None, given, 0)?;
         Ok(start)
     }
 

@@ -1,12 +1,12 @@
 //! The search for an upper bound from level to level.
 use crate::beam::next_size;
+use crate::given::Given;
 use crate::levels::first_level;
-use crate::pairing::{beam_labels, pattern_path};
+use crate::pairing::{Paired, beam_labels, pattern_path};
 use crate::pool::Kept;
-use crate::upper_levels::{Count, End, Reached, Rung, level_behind};
-use crate::upper_steps::upper_step;
+use crate::upper_levels::{Count, End, Reached, Rung, Wanted, level_behind, step_of};
 use re_cert::Step;
-use re_labels::{LabelSet, NoMemory};
+use re_labels::NoMemory;
 use re_problem::Problem;
 use std::alloc::Global;
 
@@ -16,16 +16,6 @@ use std::alloc::Global;
 pub(crate) struct Climb {
     pub(crate) path: Option<Vec<Step>>,
     pub(crate) count: Count,
-}
-
-// The step to the problem of this level.
-fn step_of(alloc: Global, kept: &Kept, sets: &[Vec<LabelSet>]) -> Result<Step, NoMemory> {
-    let next = kept.problem.copy()?;
-    let images = kept.images.as_slice();
-    match sets.get(kept.parent) {
-        Some(sets) => upper_step(alloc, next, sets.as_slice(), images),
-        None => upper_step(alloc, next, &[], images),
-    }
 }
 
 // The path to the end behind the last level.
@@ -47,20 +37,27 @@ fn path_to(alloc: Global, levels: &[Rung], end: End) -> Result<Vec<Step>, NoMemo
 // What is reached behind the last of the levels, or behind the first problem.
 fn reached_behind(
     alloc: Global,
+    given: &Given,
     first: &[Kept],
     levels: &[Rung],
     labels: u8,
     count: &mut Count,
 ) -> Result<Reached, NoMemory> {
+    let wanted = Wanted {
+        given,
+        steps: levels.len().saturating_add(1),
+        most: labels,
+    };
     match levels.last() {
-        Some(level) => level_behind(alloc, level.kept.as_slice(), labels, count),
-        None => level_behind(alloc, first, labels, count),
+        Some(level) => level_behind(alloc, level.kept.as_slice(), wanted, count),
+        None => level_behind(alloc, first, wanted, count),
     }
 }
 
 // The path that one beam finds from the problem, if any: at most so many levels, of problems of at most so many labels.
 fn beam_path(
     alloc: Global,
+    given: &Given,
     first: &[Kept],
     most: usize,
     labels: u8,
@@ -68,7 +65,7 @@ fn beam_path(
 ) -> Result<Option<Vec<Step>>, NoMemory> {
     let mut levels: Vec<Rung> = Vec::new(alloc);
     for _level in 0..most {
-        match reached_behind(alloc, first, levels.as_slice(), labels, count)? {
+        match reached_behind(alloc, given, first, levels.as_slice(), labels, count)? {
             Reached::End(end) => return Ok(Some(path_to(alloc, levels.as_slice(), end)?)),
             Reached::Level(level) => {
                 if level.kept.is_empty() {
@@ -81,10 +78,11 @@ fn beam_path(
     Ok(None)
 }
 
-/// The shortest path that is found from the problem to one that is solvable without communication: at most so many levels, of problems
-/// of at most so many labels.
+/// The shortest path that is found from the problem to one that is solvable without communication, or with what is given alone: at most so
+/// many levels, of problems of at most so many labels.
 pub(crate) fn shortest_path(
     alloc: Global,
+    given: &Given,
     problem: &Problem,
     levels: usize,
     labels: u8,
@@ -95,18 +93,20 @@ pub(crate) fn shortest_path(
         count: Count { nodes: 0, cut: 0 },
     };
     let mut most = levels;
-    if let Some(path) = pattern_path(alloc, problem, levels, labels)? {
+    let paired = pattern_path(alloc, problem, levels, labels)?;
+    let widest = beam_labels(alloc, problem, &paired, labels)?;
+    let Paired { path, .. } = paired;
+    if let Some(path) = path {
         most = path.len().saturating_sub(1);
         climb.path = Some(path);
     }
-    let widest = beam_labels(alloc, problem, labels)?;
     let mut size = 2;
     for _size in 0..labels {
         if size > widest || most == 0 {
             break;
         }
         let kept = first.kept.as_slice();
-        if let Some(path) = beam_path(alloc, kept, most, size, &mut climb.count)? {
+        if let Some(path) = beam_path(alloc, given, kept, most, size, &mut climb.count)? {
             most = path.len().saturating_sub(1);
             climb.path = Some(path);
         }

@@ -1,4 +1,5 @@
 //! The levels of the search for an upper bound.
+use crate::given::{Given, Told};
 use crate::losses::{after_loss, state_of};
 use crate::merges::State;
 use crate::pool::{Kept, Pool};
@@ -51,12 +52,21 @@ enum Behind {
     End(Step),
 }
 
-// A level that is being built: problems of at most so many labels.
+/// What a level is to be: what is given, behind how many steps it stands, and the most labels of its problems.
+#[derive(Clone, Copy)]
+pub(crate) struct Wanted<'a> {
+    pub(crate) given: &'a Given,
+    pub(crate) steps: usize,
+    pub(crate) most: u8,
+}
+
+// A level that is being built. The derived problems of those at the places `open` of the level before may be solvable with what is given.
 #[derive(Drop)]
-struct Building {
+struct Building<'a> {
     alloc: Global,
-    most: u8,
+    wanted: Wanted<'a>,
     pool: Pool,
+    open: Vec<usize>,
     count: Count,
 }
 
@@ -68,15 +78,23 @@ fn labels_at(problem: &Problem, place: usize) -> LabelSet {
     }
 }
 
-// The step to the derived problem with the labels of the active configuration at this place alone, where these are at most so many.
-fn end_at(
+// All labels of the sets.
+fn labels_in(sets: &[LabelSet]) -> LabelSet {
+    let mut all = LabelSet::empty();
+    for set in sets {
+        all = all.union(*set);
+    }
+    all
+}
+
+// The step to the derived problem with these labels alone, where they are at most so many.
+fn end_with(
     alloc: Global,
     before: &Problem,
     derived: &Derived,
-    place: usize,
+    stay: LabelSet,
     most: u8,
 ) -> Result<Option<Step>, NoMemory> {
-    let stay = labels_at(&derived.problem, place);
     let Some(Thin { problem, sets }) = thin_to(alloc, before, derived, stay)? else {
         return Ok(None);
     };
@@ -93,11 +111,11 @@ fn labels_of(state: &State) -> usize {
     state.made.problem().names().len()
 }
 
-impl Building {
+impl<'a> Building<'a> {
     // Offers each problem of the inner beam that has few enough labels.
     fn offer_all(&mut self, states: &[State], parent: usize) -> Result<(), NoMemory> {
         for state in states {
-            if labels_of(state) <= self.most as usize {
+            if labels_of(state) <= self.wanted.most as usize {
                 self.pool.offer(state, parent)?;
             }
         }
@@ -110,7 +128,7 @@ impl Building {
             None => true,
             Some(state) => {
                 let left = labels_of(state).saturating_sub(1);
-                left < self.most as usize && !self.pool.is_open(left)
+                left < self.wanted.most as usize && !self.pool.is_open(left)
             }
         }
     }
@@ -131,20 +149,42 @@ impl Building {
         Ok(())
     }
 
-    // Takes the derived problem in, which isn't solvable without communication.
+    // Takes the derived problem in, which isn't solvable without communication, and with what is given alone not with few labels.
     fn take(
         &mut self,
         before: &Problem,
         derived: Derived,
         parent: usize,
     ) -> Result<Behind, NoMemory> {
-        match thinned(self.alloc, before, derived, self.most)? {
+        match thinned(self.alloc, before, derived, self.wanted.most)? {
             Some(Thin { problem, sets }) => {
                 self.spread(Changed::unchanged(problem), parent)?;
                 Ok(Behind::Sets(sets))
             }
             None => Ok(Behind::Sets(Vec::new(self.alloc))),
         }
+    }
+
+    // What is told of the derived problem, which isn't solvable without communication.
+    fn ask(
+        &mut self,
+        before: &Problem,
+        derived: Derived,
+        parent: usize,
+    ) -> Result<Behind, NoMemory> {
+        let Wanted { given, steps, most } = self.wanted;
+        match given.told(self.alloc, &derived.problem, steps)? {
+            Told::Solvable(sets) => {
+                let stay = labels_in(sets.as_slice());
+                if let Some(step) = end_with(self.alloc, before, &derived, stay, most)? {
+                    return Ok(Behind::End(step));
+                }
+                self.open.push(parent)?;
+            }
+            Told::Unknown => self.open.push(parent)?,
+            Told::Unsolvable => {}
+        }
+        self.take(before, derived, parent)
     }
 
     // The step to the derived problem, where the configuration at this place shows that it is solvable without communication.
@@ -154,7 +194,8 @@ impl Building {
         derived: &Derived,
         place: usize,
     ) -> Result<Behind, NoMemory> {
-        match end_at(self.alloc, before, derived, place, self.most)? {
+        let stay = labels_at(&derived.problem, place);
+        match end_with(self.alloc, before, derived, stay, self.wanted.most)? {
             Some(step) => Ok(Behind::End(step)),
             None => Ok(Behind::Sets(Vec::new(self.alloc))),
         }
@@ -166,7 +207,7 @@ impl Building {
         match step(self.alloc, before) {
             Ok(derived) => match zero_round(&derived.problem) {
                 Some(place) => self.finish(before, &derived, place),
-                None => self.take(before, derived, parent),
+                None => self.ask(before, derived, parent),
             },
             Err(StepFault::Limit(_)) => {
                 self.count.cut = self.count.cut.wrapping_add(1);
@@ -186,22 +227,57 @@ impl Building {
             }
         }
         let mut kept = Vec::new(self.alloc);
-        self.pool.choose(&mut kept, None)?;
-        Ok(Reached::Level(Rung { kept, sets: all }))
+        self.pool.choose(&mut kept, None, &Given::nothing(), 0)?;
+        let rung = Rung { kept, sets: all };
+        match self.end_on(&rung)? {
+            Some(end) => Ok(Reached::End(end)),
+            None => Ok(Reached::Level(rung)),
+        }
+    }
+
+    // The step to the first problem of the level that is solvable with what is given alone, if there is one.
+    fn end_on(&self, rung: &Rung) -> Result<Option<End>, NoMemory> {
+        let Wanted { given, steps, .. } = self.wanted;
+        for kept in rung.kept.as_slice() {
+            if self.open.as_slice().contains(&kept.parent) {
+                let told = given.told(self.alloc, &kept.problem, steps)?;
+                if matches!(told, Told::Solvable(_)) {
+                    let step = step_of(self.alloc, kept, rung.sets.as_slice())?;
+                    let parent = kept.parent;
+                    return Ok(Some(End { step, parent }));
+                }
+            }
+        }
+        Ok(None)
     }
 }
 
-/// What is reached behind this level, with problems of at most so many labels, and the count of all problems that were derived.
+/// The step to the problem of a level, from the sets of the labels of the derived problems of those of the level before.
+pub(crate) fn step_of(
+    alloc: Global,
+    kept: &Kept,
+    sets: &[Vec<LabelSet>],
+) -> Result<Step, NoMemory> {
+    let next = kept.problem.copy()?;
+    let images = kept.images.as_slice();
+    match sets.get(kept.parent) {
+        Some(sets) => upper_step(alloc, next, sets.as_slice(), images),
+        None => upper_step(alloc, next, &[], images),
+    }
+}
+
+/// What is reached behind this level, and the count of all problems that were derived.
 pub(crate) fn level_behind(
     alloc: Global,
     level: &[Kept],
-    most: u8,
+    wanted: Wanted<'_>,
     count: &mut Count,
 ) -> Result<Reached, NoMemory> {
     let mut building = Building {
         alloc,
-        most,
+        wanted,
         pool: Pool::new(alloc, WIDTH),
+        open: Vec::new(alloc),
         count: *count,
     };
     let reached = building.fill(level)?;

@@ -240,7 +240,7 @@ fn count_behind(
 
 /// The same, however many labels the problems have. Alone, where a step passes a limit, `re_ahead::look_ahead` goes on from the problem
 /// before it.
-pub(crate) fn count(alloc: Global, texts: &RoundsTexts, most: u8) -> Result<Counted, NoMemory>
+pub fn count(alloc: Global, texts: &RoundsTexts, most: u8) -> Result<Counted, NoMemory>
     requires beside { IsBeside (unnamed texts.now.problem) (option_map unnamed texts.now.input) }
     requires most { most ≤ 64 }
     ensures told { IfOk result (MayTell (unnamed texts.now.problem) (option_map unnamed texts.now.input) most) }

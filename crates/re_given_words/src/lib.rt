@@ -14,7 +14,7 @@ mod words;
 
 ghost use Rattle.re_given_words.specs.Meanings.{AnswerLaw};
 
-pub use counting::{Counted, RoundsTexts, count_within};
+pub use counting::{Counted, RoundsTexts, count, count_within};
 pub use faults::input_fault_output;
 pub use fitting::MAX_TRIES;
 pub use texts::{GIVEN, GivenTexts, read_given};

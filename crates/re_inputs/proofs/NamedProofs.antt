@@ -1,12 +1,12 @@
 -- The input problems are problems, and input problems of each problem of their degrees.
 use Rattle.std.proofs.Common.{◌≡◌, ℕ, ◌≤◌, Bool, true, false, cond, List, [], ◌∷◌, filter, length, refl, ap, sym, ◌∙◌, subst, inl, inr, arith, Some, None, eqb}
-use Rattle.std.specs.Prelude.{◌&&◌, not, nat_le, replicate}
+use Rattle.std.specs.Prelude.{◌&&◌, ◌||◌, not, nat_le, replicate, if◌then◌else◌}
 use Rattle.std.proofs.lemmas.Bool.{le-leb, leb-true}
 use Rattle.re_families.specs.Families.{are_equal, colour_name, family_of, is_degree, number_fits, out_of_range, passive_fits}
 use Rattle.re_families.specs.declared.types.Family.{Family}
 use Rattle.re_families.specs.declared.types.Family.TheVariants as family
 use Rattle.re_given.proofs.Colourings.{IsInput-colouring, filtered_constraint}
-use Rattle.re_given.proofs.NamedInputs.{IsInput-edges, IsInput-oriented, IsInput-oriented_both, IsInput-sides, IsInput-tested, are_there}
+use Rattle.re_given.proofs.NamedInputs.{IsInput-oriented, IsInput-oriented_both, IsInput-sides, IsInput-tested, are_there, edge_colouring_input}
 use Rattle.re_config.specs.Orders.{multisets}
 use Rattle.re_given.specs.InputExamples as examples
 use Rattle.re_given.specs.Inputs.{IsInput, exchanged, nothing}
@@ -20,7 +20,7 @@ use Rattle.re_problem.proofs.Building.{all_occur-facts, constraint_named}
 use Rattle.re_problem.specs.NamedProblems.{IsNamedProblem, NamedProblem, built, unnamed}
 use Rattle.re_problem.specs.Problems.{IsProblem, Problem}
 use Rattle.re_table.specs.Constraints.{Constraint}
-use Rattle.re_inputs.specs.NamedInputs.{ColouringFamilyLaw, InputsLaw, NamedInputsLaw, fits, input_of, named, oriented, turned}
+use Rattle.re_inputs.specs.NamedInputs.{ColouringFamilyLaw, InputsLaw, NamedInputsLaw, edge_colours, fits, input_of, named, oriented, turned}
 use Rattle.re_inputs.specs.declared.kinds.InputKind.{InputKind}
 use Rattle.re_inputs.specs.declared.kinds.InputKind.TheVariants.{Both, Colouring, Edges, Nothing, Orientation, Sides}
 
@@ -76,9 +76,9 @@ input_nothing number problem is =
     (each_degree (λ d. are_there 1 are_equal d ≡ true) refl refl refl refl refl problem.passive.degree is.passive.least is.passive.most)
 
 -- ---- parameters of the kinds
-two : (a p n : ℕ) → (is_degree a && is_degree p && eqb n 0) ≡ true → AreDegrees a p
-two a p n e =
-    let first = and-true (is_degree a && is_degree p) (eqb n 0) e in
+two : (a p : ℕ) (b : Bool) → (is_degree a && is_degree p && b) ≡ true → AreDegrees a p
+two a p b e =
+    let first = and-true (is_degree a && is_degree p) b e in
     let both = and-true (is_degree a) (is_degree p) first.0 in
     record { active = both.0; passive = both.1 }
 
@@ -93,10 +93,10 @@ degrees_of Sides a p n e =
     let second = and-true (is_degree a && is_degree p) (eqb p 2) first.0 in
     let both = and-true (is_degree a) (is_degree p) second.0 in
     record { active = both.0; passive = both.1 }
-degrees_of Edges a p n e = two a p n e
-degrees_of Orientation a p n e = two a p n e
-degrees_of Both a p n e = two a p n e
-degrees_of Nothing a p n e = two a p n e
+degrees_of Edges a p n e = two a p (eqb n 0 || (nat_le a n && nat_le n 16)) e
+degrees_of Orientation a p n e = two a p (eqb n 0) e
+degrees_of Both a p n e = two a p (eqb n 0) e
+degrees_of Nothing a p n e = two a p (eqb n 0) e
 
 pub degree_range : (degree : ℕ) → is_degree degree ≡ true → (2 ≤ degree) × (degree ≤ 6)
 degree_range degree h = let both = and-true (nat_le 2 degree) (nat_le degree 6) h in (leb-true 2 degree both.0, leb-true degree 6 both.1)
@@ -107,6 +107,17 @@ colours_range a p n e =
     let first = and-true (is_degree a && is_degree p && nat_le p n) (nat_le n 16) e in
     let second = and-true (is_degree a && is_degree p) (nat_le p n) first.0 in
     (leb-true p n second.1, leb-true n 16 first.1)
+
+-- how many colours of edges
+pub edge_range : (a p n : ℕ) → fits Edges a p n ≡ true → (a ≤ edge_colours a n) × (edge_colours a n ≤ 16)
+edge_range a p n e = go (eqb n 0) (and-true (is_degree a && is_degree p) (eqb n 0 || (nat_le a n && nat_le n 16)) e).1
+  where
+    most : a ≤ 6
+    most = (degree_range a (degrees_of Edges a p n e).active).1
+
+    go : (b : Bool) → (b || (nat_le a n && nat_le n 16)) ≡ true → (a ≤ (if b then a else n)) × ((if b then a else n) ≤ 16)
+    go true e = (omega arith, (let l = most in omega (arith, l)))
+    go false e = let both = and-true (nat_le a n) (nat_le n 16) e in (leb-true a n both.0, leb-true n 16 both.1)
 
 pub sides_range : (a p n : ℕ) → fits Sides a p n ≡ true → p ≡ 2
 sides_range a p n e =
@@ -133,14 +144,16 @@ inputs Sides problem n is e =
     let edge : problem.passive.degree ≡ 2 = sides_range problem.active.degree problem.passive.degree n e in
     subst (IsInput problem) (sym (colouring_family problem.active.degree 2 2)) (IsInput-sides problem is edge)
 inputs Edges problem n is e =
-    subst (λ (p : Problem). IsInput problem (exchanged p)) (sym (colouring_family problem.passive.degree problem.active.degree problem.active.degree)) (IsInput-edges problem is)
+    let colours : ℕ = edge_colours problem.active.degree n in
+    subst (λ (p : Problem). IsInput problem (exchanged p)) (sym (colouring_family problem.passive.degree problem.active.degree colours))
+    (edge_colouring_input problem colours is (edge_range problem.active.degree problem.passive.degree n e).0)
 inputs Orientation problem n is e = input_oriented false problem is
 inputs Both problem n is e = input_oriented true problem is
 inputs Nothing problem n is e = input_nothing n problem is
 
 -- ---- each is the input problem of the laws
-turned_colouring : (a p : ℕ) → unnamed (turned (family_of family.Colouring p a a)) ≡ examples.coloured_edges a p
-turned_colouring a p = ap exchanged (colouring_family p a a)
+pub turned_colouring : (a p n : ℕ) → unnamed (turned (family_of family.Colouring p a n)) ≡ examples.edge_colouring a p n
+turned_colouring a p n = ap exchanged (colouring_family p a n)
 
 oriented_is : (mixed : Bool) (a p : ℕ) → unnamed (oriented mixed a p) ≡ cond mixed (examples.oriented_both a p) (examples.oriented a p)
 unfolding family_of
@@ -163,7 +176,7 @@ nothing_is number problem is =
 pub named_inputs : NamedInputsLaw
 named_inputs Colouring problem n is e = colouring_family problem.active.degree problem.passive.degree n
 named_inputs Sides problem n is e = colouring_family problem.active.degree 2 2
-named_inputs Edges problem n is e = turned_colouring problem.active.degree problem.passive.degree
+named_inputs Edges problem n is e = turned_colouring problem.active.degree problem.passive.degree (edge_colours problem.active.degree n)
 named_inputs Orientation problem n is e = oriented_is false problem.active.degree problem.passive.degree
 named_inputs Both problem n is e = oriented_is true problem.active.degree problem.passive.degree
 named_inputs Nothing problem n is e = nothing_is n problem is

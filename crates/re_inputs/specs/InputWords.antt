@@ -46,7 +46,7 @@ IsInputWord word = fits word.kind word.active word.passive word.number ≡ true
 -- the line of help
 unfoldable pub input_help : List ℕ
 input_help =
-    codes "input NAME A P N: reads nothing, gives an input problem: a colouring with N colours, or without N edges, sides, orientation, both or nothing\n"
+    codes "input NAME A P N: reads nothing, gives an input problem: a colouring or edges with N colours, or without N edges, sides, orientation, both or nothing\n"
 
 -- the problem, in its canonical text
 abbrev pub input_outcome : InputWord → Outcome

@@ -1,5 +1,5 @@
 -- Input problems of the field with names for their labels.
-use Rattle.std.specs.Prelude.{◌≡◌, ℕ, ◌==◌, nat_le, Bool, true, false, not, ◌&&◌, ◌||◌, List, filter, length}
+use Rattle.std.specs.Prelude.{◌≡◌, ℕ, ◌==◌, nat_le, Bool, true, false, not, ◌&&◌, ◌||◌, List, filter, length, if◌then◌else◌}
 use Rattle.re_config.specs.Configs.{support_of}
 use Rattle.re_config.specs.Orders.{multisets}
 use Rattle.re_families.specs.Families.{family_of, is_degree}
@@ -14,10 +14,11 @@ use Rattle.re_table.specs.Constraints.{Constraint}
 use Rattle.re_inputs.specs.declared.kinds.InputKind.{InputKind}
 use Rattle.re_inputs.specs.declared.kinds.InputKind.TheVariants.{Both, Colouring, Edges, Nothing, Orientation, Sides}
 
--- whether there is the input problem of this kind: degrees from 2 to 6, the passive one 2 for sides; the number is that of the colours, from
--- the passive degree to 16, and else 0
+-- whether there is the input problem of this kind: degrees from 2 to 6, the passive one 2 for sides; the number is that of the colours, of nodes from
+-- the passive degree and of edges from the active one to 16, and else 0, also for as many colours of edges as the active degree
 abbrev pub fits : InputKind → ℕ → ℕ → ℕ → Bool
 fits Colouring active passive number = is_degree active && is_degree passive && nat_le passive number && nat_le number 16
+fits Edges active passive number = is_degree active && is_degree passive && (number == 0 || (nat_le active number && nat_le number 16))
 fits Sides active passive number = is_degree active && is_degree passive && passive == 2 && number == 0
 fits kind active passive number = is_degree active && is_degree passive && number == 0
 
@@ -42,11 +43,15 @@ abbrev pub oriented : Bool → ℕ → ℕ → NamedProblem
 oriented mixed active passive =
     record { names = (family_of family.Orientation active passive 0).names; active = oriented_constraint mixed active; passive = (family_of family.Orientation active passive 0).passive }
 
+-- how many colours edges have: as many as the active degree, where no number stands
+abbrev pub edge_colours : ℕ → ℕ → ℕ
+edge_colours active number = if number == 0 then active else number
+
 -- the input problem of a kind with these degrees and this number: the sides are a colouring with two colours, a colouring of the edges is
 -- one of the passive nodes with its sides exchanged
 abbrev pub input_of : InputKind → ℕ → ℕ → ℕ → NamedProblem
 input_of Colouring active passive number = family_of family.Colouring active passive number
-input_of Edges active passive number = turned (family_of family.Colouring passive active active)
+input_of Edges active passive number = turned (family_of family.Colouring passive active (edge_colours active number))
 input_of Sides active passive number = family_of family.Colouring active 2 2
 input_of Orientation active passive number = oriented false active passive
 input_of Both active passive number = oriented true active passive
@@ -64,7 +69,7 @@ InputsLaw = (kind : InputKind) (problem : Problem) (number : ℕ) → IsProblem 
 -- the input problem of this kind that the laws speak of, of a problem's degrees
 abbrev pub law_input : InputKind → Problem → ℕ → Problem
 law_input Colouring problem number = colouring problem.active.degree problem.passive.degree number
-law_input Edges problem number = examples.coloured_edges problem.active.degree problem.passive.degree
+law_input Edges problem number = examples.edge_colouring problem.active.degree problem.passive.degree (edge_colours problem.active.degree number)
 law_input Sides problem number = examples.sides problem.active.degree
 law_input Orientation problem number = examples.oriented problem.active.degree problem.passive.degree
 law_input Both problem number = examples.oriented_both problem.active.degree problem.passive.degree

@@ -123,7 +123,7 @@ pub fn input_word(words: &[String]) -> Option<InputWord>
 pub fn input_help() -> &'static str
     ensures { result.now ≡ help_line }
 {
-    "input NAME A P N: reads nothing, gives an input problem: a colouring with N colours, or without N edges, sides, orientation, both or nothing\n"
+    "input NAME A P N: reads nothing, gives an input problem: a colouring or edges with N colours, or without N edges, sides, orientation, both or nothing\n"
 }
 
 /// What the word answers: the input problem.

@@ -2,7 +2,7 @@
 ghost use Rattle.re_config.specs.Configs.{sorted};
 ghost use Rattle.re_config.specs.Orders.{multisets};
 ghost use Rattle.re_families.specs.Families.{family_of, out_of_range};
-ghost use Rattle.re_inputs.specs.NamedInputs.{fits, input_of, may_stand, named, oriented, oriented_constraint, turned};
+ghost use Rattle.re_inputs.specs.NamedInputs.{edge_colours, fits, input_of, may_stand, named, oriented, oriented_constraint, turned};
 ghost use Rattle.re_labels.specs.ListSets.{with_list};
 ghost use Rattle.re_problem.specs.NamedProblems.{IsNamedProblem};
 ghost use Rattle.std.specs.List.{AllByRecursion};
@@ -108,11 +108,19 @@ pub fn turned(alloc: Global, problem: &Problem) -> Result<Problem, NoMemory>
     Ok(problem_of(active, passive, names))
 }
 
-fn edges(alloc: Global, active: u8, passive: u8) -> Result<Problem, NoMemory>
-    requires { fits InputKind.Edges active passive 0 ≡ true }
-    ensures { IfOk result (λ problem. problem ≡ input_of InputKind.Edges active passive 0) }
+// How many colours edges have.
+fn edge_colours(active: u8, number: u8) -> u8
+    ensures { result ≡ edge_colours active number }
 {
-    let nodes = family_problem(alloc, Family::Colouring, passive, active, active)?;
+    if number == 0 { active } else { number }
+}
+
+fn edges(alloc: Global, active: u8, passive: u8, number: u8) -> Result<Problem, NoMemory>
+    requires { fits InputKind.Edges active passive number ≡ true }
+    ensures { IfOk result (λ problem. problem ≡ input_of InputKind.Edges active passive number) }
+{
+    let colours = edge_colours(active, number);
+    let nodes = family_problem(alloc, Family::Colouring, passive, active, colours)?;
     turned(alloc, &nodes)
 }
 
@@ -154,7 +162,7 @@ pub fn input(
 {
     match kind {
         InputKind::Colouring => family_problem(alloc, Family::Colouring, active, passive, number),
-        InputKind::Edges => edges(alloc, active, passive),
+        InputKind::Edges => edges(alloc, active, passive, number),
         InputKind::Sides => family_problem(alloc, Family::Colouring, active, 2, 2),
         InputKind::Orientation => oriented(alloc, false, active, passive),
         InputKind::Both => oriented(alloc, true, active, passive),

@@ -2,6 +2,7 @@
 use Rattle.std.proofs.Common.{◌≡◌, ℕ, zero, suc, ◌*◌, ◌≤◌, ◌<◌, true, List, [], ◌∷◌, length, refl, subst, sym, ap, ◌∙◌, arith, Ok, None, Option, Some}
 use Rattle.re_cert.specs.Bounds.{Bound, is_bound, last_problem}
 use Rattle.re_cert.specs.declared.certificate.Kind.TheVariants as kind
+use Rattle.re_cert.specs.declared.certificate.TheConstants.{MAX_STEPS}
 use Rattle.re_chain.specs.Merging.{merge_limit, merge_refusal, merged}
 use Rattle.re_chain_parts.specs.Chains.{IsOverProblems, IsSound as IsSteps, chain_with}
 use Rattle.re_chain_steps.specs.Stepped.{stepped, stepping_fault}
@@ -11,6 +12,10 @@ use Rattle.re_closure.specs.RaisedClosures.{IsRaisedClosed}
 use Rattle.re_cycle.specs.Answers as cycle
 use Rattle.re_cycle.specs.declared.finding.Cycle.TheVariants as cycle_answer
 use Rattle.re_extend.specs.Extensions.{GoesOn, IsSoundChain}
+use Rattle.re_given_words.proofs.CountingMeans.{told_means}
+use Rattle.re_given_words.specs.Counting.{CountMeans, MayTell}
+use Rattle.re_given_words.specs.declared.counting.Counted.{Counted}
+use Rattle.re_given_words.specs.declared.counting.Counted.TheVariants as counted
 use Rattle.re_labels.specs.declared.TheConstants.{MAX_LABELS}
 use Rattle.re_longest.specs.Answers as longest
 use Rattle.re_longest.specs.UpperAnswers.{AnswersAt}
@@ -22,15 +27,18 @@ use Rattle.re_problem.proofs.ZeroPlaces.{no-place}
 use Rattle.re_problem.specs.NamedProblems.{NamedProblem, unnamed}
 use Rattle.re_problem.specs.Problems.{IsProblem}
 use Rattle.re_problem.specs.Zero.{zero_place}
+use Rattle.re_relaxed.specs.Answers as relaxed
+use Rattle.re_relaxed.specs.declared.types.Relaxed.TheVariants as relaxed_answer
 use Rattle.re_search.specs.Searches.{Answers, FindsTrue, FindsValid}
 use Rattle.re_search.specs.declared.types.Search.{Search}
 use Rattle.re_search.specs.declared.types.Search.TheVariants.{Found}
 use Rattle.re_classes.specs.Classes.{IsAboveLog}
 use Rattle.re_settle.proofs.Fixed.{above_log_on, found_first}
 use Rattle.re_settle.specs.Claims.{Holds}
-use Rattle.re_settle.specs.Ways.{ClosesBehind, HasText, IsFixedPoint, IsKnown, IsTried, ShowsZero}
+use Rattle.re_settle.specs.Ways.{ClosesBehind, HasText, IsFixedPoint, IsKnown, IsTried, SaysCounted, ShowsZero}
+use Rattle.re_settle.specs.declared.types.Claim.{Claim}
 use Rattle.re_settle.specs.declared.types.Claim.TheVariants.{AtMost, MoreThan, Never}
-use Rattle.re_settle.specs.declared.types.Way.TheVariants.{Closure, Cycle, Fixed, Longest, Lower, Merge, Raised, Shortest, Upper, Zero}
+use Rattle.re_settle.specs.declared.types.Way.TheVariants.{Closure, Cycle, Fixed, Longest, Lower, Merge, Raised, Relaxed, Rounds, Shortest, Upper, Zero}
 
 -- ---- searches of `re`
 pub lower_known : (times : ℕ) (problem : NamedProblem) (steps rounds : ℕ) (search : Search) (bound : Bound) → search ≡ Found bound → steps ≤ 8
@@ -68,6 +76,23 @@ zero_known times problem is none = record {
     cannot : Solvable (unnamed problem) 0 → ⊥
     cannot solvable = (no-place (unnamed problem) None (sym none)).0 refl ((Solvable-zero (unnamed problem) is).0 solvable)
 
+-- ---- what is counted
+-- it says what it means
+count-holds : (problem : NamedProblem) (counts : Counted) (claim : Claim) → CountMeans (unnamed problem) None counts → SaysCounted counts claim → Holds claim (unnamed problem)
+count-holds problem (counted.Exactly rounds) claim means says = subst (λ c. Holds c (unnamed problem)) (sym says) means
+count-holds problem (counted.MoreThan rounds) claim means says = subst (λ c. Holds c (unnamed problem)) (sym says) means
+count-holds problem (counted.Passed rounds limit) claim means says = subst (λ c. Holds c (unnamed problem)) (sym says) means
+count-holds problem (counted.Stopped rounds steps limit) claim means says = subst (λ c. Holds c (unnamed problem)) (sym says) means
+count-holds problem (counted.Tried rounds) claim means says = absurd says
+
+pub count_known : (times : ℕ) (problem : NamedProblem) (counts : Counted) (claim : Claim) → IsProblem (unnamed problem) → MayTell (unnamed problem) None 8 counts → SaysCounted counts claim
+    → IsKnown times problem claim (Rounds 8)
+count_known times problem counts claim is told says = record {
+  shown = record { tried = refl; shows = (counts, told, says) };
+  holds = count-holds problem counts claim (told_means (unnamed problem) is None 8 counts tt told) says;
+}
+
+-- ---- searches of `re` for fixed points
 -- a fixed point is a bound of order log N too
 pub fixed_known : (times : ℕ) (problem : NamedProblem) (search : Search) (bound : Bound) → search ≡ Found bound → is_bound bound ≡ true → IsOverProblems bound
     → Answers kind.Fixed 4 0 problem (Ok search) → FindsValid kind.Fixed (Ok search) → FindsTrue kind.Fixed problem (Ok search) → HasText bound
@@ -79,6 +104,7 @@ fixed_known times problem search bound is fits over answers valid told text =
         shown = record { tried = (refl, refl); shows = (refl, (length bound.steps, record { bound = bound; finds = found; count = refl; text = text })) };
         holds = subst (λ s. FindsTrue kind.Fixed problem (Ok s)) is told;
       };
+      finds = tt;
       above = above_log_on problem bound fits over (found_first kind.Fixed 4 0 problem bound found) (subst (λ s. FindsValid kind.Fixed (Ok s)) is valid);
     }
 
@@ -108,7 +134,7 @@ pub closure_known : (times : ℕ) (problem : NamedProblem) (chain : Bound) (step
 closure_known times problem chain steps start few closes =
     let on : ClosesBehind steps (problem_chain problem) = subst (ClosesBehind steps) start closes in
     let never = never_behind steps problem (problem_chain problem) refl on in
-    record { known = record { shown = record { tried = few; shows = (refl, on) }; holds = never.holds }; above = never.above }
+    record { known = record { shown = record { tried = few; shows = (refl, on) }; holds = never.holds }; finds = tt; above = never.above }
 
 -- one derived problem more
 pub closes_later : (chain next : Bound) (steps : ℕ) (sets : List (List ℕ)) → IsSolvableBy (last_problem chain) sets → stepping_fault chain ≡ None → next ≡ stepped chain → ClosesBehind steps next
@@ -126,6 +152,7 @@ raised_known times problem chain bound low high start is_low is_high closed text
         shown = record { tried = tt; shows = (refl, record { is_low = is_low; is_high = is_high; bound = bound; closed = on; text = text }) };
         holds = on.goes_on.means;
       };
+      finds = tt;
       above = above;
     }
 
@@ -145,6 +172,7 @@ merge_known times problem chain bound from to is may within shown closed text =
         shown = record { tried = tt; shows = (refl, record { may = may; within = within; chain = subst HasText is shown; bound = bound; closed = on; text = text }) };
         holds = never.holds;
       };
+      finds = tt;
       above = never.above;
     }
 
@@ -153,7 +181,14 @@ pub cycle_known : (times nodes : ℕ) (problem : NamedProblem) (chain bound : Bo
 cycle_known times nodes problem chain bound many start answers text =
     let on : cycle.Answers 8 (problem_chain problem) (cycle_answer.Found bound) = subst (λ c. cycle.Answers 8 c (cycle_answer.Found bound)) start answers in
     let never = never_on 8 problem (problem_chain problem) bound refl on.1 in
-    record { known = record { shown = record { tried = (refl, refl, many); shows = (refl, (bound, on, text)) }; holds = never.holds }; above = never.above }
+    record { known = record { shown = record { tried = (refl, refl, many); shows = (refl, (bound, on, text)) }; holds = never.holds }; finds = tt; above = never.above }
+
+pub relaxed_known : (times nodes : ℕ) (problem : NamedProblem) (chain bound : Bound) → IsTried times problem (Relaxed nodes) → chain ≡ problem_chain problem
+    → relaxed.Answers chain (relaxed_answer.Found bound) → HasText bound → IsFixedPoint times problem (Relaxed nodes)
+relaxed_known times nodes problem chain bound tried start answers text =
+    let on : relaxed.Answers (problem_chain problem) (relaxed_answer.Found bound) = subst (λ c. relaxed.Answers c (relaxed_answer.Found bound)) start answers in
+    let never = never_on MAX_STEPS problem (problem_chain problem) bound refl on.1 in
+    record { known = record { shown = record { tried = tried; shows = (refl, (bound, on, text)) }; holds = never.holds }; finds = tt; above = never.above }
 
 -- ---- bounds that go on from the problem
 pub longest_known : (times : ℕ) (problem : NamedProblem) (chain bound : Bound) (steps labels rounds : ℕ) → IsTried times problem (Longest steps labels) → chain ≡ problem_chain problem

@@ -1,14 +1,20 @@
 -- What is known of a problem, said of local algorithms.
-use Rattle.std.proofs.Common.{◌≡◌, ℕ, true, ap, ◌∙◌, sym, subst, Option, None, Some}
+use Rattle.std.proofs.Common.{◌≡◌, ℕ, Bool, ◌≤◌, true, ap, refl, ◌∙◌, sym, subst, arith, Option, None, Some}
+use Rattle.std.specs.Prelude.{if◌then◌else◌}
 use Rattle.re_classes.proofs.Decided.{above_log_star, order_log_star}
 use Rattle.re_given.specs.Given.{SolvableGiven}
 use Rattle.re_given.specs.Inputs.{IsInput}
 use Rattle.re_given_words.proofs.CountingMeans.{count_means}
 use Rattle.re_given_words.specs.Counting.{IsCounted}
 use Rattle.re_given_words.specs.declared.counting.Counted.TheVariants as counted
-use Rattle.re_inputs.proofs.NamedProofs.{colouring_family, inputs}
-use Rattle.re_inputs.specs.NamedInputs.{fits, input_of}
-use Rattle.re_inputs.specs.declared.kinds.InputKind.TheVariants.{Colouring}
+use Rattle.re_classes.specs.Classes.{IsOrderLogStar}
+use Rattle.re_edge_colours.proofs.EdgeClasses.{order_edge_coloured}
+use Rattle.re_given.specs.InputExamples.{edge_colouring}
+use Rattle.re_inputs.proofs.NamedProofs.{inputs, named_inputs}
+use Rattle.re_inputs.specs.NamedInputs.{edge_colours, fits, input_of, law_input}
+use Rattle.re_labels.proofs.Tests.{eqb-apart}
+use Rattle.re_labels.specs.declared.sides.Side.{Side}
+use Rattle.re_labels.specs.declared.sides.Side.TheVariants.{Active, Passive}
 use Rattle.re_laws.specs.Algorithms.{Solvable}
 use Rattle.re_ordered.proofs.BeyondLocal.{beyond_local}
 use Rattle.re_ordered.proofs.PortNumbered.{SolvableLocal-unnoticed}
@@ -17,8 +23,8 @@ use Rattle.re_problem.specs.Problems.{IsProblem, Problem}
 use Rattle.re_separating.specs.Laws.{IsBeyondLocal}
 use Rattle.re_settle.specs.Claims.{Holds}
 use Rattle.re_settle.specs.Classes.{ClassHolds, HoldsLocal, SolvableByAny, class_of, few_colours}
-use Rattle.re_settle.specs.Coloured.{IsColoured, IsColouringOf, colours_of}
-use Rattle.re_settle.specs.Ways.{IsFixedPoint, IsKnown, IsSettled, MayBeColoured}
+use Rattle.re_settle.specs.Coloured.{IsColoured, IsColouringOf, IsSolvableGivenFew, colours_of, input_kind}
+use Rattle.re_settle.specs.Ways.{IsExcluded, IsFixedPoint, IsKnown, IsSettled, MayBeColoured}
 use Rattle.re_settle.specs.declared.types.Claim.{Claim}
 use Rattle.re_settle.specs.declared.types.Claim.TheVariants.{AtMost, Between, Exactly, MoreThan, Never}
 use Rattle.re_settle.specs.declared.types.Class.TheVariants as class
@@ -48,42 +54,74 @@ module _ (problem : Problem) (is : IsProblem problem) where
   constant_class claim k solvable holds = ((k, by_any k solvable), claim_local claim holds)
 
 -- ---- given a proper colouring
+-- some number of rounds is enough
+few-enough : (problem : NamedProblem) (side : Side) (k : ℕ) → SolvableGiven (unnamed problem) (colours_of side problem (few_colours side problem.active.degree problem.passive.degree)) k
+    → IsSolvableGivenFew side (unnamed problem)
+few-enough problem Active k solvable = (k, solvable)
+few-enough problem Passive k solvable = (k, solvable)
+
 -- what is counted given few colours
-pub counted_coloured : (problem input : NamedProblem) (colours most k : ℕ) → IsProblem (unnamed problem) → colours ≡ few_colours problem.active.degree problem.passive.degree
-    → IsColouringOf problem colours input → IsCounted (unnamed problem) (Some (unnamed input)) most (counted.Exactly k)
-    → IsColoured problem (record { colours = colours; way = Rounds most })
-counted_coloured problem input colours most k is few colouring counts =
-    let means = count_means (unnamed problem) is (Some (unnamed input)) most (counted.Exactly k) colouring.is_input counts in
+pub counted_coloured : (problem input : NamedProblem) (side : Side) (colours k : ℕ) → IsProblem (unnamed problem)
+    → colours ≡ few_colours side problem.active.degree problem.passive.degree → IsColouringOf problem side colours input
+    → IsCounted (unnamed problem) (Some (unnamed input)) 8 (counted.Exactly k) → IsColoured problem (record { side = side; colours = colours; way = Rounds 8 })
+counted_coloured problem input side colours k is few colouring counts =
+    let means = count_means (unnamed problem) is (Some (unnamed input)) 8 (counted.Exactly k) colouring.is_input counts in
     record {
+      tried = refl;
       colours = few;
-      shows = (k, subst (λ (p : Problem). IsCounted (unnamed problem) (Some p) most (counted.Exactly k)) colouring.same counts);
-      solvable = (k, subst (λ (c : ℕ). SolvableGiven (unnamed problem) (colours_of problem c) k) few (subst (λ (p : Problem). SolvableGiven (unnamed problem) p k) colouring.same means.0));
+      shows = (k, subst (λ (p : Problem). IsCounted (unnamed problem) (Some p) 8 (counted.Exactly k)) colouring.same counts);
+      solvable = few-enough problem side k
+          (subst (λ (c : ℕ). SolvableGiven (unnamed problem) (colours_of side problem c) k) few (subst (λ (p : Problem). SolvableGiven (unnamed problem) p k) colouring.same means.0));
     }
 
+-- edges have as many colours as are named
+edges-named : (a n : ℕ) → 1 ≤ n → edge_colours a n ≡ n
+edges-named a n least = ap (λ (b : Bool). if b then a else n) (eqb-apart n 0 (λ e. omega (arith, e, least)))
+
+-- the input problem that is named is the colouring of the side
+colours-named : (problem : NamedProblem) (side : Side) (colours : ℕ) → 1 ≤ colours → law_input (input_kind side) (unnamed problem) colours ≡ colours_of side problem colours
+colours-named problem Active colours least = refl
+colours-named problem Passive colours least = ap (edge_colouring problem.active.degree problem.passive.degree) (edges-named problem.active.degree colours least)
+
+few-least : (side : Side) (a p colours : ℕ) → colours ≡ few_colours side a p → 1 ≤ colours
+few-least Active a p colours few = omega (arith, few)
+few-least Passive a p colours few = omega (arith, few)
+
 -- the input problem that is made
-pub colouring_input : (problem input : NamedProblem) (a p x y z colours : ℕ) → IsProblem (unnamed problem) → a ≡ problem.active.degree → p ≡ problem.passive.degree → x ≡ a → y ≡ p → z ≡ colours
-    → fits Colouring x y z ≡ true → input ≡ input_of Colouring a p colours → IsColouringOf problem colours input
-colouring_input problem input a p x y z colours is is_a is_p is_x is_y is_z fit made =
-    let known : fits Colouring problem.active.degree problem.passive.degree colours ≡ true =
-    subst (λ n. fits Colouring n problem.passive.degree colours ≡ true) (is_x ∙ is_a)
-    (subst (λ n. fits Colouring x n colours ≡ true) (is_y ∙ is_p) (subst (λ n. fits Colouring x y n ≡ true) is_z fit)) in
-    let same : input ≡ input_of Colouring problem.active.degree problem.passive.degree colours =
-    subst (λ n. input ≡ input_of Colouring n problem.passive.degree colours) is_a (subst (λ n. input ≡ input_of Colouring a n colours) is_p made) in
+pub colouring_input : (problem input : NamedProblem) (side : Side) (a p x y z colours : ℕ) → IsProblem (unnamed problem) → a ≡ problem.active.degree → p ≡ problem.passive.degree → x ≡ a
+    → y ≡ p → z ≡ colours → colours ≡ few_colours side problem.active.degree problem.passive.degree → fits (input_kind side) x y z ≡ true → input ≡ input_of (input_kind side) a p colours
+    → IsColouringOf problem side colours input
+colouring_input problem input side a p x y z colours is is_a is_p is_x is_y is_z few fit made =
+    let known : fits (input_kind side) problem.active.degree problem.passive.degree colours ≡ true =
+    subst (λ n. fits (input_kind side) n problem.passive.degree colours ≡ true) (is_x ∙ is_a)
+    (subst (λ n. fits (input_kind side) x n colours ≡ true) (is_y ∙ is_p) (subst (λ n. fits (input_kind side) x y n ≡ true) is_z fit)) in
+    let same : input ≡ input_of (input_kind side) problem.active.degree problem.passive.degree colours =
+    subst (λ n. input ≡ input_of (input_kind side) n problem.passive.degree colours) is_a (subst (λ n. input ≡ input_of (input_kind side) a n colours) is_p made) in
     record {
-      is_input = subst (λ (i : NamedProblem). IsInput (unnamed problem) (unnamed i)) (sym same) (inputs Colouring (unnamed problem) colours is known);
-      same = ap unnamed same ∙ colouring_family problem.active.degree problem.passive.degree colours;
+      is_input = subst (λ (i : NamedProblem). IsInput (unnamed problem) (unnamed i)) (sym same) (inputs (input_kind side) (unnamed problem) colours is known);
+      same = ap unnamed same ∙ named_inputs (input_kind side) (unnamed problem) colours is known
+          ∙ colours-named problem side colours (few-least side problem.active.degree problem.passive.degree colours few);
     }
+
+-- given few colours of either side
+few_order : (side : Side) (problem : Problem) → IsProblem problem → ((T : ℕ) → Solvable problem T → ⊥) → IsSolvableGivenFew side problem → IsOrderLogStar problem
+few_order Active problem is never solvable = order_log_star problem is never solvable
+few_order Passive problem is never solvable = order_edge_coloured problem is never solvable
 
 -- ---- what no number of rounds solves
 pub fixed_settled : (times : ℕ) (problem : NamedProblem) (way : Way) → IsFixedPoint times problem way → IsSettled times problem (settled.FixedPoint way)
-fixed_settled times problem way fixed = record { shown = fixed.known.shown; holds = fixed.known.holds; class = fixed.above }
+fixed_settled times problem way fixed = record { shown = (fixed.known.shown, fixed.finds); holds = fixed.known.holds; class = fixed.above }
 
 no_solution_class : (times : ℕ) (problem : NamedProblem) (way : Way) (coloured : Option Coloured) → IsProblem (unnamed problem) → IsKnown times problem Never way → MayBeColoured coloured problem
     → ClassHolds (class_of (settled.NoSolution way coloured)) (unnamed problem)
 no_solution_class times problem way None is known may = above_log_star (unnamed problem) is known.holds
-no_solution_class times problem way (Some coloured) is known may = order_log_star (unnamed problem) is known.holds may.solvable
+no_solution_class times problem way (Some coloured) is known may = few_order coloured.side (unnamed problem) is known.holds may.solvable
 
-pub no_solution_settled : (times : ℕ) (problem : NamedProblem) (way : Way) (coloured : Option Coloured) → IsProblem (unnamed problem) → IsKnown times problem Never way
+pub no_solution_settled : (times : ℕ) (problem : NamedProblem) (way : Way) (coloured : Option Coloured) → IsProblem (unnamed problem) → IsExcluded times problem way
     → MayBeColoured coloured problem → IsSettled times problem (settled.NoSolution way coloured)
-no_solution_settled times problem way coloured is known may =
-    record { shown = (known.shown, may); holds = known.holds; class = no_solution_class times problem way coloured is known may }
+no_solution_settled times problem way coloured is excluded may =
+    record {
+      shown = (excluded.known.shown, excluded.finds, may);
+      holds = excluded.known.holds;
+      class = no_solution_class times problem way coloured is excluded.known may;
+    }

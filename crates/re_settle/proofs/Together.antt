@@ -43,6 +43,12 @@ within_settled times problem more most is lower upper =
     let holds : Holds (within more.rounds most.rounds) (unnamed problem) = within_holds (unnamed problem) more.rounds most.rounds lower.holds upper.holds in
     record { shown = (lower.shown, upper.shown); holds = holds; class = constant_class (unnamed problem) is (within more.rounds most.rounds) most.rounds upper.holds holds }
 
+-- what is counted
+pub exactly_settled : (times : ℕ) (problem : NamedProblem) (shown : Shown) → IsProblem (unnamed problem) → IsKnown times problem (Exactly shown.rounds) shown.way
+    → IsSettled times problem (settled.Exactly shown)
+exactly_settled times problem shown is known =
+    record { shown = known.shown; holds = known.holds; class = constant_class (unnamed problem) is (Exactly shown.rounds) shown.rounds known.holds.0 known.holds }
+
 more_settled : (times : ℕ) (problem : NamedProblem) (more : Shown) → IsProblem (unnamed problem) → IsKnown times problem (MoreThan more.rounds) more.way → IsSettled times problem (settled.Within more None)
 more_settled times problem more is lower =
     record { shown = lower.shown; holds = lower.holds; class = claim_local (unnamed problem) is (MoreThan more.rounds) lower.holds }

@@ -23,6 +23,7 @@ within more most = if most == suc more then Exactly most else Between more most
 -- what is claimed where so much is known
 abbrev pub claim_of : Settled → Claim
 claim_of settled.AtOnce = Exactly 0
+claim_of (settled.Exactly shown) = Exactly shown.rounds
 claim_of (settled.FixedPoint way) = Never
 claim_of (settled.NoSolution way coloured) = Never
 claim_of (settled.Within more None) = MoreThan more.rounds

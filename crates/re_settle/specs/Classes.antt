@@ -1,6 +1,8 @@
 -- What a claim means where nodes have unique identifiers, and which class a problem has.
 use Rattle.std.specs.Prelude.{ℕ, ◌+◌, ◌-◌, ◌*◌, ◌<◌, ◌≤◌, None, Some}
 use Rattle.re_classes.specs.Classes.{IsAboveLog, IsAboveLogStar, IsConstantLocal, IsOrderLogStar}
+use Rattle.re_labels.specs.declared.sides.Side.{Side}
+use Rattle.re_labels.specs.declared.sides.Side.TheVariants.{Active, Passive}
 use Rattle.re_local.specs.LocalAlgorithms.{SolvableLocal}
 use Rattle.re_problem.specs.Problems.{Problem}
 use Rattle.re_separating.specs.Laws.{IsBeyondLocal}
@@ -36,12 +38,14 @@ ClassHolds class.AtLeastLog problem = IsAboveLog problem
 -- the class where so much is known
 abbrev pub class_of : Settled → Class
 class_of settled.AtOnce = class.Constant (Exactly 0)
+class_of (settled.Exactly shown) = class.Constant (Exactly shown.rounds)
 class_of (settled.FixedPoint way) = class.AtLeastLog
 class_of (settled.NoSolution way None) = class.AtLeastLogStar
 class_of (settled.NoSolution way (Some coloured)) = class.OrderLogStar
 class_of (settled.Within more None) = class.MoreThan more.rounds
 class_of (settled.Within more (Some most)) = class.Constant (within more.rounds most.rounds)
 
--- one colour more than an active node of degree a has neighbours, where passive nodes have degree p
-abbrev pub few_colours : ℕ → ℕ → ℕ
-few_colours a p = a * (p - 1) + 1
+-- one colour more than a node of a side meets others of it, where active nodes have degree a and passive ones p
+abbrev pub few_colours : Side → ℕ → ℕ → ℕ
+few_colours Active a p = a * (p - 1) + 1
+few_colours Passive a p = p * (a - 1) + 1

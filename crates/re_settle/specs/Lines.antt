@@ -1,6 +1,8 @@
 -- The lines of an answer.
 use Rattle.std.specs.Prelude.{ℕ, ◌==◌, List, [], ◌∷◌, ◌++◌, codes, if◌then◌else◌, None, Some}
 use Rattle.std.specs.Fmt.{decimal}
+use Rattle.re_labels.specs.declared.sides.Side.{Side}
+use Rattle.re_labels.specs.declared.sides.Side.TheVariants.{Active, Passive}
 use Rattle.re_printing.specs.SetTexts.{named_text}
 use Rattle.re_settle.specs.Claims.{claim_of}
 use Rattle.re_settle.specs.Classes.{class_of}
@@ -15,7 +17,7 @@ use Rattle.re_settle.specs.declared.types.ColouredWay.TheVariants as coloured
 use Rattle.re_settle.specs.declared.types.Settled.{Settled}
 use Rattle.re_settle.specs.declared.types.Settled.TheVariants as settled
 use Rattle.re_settle.specs.declared.types.Way.{Way}
-use Rattle.re_settle.specs.declared.types.Way.TheVariants.{Closure, Cover, Cycle, Fixed, Longest, Lower, Merge, Raised, Shortest, Upper, Zero}
+use Rattle.re_settle.specs.declared.types.Way.TheVariants.{Closure, Cover, Cycle, Fixed, Longest, Lower, Merge, Raised, Relaxed, Rounds, Shortest, Upper, Zero}
 
 -- ---- the first line
 -- the rounds of the graph, where the passive nodes have two neighbours
@@ -43,6 +45,8 @@ way_words (Raised low high) = codes "explore closure"
 way_words (Merge from to) = codes "explore merge"
 way_words (Cover nodes) = codes "explore cover"
 way_words (Cycle steps merges nodes) = codes "explore cycle"
+way_words (Relaxed nodes) = codes "explore relaxed"
+way_words (Rounds most) = codes "explore rounds"
 way_words (Longest steps labels) = codes "explore longest"
 way_words (Shortest steps labels) = codes "explore shortest"
 
@@ -57,6 +61,8 @@ way_numbers (Raised low high) = []
 way_numbers (Merge from to) = []
 way_numbers (Cover nodes) = nodes ∷ []
 way_numbers (Cycle steps merges nodes) = steps ∷ merges ∷ nodes ∷ []
+way_numbers (Relaxed nodes) = nodes ∷ []
+way_numbers (Rounds most) = most ∷ []
 way_numbers (Longest steps labels) = steps ∷ labels ∷ []
 way_numbers (Shortest steps labels) = steps ∷ labels ∷ []
 
@@ -75,6 +81,8 @@ way_rest names (Fixed steps merges) = codes ""
 way_rest names (Closure steps) = codes ""
 way_rest names (Cover nodes) = codes ""
 way_rest names (Cycle steps merges nodes) = codes ""
+way_rest names (Relaxed nodes) = codes ""
+way_rest names (Rounds most) = codes ""
 way_rest names (Longest steps labels) = codes ""
 way_rest names (Shortest steps labels) = codes ""
 
@@ -84,6 +92,7 @@ way_line names way = codes "by: " ++ (way_words way ++ (number_texts (way_number
 -- a line for each of the words that show what is known
 abbrev pub way_lines : List (List ℕ) → Settled → List ℕ
 way_lines names settled.AtOnce = way_line names Zero
+way_lines names (settled.Exactly shown) = way_line names shown.way
 way_lines names (settled.FixedPoint way) = way_line names way
 way_lines names (settled.NoSolution way coloured) = way_line names way
 way_lines names (settled.Within more None) = way_line names more.way
@@ -109,12 +118,18 @@ class_text class.AtLeastLog = codes "at least order log N"
 abbrev pub coloured_words : ColouredWay → List ℕ
 coloured_words (coloured.Rounds most) = codes "explore rounds " ++ decimal most
 
+-- what has colours
+abbrev pub colours_text : Side → List ℕ
+colours_text Active = codes " colours\n"
+colours_text Passive = codes " edge colours\n"
+
 abbrev pub coloured_line : Coloured → List ℕ
-coloured_line coloured = codes "by: " ++ (coloured_words coloured.way ++ (codes " given " ++ (decimal coloured.colours ++ codes " colours\n")))
+coloured_line coloured = codes "by: " ++ (coloured_words coloured.way ++ (codes " given " ++ (decimal coloured.colours ++ colours_text coloured.side)))
 
 -- the line of the words that show the class, where these aren't those that show the claim
 abbrev pub coloured_lines : Settled → List ℕ
 coloured_lines settled.AtOnce = codes ""
+coloured_lines (settled.Exactly shown) = codes ""
 coloured_lines (settled.FixedPoint way) = codes ""
 coloured_lines (settled.NoSolution way None) = codes ""
 coloured_lines (settled.NoSolution way (Some coloured)) = coloured_line coloured

@@ -16,12 +16,17 @@ use Rattle.re_cover.specs.Graphs.{PortGraph}
 use Rattle.re_cycle.specs.Answers as cycle
 use Rattle.re_cycle.specs.declared.finding.Cycle.TheVariants as cycle_answer
 use Rattle.re_graph.specs.Solving.{IsCover}
+use Rattle.re_given_words.specs.Counting.{MayTell}
+use Rattle.re_given_words.specs.declared.counting.Counted.{Counted}
+use Rattle.re_given_words.specs.declared.counting.Counted.TheVariants as counted
 use Rattle.re_longest.specs.Answers as longest
 use Rattle.re_longest.specs.UpperAnswers.{AnswersAt}
 use Rattle.re_longest.specs.declared.finding.Longest.TheVariants as longest_answer
 use Rattle.re_longest.specs.declared.shortening.Shortest.TheVariants as shortest_answer
 use Rattle.re_problem.specs.NamedProblems.{NamedProblem, unnamed}
 use Rattle.re_problem.specs.Zero.{zero_place}
+use Rattle.re_relaxed.specs.Answers as relaxed
+use Rattle.re_relaxed.specs.declared.types.Relaxed.TheVariants as relaxed_answer
 use Rattle.re_search.specs.Searches.{search_of}
 use Rattle.re_search.specs.declared.types.Search.TheVariants.{Found}
 use Rattle.re_settle.specs.Claims.{Holds, claim_of}
@@ -29,12 +34,12 @@ use Rattle.re_settle.specs.Classes.{ClassHolds, class_of}
 use Rattle.re_settle.specs.Coloured.{IsColoured}
 use Rattle.re_settle.specs.Measures.{doublings, greatest_degree, longest_labels, longest_steps, shortest_labels, shortest_steps}
 use Rattle.re_settle.specs.declared.types.Claim.{Claim}
-use Rattle.re_settle.specs.declared.types.Claim.TheVariants.{AtMost, MoreThan, Never}
+use Rattle.re_settle.specs.declared.types.Claim.TheVariants.{AtMost, Exactly, MoreThan, Never}
 use Rattle.re_settle.specs.declared.types.Coloured.{Coloured}
 use Rattle.re_settle.specs.declared.types.Settled.{Settled}
 use Rattle.re_settle.specs.declared.types.Settled.TheVariants as settled
 use Rattle.re_settle.specs.declared.types.Way.{Way}
-use Rattle.re_settle.specs.declared.types.Way.TheVariants.{Closure, Cover, Cycle, Fixed, Longest, Lower, Merge, Raised, Shortest, Upper, Zero}
+use Rattle.re_settle.specs.declared.types.Way.TheVariants.{Closure, Cover, Cycle, Fixed, Longest, Lower, Merge, Raised, Relaxed, Rounds, Shortest, Upper, Zero}
 
 -- ---- which words are tried
 -- the numbers of the words that are tried on a problem, where bounds are taken so many times: a graph is listed, or one of at most 8 or of at most 64 nodes is made
@@ -49,6 +54,8 @@ IsTried times problem (Raised low high) = Unit {0}
 IsTried times problem (Merge from to) = Unit {0}
 IsTried times problem (Cover nodes) = nodes ≡ 4 ⊎ (nodes ≡ 8 ⊎ nodes ≡ 64)
 IsTried times problem (Cycle steps merges nodes) = (steps ≡ 8) × (merges ≡ 1) × (nodes ≡ 300 * times)
+IsTried times problem (Relaxed nodes) = (nodes ≡ 16 * times) ⊎ (nodes ≡ 200 * times)
+IsTried times problem (Rounds most) = most ≡ 8
 IsTried times problem (Longest steps labels) =
     (steps ≡ longest_steps (doublings times)) × (labels ≡ longest_labels (greatest_degree problem) (doublings times))
 IsTried times problem (Shortest steps labels) =
@@ -94,8 +101,17 @@ abbrev pub ShowsZero : Option ℕ → Claim → Type 0
 ShowsZero (Some place) claim = claim ≡ AtMost 0
 ShowsZero None claim = claim ≡ MoreThan 0
 
+-- what a count of rounds says
+abbrev pub SaysCounted : Counted → Claim → Type 0
+SaysCounted (counted.Exactly rounds) claim = claim ≡ Exactly rounds
+SaysCounted (counted.MoreThan rounds) claim = claim ≡ MoreThan rounds
+SaysCounted (counted.Passed rounds limit) claim = claim ≡ MoreThan rounds
+SaysCounted (counted.Stopped rounds steps limit) claim = claim ≡ MoreThan rounds
+SaysCounted (counted.Tried rounds) claim = ⊥
+
 -- what an answer of these words shows of the problem: that of `zero` whether there is an algorithm without communication; that of a search the bound that it
--- finds, or, of `cycle`, `longest` and `shortest`, one that it may find; `closure` its fixed point; `cover` a graph without a solution
+-- finds, or, of `cycle`, `relaxed`, `longest` and `shortest`, one that it may find; `rounds` what it may count; `closure` its fixed point; `cover` a graph
+-- without a solution
 abbrev pub Shows : Way → Claim → NamedProblem → Type 0
 Shows Zero claim problem = ShowsZero (zero_place (unnamed problem)) claim
 Shows (Lower steps merges) claim problem = (found : ℕ) × (claim ≡ MoreThan found) × Finds kind.Lower steps merges problem found
@@ -107,6 +123,9 @@ Shows (Merge from to) claim problem = (claim ≡ Never) × ClosesMerged from to 
 Shows (Cover nodes) claim problem = (claim ≡ Never) × ((graph : PortGraph) × IsCover (unnamed problem) graph × (graph.nodes ≤ nodes))
 Shows (Cycle steps merges nodes) claim problem =
     (claim ≡ Never) × ((bound : Bound) × cycle.Answers steps (problem_chain problem) (cycle_answer.Found bound) × HasText bound)
+Shows (Relaxed nodes) claim problem =
+    (claim ≡ Never) × ((bound : Bound) × relaxed.Answers (problem_chain problem) (relaxed_answer.Found bound) × HasText bound)
+Shows (Rounds most) claim problem = (counts : Counted) × MayTell (unnamed problem) None most counts × SaysCounted counts claim
 Shows (Longest steps labels) claim problem =
     (bound : Bound) × (claim ≡ MoreThan (length bound.steps)) × longest.Answers steps labels (problem_chain problem) (longest_answer.Found bound) × HasText bound
 Shows (Shortest steps labels) claim problem =
@@ -123,10 +142,48 @@ pub record IsKnown (times : ℕ) (problem : NamedProblem) (claim : Claim) (way :
   pub shown : IsShown times problem claim way
   pub holds : Holds claim (unnamed problem)
 
+-- the words look for fixed points
+abbrev pub IsForFixedPoints : Way → Type 0
+IsForFixedPoints Zero = ⊥
+IsForFixedPoints (Lower steps merges) = ⊥
+IsForFixedPoints (Upper steps drops) = ⊥
+IsForFixedPoints (Fixed steps merges) = Unit {0}
+IsForFixedPoints (Closure steps) = Unit {0}
+IsForFixedPoints (Raised low high) = Unit {0}
+IsForFixedPoints (Merge from to) = Unit {0}
+IsForFixedPoints (Cover nodes) = ⊥
+IsForFixedPoints (Cycle steps merges nodes) = Unit {0}
+IsForFixedPoints (Relaxed nodes) = Unit {0}
+IsForFixedPoints (Rounds most) = ⊥
+IsForFixedPoints (Longest steps labels) = ⊥
+IsForFixedPoints (Shortest steps labels) = ⊥
+
 -- the words show a fixed point
 pub record IsFixedPoint (times : ℕ) (problem : NamedProblem) (way : Way) : Type 0 where
   pub known : IsKnown times problem Never way
+  pub finds : IsForFixedPoints way
   pub above : IsAboveLog (unnamed problem)
+
+-- the words look for graphs without a solution
+abbrev pub IsForGraphs : Way → Type 0
+IsForGraphs Zero = ⊥
+IsForGraphs (Lower steps merges) = ⊥
+IsForGraphs (Upper steps drops) = ⊥
+IsForGraphs (Fixed steps merges) = ⊥
+IsForGraphs (Closure steps) = ⊥
+IsForGraphs (Raised low high) = ⊥
+IsForGraphs (Merge from to) = ⊥
+IsForGraphs (Cover nodes) = Unit {0}
+IsForGraphs (Cycle steps merges nodes) = ⊥
+IsForGraphs (Relaxed nodes) = ⊥
+IsForGraphs (Rounds most) = ⊥
+IsForGraphs (Longest steps labels) = ⊥
+IsForGraphs (Shortest steps labels) = ⊥
+
+-- the words show that no number of rounds solves the problem by a graph
+pub record IsExcluded (times : ℕ) (problem : NamedProblem) (way : Way) : Type 0 where
+  pub known : IsKnown times problem Never way
+  pub finds : IsForGraphs way
 
 -- words show that some number of rounds is enough given few colours
 abbrev pub MayBeColoured : Option Coloured → NamedProblem → Type 0
@@ -136,8 +193,9 @@ MayBeColoured (Some coloured) problem = IsColoured problem coloured
 -- each of the words shows its part of what is known
 abbrev pub AreShown : ℕ → Settled → NamedProblem → Type 0
 AreShown times settled.AtOnce problem = IsShown times problem (AtMost 0) Zero
-AreShown times (settled.FixedPoint way) problem = IsShown times problem Never way
-AreShown times (settled.NoSolution way coloured) problem = IsShown times problem Never way × MayBeColoured coloured problem
+AreShown times (settled.Exactly shown) problem = IsShown times problem (Exactly shown.rounds) shown.way
+AreShown times (settled.FixedPoint way) problem = IsShown times problem Never way × IsForFixedPoints way
+AreShown times (settled.NoSolution way coloured) problem = IsShown times problem Never way × IsForGraphs way × MayBeColoured coloured problem
 AreShown times (settled.Within more None) problem = IsShown times problem (MoreThan more.rounds) more.way
 AreShown times (settled.Within more (Some most)) problem =
     IsShown times problem (MoreThan more.rounds) more.way × IsShown times problem (AtMost most.rounds) most.way

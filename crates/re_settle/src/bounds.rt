@@ -62,8 +62,8 @@ pub(crate) fn lower_way(
     }
 }
 
-/// An upper bound of at most so many steps without labels left out.
-pub(crate) fn upper_way(
+// An upper bound of at most so many steps without labels left out; where its text is too long, one with few labels.
+fn upper_way(
     alloc: Global,
     problem: &Problem,
     steps: u8,
@@ -82,7 +82,7 @@ pub(crate) fn upper_way(
                     way: Way::Upper(steps, 0),
                 }))
             } else {
-                Ok(None)
+                brief_way(alloc, problem, steps, times)
             }
         }
         Ok(Search::NotFound { .. }) | Err(FindFault::TooManyNodes) => Ok(None),
@@ -117,8 +117,13 @@ fn longest_way(
     }))
 }
 
-// The one of more rounds, and the second of two of as many; where there is none, that it isn't solvable without communication.
-fn longer(problem: &Problem, first: Option<Shown>, second: Option<Shown>, times: u8) -> Shown
+/// The one of more rounds, and the second of two of as many; where there is none, that it isn't solvable without communication.
+pub(crate) fn longer(
+    problem: &Problem,
+    first: Option<Shown>,
+    second: Option<Shown>,
+    times: u8,
+) -> Shown
     requires not_zero { zero_place (unnamed problem.now) ≡ None }
     requires first { IfSome first (λ shown. IsKnown times problem.now (Claim.MoreThan shown.rounds) shown.way) }
     requires second { IfSome second (λ shown. IsKnown times problem.now (Claim.MoreThan shown.rounds) shown.way) }
@@ -197,8 +202,8 @@ fn shortest_way(
     }))
 }
 
-/// An upper bound of at most so many steps, each to as many labels as there may be: one with few labels has a short text.
-pub(crate) fn brief_way(
+// An upper bound of at most so many steps, each to as many labels as there may be: one with few labels has a short text.
+fn brief_way(
     alloc: Global,
     problem: &Problem,
     steps: u8,
@@ -234,4 +239,20 @@ pub(crate) fn short_way(
     let steps = shortest_steps(doublings);
     let labels = shortest_labels(greatest_degree(problem), doublings);
     shortest_way(alloc, problem, steps, labels, times)
+}
+
+/// An upper bound of at most so many steps without labels left out, and the shortest one that is found where a step passes a limit.
+pub(crate) fn enough(
+    alloc: Global,
+    problem: &Problem,
+    steps: u8,
+    times: u8,
+) -> Result<Option<Shown>, NoMemory>
+    requires { steps ≤ 9 }
+    ensures { IfOk result (λ found. IfSome found (λ shown. IsKnown times problem.now (Claim.AtMost shown.rounds) shown.way)) }
+{
+    match upper_way(alloc, problem, steps, times)? {
+        Some(upper) => Ok(Some(upper)),
+        None => short_way(alloc, problem, times),
+    }
 }

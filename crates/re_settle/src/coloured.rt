@@ -1,35 +1,57 @@
-//! Numbers of rounds that are enough given a proper colouring with few colours.
+//! Numbers of rounds that are enough given a proper colouring of one side with few colours.
 ghost use Rattle.re_settle.specs.Classes.{few_colours};
-ghost use Rattle.re_settle.specs.Coloured.{IsColoured, IsColouringOf};
+ghost use Rattle.re_settle.specs.Coloured.{IsColoured, IsColouringOf, input_kind};
 ghost use Rattle.std.specs.Prelude.{◌≡◌, IfOk, IfSome};
 
 use crate::types::{Coloured, ColouredWay};
 use re_given_words::{Counted, RoundsTexts, count_within};
 use re_inputs::{InputKind, fits, input};
-use re_labels::NoMemory;
+use re_labels::{NoMemory, Side};
 use re_problem::Problem;
 use std::alloc::Global;
 
 /// Up to how many rounds are counted given colours.
 const COLOURED_ROUNDS: u8 = 8;
 
-// One colour more than an active node has neighbours.
-fn colour_count(problem: &Problem) -> u8
-    ensures { result ≡ few_colours problem.now.active.degree problem.now.passive.degree }
+/// Up to how many labels problems have from which steps are taken then.
+const COLOURED_LABELS: u8 = 64;
+
+// One colour more than a node of the side meets others of it.
+fn colour_count(problem: &Problem, side: Side) -> u8
+    ensures { result ≡ few_colours side problem.now.active.degree problem.now.passive.degree }
 {
     let active = problem.active().degree();
     let passive = problem.passive().degree();
-    active * (passive - 1) + 1
+    match side {
+        Side::Active => active * (passive - 1) + 1,
+        Side::Passive => passive * (active - 1) + 1,
+    }
 }
 
-// The proper colouring with so many colours, where it has a name.
-fn few_colours(alloc: Global, problem: &Problem, colours: u8) -> Result<Option<Problem>, NoMemory>
-    ensures { IfOk result (λ found. IfSome found (IsColouringOf problem.now colours)) }
+// What input problem a proper colouring of the side is.
+fn input_kind(side: Side) -> InputKind
+    ensures { result ≡ input_kind side }
+{
+    match side {
+        Side::Active => InputKind::Colouring,
+        Side::Passive => InputKind::Edges,
+    }
+}
+
+// The proper colouring of the side with so many colours, where it has a name.
+fn few_colours(
+    alloc: Global,
+    problem: &Problem,
+    side: Side,
+    colours: u8,
+) -> Result<Option<Problem>, NoMemory>
+    requires { colours ≡ few_colours side problem.now.active.degree problem.now.passive.degree }
+    ensures { IfOk result (λ found. IfSome found (IsColouringOf problem.now side colours)) }
 {
     let _names = problem.names();
     let active = problem.active().degree();
     let passive = problem.passive().degree();
-    let kind = InputKind::Colouring;
+    let kind = input_kind(side);
     if !fits(
         kind,
         u32::from(active),
@@ -41,29 +63,36 @@ fn few_colours(alloc: Global, problem: &Problem, colours: u8) -> Result<Option<P
     Ok(Some(input(alloc, kind, active, passive, colours)?))
 }
 
-/// A number of rounds of at most `COLOURED_ROUNDS` that is enough given a proper colouring with one colour more than an active node has
-/// neighbours, found by steps to problems of at most so many labels.
-pub(crate) fn coloured_way(
-    alloc: Global,
-    problem: &Problem,
-    labels: u8,
-) -> Result<Option<Coloured>, NoMemory>
+// A number of rounds of at most `COLOURED_ROUNDS` that is enough given a proper colouring of the side with one colour more than a node of it meets
+// others, found by steps to problems of at most so many labels.
+fn counted_way(alloc: Global, problem: &Problem, side: Side) -> Result<Option<Coloured>, NoMemory>
     ensures { IfOk result (λ found. IfSome found (IsColoured problem.now)) }
 {
     let _names = problem.names();
-    let colours = colour_count(problem);
-    let Some(input) = few_colours(alloc, problem, colours)? else {
+    let colours = colour_count(problem, side);
+    let Some(input) = few_colours(alloc, problem, side, colours)? else {
         return Ok(None);
     };
     let texts = RoundsTexts {
         problem: problem.copy()?,
         input: Some(input),
     };
-    match count_within(alloc, &texts, COLOURED_ROUNDS, labels)? {
+    match count_within(alloc, &texts, COLOURED_ROUNDS, COLOURED_LABELS)? {
         Some(Counted::Exactly(_)) => Ok(Some(Coloured {
+            side,
             colours,
             way: ColouredWay::Rounds(COLOURED_ROUNDS),
         })),
         _ => Ok(None),
     }
+}
+
+/// The first words that show that some number of rounds is enough given few colours of nodes, or of edges.
+pub(crate) fn coloured_way(alloc: Global, problem: &Problem) -> Result<Option<Coloured>, NoMemory>
+    ensures { IfOk result (λ found. IfSome found (IsColoured problem.now)) }
+{
+    if let Some(coloured) = counted_way(alloc, problem, Side::Active)? {
+        return Ok(Some(coloured));
+    }
+    counted_way(alloc, problem, Side::Passive)
 }

@@ -5,23 +5,26 @@
 //! machine. What is said of N is multiplied by N in `settle N`.
 //!
 //! 1. Whether the problem is solvable without communication.
-//! 2. Its number of rounds, where this is at most `MAX_ROUNDS` and no step on the way passes a limit.
-//! 3. A fixed point of at most 4 steps without merges; of a problem of at most 32 N configurations the fixed point of its closure.
-//! 4. A graph of at most 4 active nodes without a solution, or one of at most 64 that gadgets make in 1,000,000 N steps. Where there is one:
-//!    whether some number of rounds, at most 8, is enough given few colours, by problems of at most 64 labels. Then nothing more is tried.
+//! 2. Its number of rounds, where this is at most `MAX_ROUNDS` and no step on the way passes a limit, or just the one behind all others does.
+//! 3. A fixed point of at most 4 steps without merges; of a problem of at most 32 N configurations the fixed point of its closure; one behind one of
+//!    the first 16 N relaxations.
+//! 4. A graph of at most 4 active nodes without a solution, or one of at most 64 that gadgets make in 1,000,000 N steps, 50,000,000
+//!    at most. Where there is one:
+//!    whether some number of rounds, at most 8, is enough given few colours of nodes, or of edges, by problems of at most 64 labels. Then nothing
+//!    more is tried.
 //! 5. Behind a graph too, a fixed point: of the closure of the problem; of that behind 1 or 2 steps, where the closures before are solvable
 //!    without communication and the problems have at most 16 labels and 64 N configurations; where the problem has at most 8 labels, of the
 //!    closure behind a merge of two of them in the problem itself, with the same bounds; of the closure with a diagram of one edge, of at most
-//!    8 labels and 32 N configurations; of at most 8 steps with at most 1 merge in each, among the first 300 N problems, where the first four
-//!    derived problems have at most 40 N configurations each.
-//! 6. Where there is no graph, two bounds. The longer one of the steps without merges that were taken before and of what `longest` finds, with
+//!    8 labels and 32 N configurations; behind one of the first 200 N relaxations; of at most 8 steps with at most 1 merge in each, among the
+//!    first 300 N problems, where the first four derived problems have at most 40 N configurations each.
+//! 6. Where there is no graph, two bounds. The longest one of the rounds that were counted, of the steps behind it and of what `longest` finds, with
 //!    8 steps and 8 more for each doubling of N, to problems of 12 labels in degrees up to 3, 8 in degree 4, 6 in degree 5 and 5 in degree 6,
 //!    and 4, 2, 1 and 1 more for each doubling. In degrees 5 and 2, of at most 8 N configurations, what `shortest 6 20` finds. Else what
 //!    `shortest` finds, with 12 steps and 8 more for each doubling, to 8, 6, 4 and 4 labels, and 4, 2, 1 and 1 more for each doubling.
 //!
-//! What is found is accepted by `check`, and its text is no longer than one that is read; or it is a graph without a solution. Where a text is
-//! too long, the way counts as one that finds nothing; for an upper bound without labels left out one with few labels is looked for, and where
-//! no lower bound has a text, `re zero` shows that 0 rounds aren't enough. Where nothing is found, nothing is known.
+//! What is found is accepted by `check`, and its text is no longer than one that is read; or it is a count of rounds, or a graph without a
+//! solution. Where a text is too long, the way counts as one that finds nothing; for an upper bound without labels left out one with few labels
+//! is looked for, and where no lower bound has a text, `re zero` shows that 0 rounds aren't enough. Where nothing is found, nothing is known.
 #![tactic(auto)]
 
 ghost use Rattle.re_settle.specs.GraphRounds.{GraphRoundsLaw};
@@ -29,6 +32,7 @@ ghost use Rattle.re_settle.specs.GraphRounds.{GraphRoundsLaw};
 mod answering;
 mod bounds;
 mod coloured;
+mod counting;
 mod lines;
 mod measures;
 mod never;
@@ -37,7 +41,8 @@ mod texts;
 mod types;
 mod words;
 
-pub use settling::{MAX_ROUNDS, settle};
+pub use counting::MAX_ROUNDS;
+pub use settling::settle;
 pub use types::{Claim, Class, Coloured, ColouredWay, Settled, Shown, Way};
 pub use words::{MAX_TIMES, SettleWord, settle_help, settle_word};
 

@@ -4,14 +4,14 @@ ghost use Rattle.re_printing.specs.SetTexts.{named_text};
 ghost use Rattle.re_settle.specs.Answers.{settled_outcome};
 ghost use Rattle.re_settle.specs.Claims.{claim_of, is_final, within};
 ghost use Rattle.re_settle.specs.Classes.{class_of};
-ghost use Rattle.re_settle.specs.Lines.{claim_text, class_lines, class_text, coloured_line, coloured_lines, coloured_words, graph_part, number_texts, rounds_text, settled_text, way_line, way_lines, way_numbers, way_rest, way_words};
+ghost use Rattle.re_settle.specs.Lines.{claim_text, class_lines, class_text, coloured_line, coloured_lines, coloured_words, colours_text, graph_part, number_texts, rounds_text, settled_text, way_line, way_lines, way_numbers, way_rest, way_words};
 ghost use Rattle.std.specs.Fmt.{decimal};
 ghost use Rattle.std.specs.Prelude.{◌≡◌, ◌++◌, ◌∷◌, [], IfOk, OnOk};
 
 use crate::types::{Claim, Class, Coloured, ColouredWay, Settled, Way};
 use arrayvec::ArrayVec;
 use re_frame::{Output, done, push_number, push_words, refused};
-use re_labels::{Names, NoMemory};
+use re_labels::{Names, NoMemory, Side};
 use re_problem::push_label;
 use std::alloc::Global;
 
@@ -32,6 +32,7 @@ fn claim_of(settled: Settled) -> Claim
 {
     match settled {
         Settled::AtOnce => Claim::Exactly(0),
+        Settled::Exactly(shown) => Claim::Exactly(shown.rounds),
         Settled::FixedPoint(_) | Settled::NoSolution(..) => Claim::Never,
         Settled::Within(more, None) => Claim::MoreThan(more.rounds),
         Settled::Within(more, Some(most)) => within(more.rounds, most.rounds),
@@ -103,6 +104,8 @@ fn way_words(way: Way) -> &'static str
         Way::Merge(..) => "explore merge",
         Way::Cover(_) => "explore cover",
         Way::Cycle(..) => "explore cycle",
+        Way::Relaxed(_) => "explore relaxed",
+        Way::Rounds(_) => "explore rounds",
         Way::Longest(..) => "explore longest",
         Way::Shortest(..) => "explore shortest",
     }
@@ -119,11 +122,11 @@ fn two(first: u8, second: u8) -> ArrayVec<u32, 3>
 }
 
 // This number.
-fn one(number: u8) -> ArrayVec<u32, 3>
+fn one(number: u32) -> ArrayVec<u32, 3>
     ensures { result.items ≡ number ∷ [] }
 {
     let mut numbers = ArrayVec::new();
-    numbers.push(u32::from(number));
+    numbers.push(number);
     numbers
 }
 
@@ -133,8 +136,10 @@ fn way_numbers(way: Way) -> ArrayVec<u32, 3>
 {
     match way {
         Way::Zero | Way::Closure(0) | Way::Raised(..) | Way::Merge(..) => ArrayVec::new(),
-        Way::Closure(steps) => one(steps),
-        Way::Cover(nodes) => one(nodes),
+        Way::Closure(steps) => one(u32::from(steps)),
+        Way::Cover(nodes) => one(u32::from(nodes)),
+        Way::Relaxed(nodes) => one(nodes),
+        Way::Rounds(most) => one(u32::from(most)),
         Way::Lower(steps, changes) | Way::Upper(steps, changes) | Way::Fixed(steps, changes) => {
             two(steps, changes)
         }
@@ -212,6 +217,7 @@ fn push_ways(text: &mut Vec<u8>, names: &Names, settled: Settled) -> Result<(), 
 {
     match settled {
         Settled::AtOnce => push_way(text, names, Way::Zero),
+        Settled::Exactly(shown) => push_way(text, names, shown.way),
         Settled::FixedPoint(way) | Settled::NoSolution(way, _) => push_way(text, names, way),
         Settled::Within(more, None) => push_way(text, names, more.way),
         Settled::Within(more, Some(most)) => {
@@ -227,6 +233,7 @@ fn class_of(settled: Settled) -> Class
 {
     match settled {
         Settled::AtOnce => Class::Constant(Claim::Exactly(0)),
+        Settled::Exactly(shown) => Class::Constant(Claim::Exactly(shown.rounds)),
         Settled::FixedPoint(_) => Class::AtLeastLog,
         Settled::NoSolution(_, None) => Class::AtLeastLogStar,
         Settled::NoSolution(_, Some(_)) => Class::OrderLogStar,
@@ -285,6 +292,16 @@ fn push_coloured_words(text: &mut Vec<u8>, way: ColouredWay) -> Result<(), NoMem
     }
 }
 
+// What has colours.
+fn colours_text(side: Side) -> &'static str
+    ensures { result.now ≡ colours_text side }
+{
+    match side {
+        Side::Active => " colours\n",
+        Side::Passive => " edge colours\n",
+    }
+}
+
 // Appends the line of words, given a proper colouring.
 fn push_coloured(text: &mut Vec<u8>, coloured: Coloured) -> Result<(), NoMemory>
     ensures { OnOk result (text.new.items ≡ text.old.items ++ coloured_line coloured) }
@@ -292,7 +309,7 @@ fn push_coloured(text: &mut Vec<u8>, coloured: Coloured) -> Result<(), NoMemory>
     push_words(text, "by: ")?;
     push_coloured_words(text, coloured.way)?;
     push_counted(text, " given ", coloured.colours)?;
-    push_words(text, " colours\n")
+    push_words(text, colours_text(coloured.side))
 }
 
 // Appends the line of the words that show the class, where these aren't those that show the claim.

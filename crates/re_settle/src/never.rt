@@ -3,22 +3,23 @@
 ghost use Rattle.re_chain.specs.Merging.{merge_limit, merge_refusal, merged};
 ghost use Rattle.re_chain_texts.specs.ChainTexts.{problem_chain};
 ghost use Rattle.re_extend.specs.Extensions.{IsSoundChain};
-ghost use Rattle.re_settle.specs.Ways.{ClosesBehind, HasText, IsFixedPoint, IsKnown};
+ghost use Rattle.re_settle.specs.Ways.{ClosesBehind, HasText, IsExcluded, IsFixedPoint, IsTried};
 ghost use Rattle.std.specs.Prelude.{◌≡◌, ◌<◌, ◌≤◌, IfOk, IfSome, None, length};
 
 use crate::measures::is_small;
 use crate::texts::has_text;
-use crate::types::{Claim, Way};
+use crate::types::Way;
 use re_cert::Certificate;
 use re_chain::{MergeFault, merge, merge_law};
 use re_chain_parts::over_problems;
 use re_chain_steps::{ChainStepFault, step};
 use re_closure::{Closing, ClosureFault, find_closure, find_raised};
 use re_cycle::{Cycle, find_cycle};
-use re_gadgets::find_gadgets;
+use re_gadgets::{MAX_STEPS, find_gadgets};
 use re_graph::find_cover;
 use re_labels::NoMemory;
 use re_problem::Problem;
+use re_relaxed::{Relaxed, find_relaxed};
 use re_search::{FindFault, Search, find_fixed};
 use re_step::{StepFault, step as derive};
 use std::alloc::Global;
@@ -44,7 +45,13 @@ const CYCLE_STEPS: usize = 4;
 /// Of how many problems it is asked whether they come back.
 const CYCLE_NODES: u32 = 300;
 
-/// How many steps gadgets are joined in.
+/// How many relaxations are looked at before dearer ways.
+const NEAR_RELAXED: u32 = 16;
+
+/// How many are looked at among these.
+const FAR_RELAXED: u32 = 200;
+
+/// How many steps gadgets are joined in, and no more than `cover` takes.
 const GADGET_STEPS: usize = 1_000_000;
 
 // A fixed point of at most 4 steps without merges.
@@ -318,9 +325,10 @@ fn merges_way(
 
 // A graph that gadgets make. The word that finds it first lists all graphs of at most 8 active nodes.
 fn gadget_way(alloc: Global, problem: &Problem, times: u8) -> Result<Option<Way>, NoMemory>
-    ensures { IfOk result (λ found. IfSome found (IsKnown times problem.now Claim.Never)) }
+    ensures { IfOk result (λ found. IfSome found (IsExcluded times problem.now)) }
 {
     let steps = GADGET_STEPS.saturating_mul(usize::from(times));
+    let steps = steps.min(MAX_STEPS);
     match find_gadgets(alloc, problem, 64, steps)?.graph {
         Some(graph) => {
             if graph.nodes() <= 8 {
@@ -339,7 +347,7 @@ pub(crate) fn cover_way(
     problem: &Problem,
     times: u8,
 ) -> Result<Option<Way>, NoMemory>
-    ensures { IfOk result (λ found. IfSome found (IsKnown times problem.now Claim.Never)) }
+    ensures { IfOk result (λ found. IfSome found (IsExcluded times problem.now)) }
 {
     match find_cover(alloc, problem, 4)?.graph {
         Some(_) => Ok(Some(Way::Cover(4))),
@@ -389,6 +397,31 @@ fn cycle_way(
     }
 }
 
+// A fixed point behind a relaxation, of at most so many that are looked at.
+fn relaxed_way(
+    alloc: Global,
+    problem: &Problem,
+    chain: &Certificate,
+    nodes: u32,
+    times: u8,
+) -> Result<Option<Way>, NoMemory>
+    requires chain { chain.now ≡ problem_chain problem.now }
+    requires tried { IsTried times problem.now (Way.Relaxed nodes) }
+    ensures { IfOk result (λ found. IfSome found (IsFixedPoint times problem.now)) }
+{
+    let _problem = problem;
+    let _times = times;
+    let Relaxed::Found(certificate) = find_relaxed(alloc, chain, nodes)? else {
+        return Ok(None);
+    };
+    let has = has_text(alloc, &certificate)?;
+    if has {
+        Ok(Some(Way::Relaxed(nodes)))
+    } else {
+        Ok(None)
+    }
+}
+
 /// The first words that show a fixed point of the problem, whose chain is given too, of those that cost little.
 pub(crate) fn near_way(
     alloc: Global,
@@ -396,16 +429,20 @@ pub(crate) fn near_way(
     chain: &Certificate,
     times: u8,
 ) -> Result<Option<Way>, NoMemory>
-    requires { chain.now ≡ problem_chain problem.now }
+    requires chain { chain.now ≡ problem_chain problem.now }
+    requires times { times ≤ 64 }
     ensures { IfOk result (λ found. IfSome found (IsFixedPoint times problem.now)) }
 {
     if let Some(way) = fixed_way(alloc, problem, times)? {
         return Ok(Some(way));
     }
-    if !is_small(problem, NEAR_SIZE, times) {
-        return Ok(None);
+    if is_small(problem, NEAR_SIZE, times) {
+        if let Some(way) = closure_way(alloc, problem, chain, 0, times)? {
+            return Ok(Some(way));
+        }
     }
-    closure_way(alloc, problem, chain, 0, times)
+    let nodes = NEAR_RELAXED * u32::from(times);
+    relaxed_way(alloc, problem, chain, nodes, times)
 }
 
 /// The same of those that cost more.
@@ -426,6 +463,10 @@ pub(crate) fn far_way(
         return Ok(Some(way));
     }
     if let Some(way) = all_raised_way(alloc, problem, chain, times)? {
+        return Ok(Some(way));
+    }
+    let nodes = FAR_RELAXED * u32::from(times);
+    if let Some(way) = relaxed_way(alloc, problem, chain, nodes, times)? {
         return Ok(Some(way));
     }
     cycle_way(alloc, problem, chain, times)

@@ -1,65 +1,26 @@
 //! What is known of a problem.
+ghost use Rattle.re_given_words.specs.Counting.{MayTell};
 ghost use Rattle.re_chain_texts.specs.ChainTexts.{problem_chain};
 ghost use Rattle.re_problem.specs.NamedProblems.{unnamed};
 ghost use Rattle.re_problem.specs.Zero.{zero_place};
-ghost use Rattle.re_settle.specs.Ways.{IsKnown, IsSettled};
+ghost use Rattle.re_settle.specs.Ways.{IsExcluded, IsSettled};
 ghost use Rattle.std.specs.Prelude.{◌≡◌, ◌≤◌, IfOk, IfSome, None};
 
-use crate::bounds::{brief_way, long_way, lower_way, short_way, upper_way};
+use crate::bounds::{enough, long_way, longer, lower_way, short_way};
 use crate::coloured::coloured_way;
+use crate::counting::{MAX_ROUNDS, counted, more_way, steps_of};
 use crate::never::{cover_way, far_way, near_way};
-use crate::types::{Claim, Settled, Shown, Way};
+use crate::types::{Settled, Shown, Way};
 use re_cert::Certificate;
 use re_chain_texts::problem_chain;
+use re_given_words::Counted;
 use re_labels::NoMemory;
 use re_problem::Problem;
-use re_search::types::Rounds;
-use re_search::{RoundsFault, rounds};
 use re_zero::zero_round;
 use std::alloc::Global;
 
-/// Up to how many rounds are counted by steps.
-pub const MAX_ROUNDS: u8 = 8;
-
-/// Up to how many labels problems have from which steps are taken where colours are given.
-const COLOURED_LABELS: u8 = 64;
-
-// How many steps can be taken to problems that aren't solvable without communication, and whether the next one leads to one that is.
-#[derive(Clone, Copy, Debug, PartialEq, Eq)]
-struct Count {
-    steps: u8,
-    ends: bool,
-}
-
-// Counts them, up to `MAX_ROUNDS`. Nothing rests on it.
-fn counted(alloc: Global, problem: &Problem) -> Result<Count, NoMemory>
-    ensures { IfOk result (λ count. count.steps ≤ 8) }
-{
-    let (steps, ends) = match rounds(alloc, problem, MAX_ROUNDS) {
-        Ok(Rounds::Exactly(k)) => (k.saturating_sub(1), true),
-        Ok(Rounds::MoreThan(k)) => (k, false),
-        Err(RoundsFault::StepLimit { step, .. }) => (step.saturating_sub(1), false),
-        Err(RoundsFault::NoMemory) => return Err(NoMemory),
-    };
-    Ok(Count {
-        steps: steps.min(MAX_ROUNDS),
-        ends,
-    })
-}
-
-// At most so many rounds: by steps without changes, or by others where that has no text.
-fn enough(alloc: Global, problem: &Problem, steps: u8, times: u8) -> Result<Option<Shown>, NoMemory>
-    requires { steps ≤ 9 }
-    ensures { IfOk result (λ found. IfSome found (λ shown. IsKnown times problem.now (Claim.AtMost shown.rounds) shown.way)) }
-{
-    match upper_way(alloc, problem, steps, times)? {
-        Some(upper) => Ok(Some(upper)),
-        None => brief_way(alloc, problem, steps, times),
-    }
-}
-
-// More than so many rounds, and one more suffices: by steps without changes.
-fn exact(
+// More than so many rounds, by steps without changes, and one more suffices.
+fn by_steps(
     alloc: Global,
     problem: &Problem,
     steps: u8,
@@ -73,8 +34,30 @@ fn exact(
         return Ok(None);
     };
     match enough(alloc, problem, steps + 1, times)? {
-        Some(upper) => Ok(Some(Settled::Within(lower, Some(upper)))),
+        Some(upper) => {
+            if upper.rounds as usize == lower.rounds as usize + 1 {
+                Ok(Some(Settled::Within(lower, Some(upper))))
+            } else {
+                Ok(None)
+            }
+        }
         None => Ok(None),
+    }
+}
+
+// So many rounds, as they are counted: by certificates where these are found, and else by the count.
+fn exact(alloc: Global, problem: &Problem, rounds: u8, times: u8) -> Result<Settled, NoMemory>
+    requires { MayTell (unnamed problem.now) None 8 (Counted.Exactly rounds) }
+    ensures { IfOk result (IsSettled times problem.now) }
+{
+    let _names = problem.names();
+    let steps = steps_of(Counted::Exactly(rounds));
+    match by_steps(alloc, problem, steps, times)? {
+        Some(settled) => Ok(settled),
+        None => Ok(Settled::Exactly(Shown {
+            rounds,
+            way: Way::Rounds(MAX_ROUNDS),
+        })),
     }
 }
 
@@ -83,16 +66,18 @@ fn bounded(
     alloc: Global,
     problem: &Problem,
     chain: &Certificate,
-    steps: u8,
+    counted: Counted,
     times: u8,
 ) -> Result<Settled, NoMemory>
     requires chain { chain.now ≡ problem_chain problem.now }
     requires not_zero { zero_place (unnamed problem.now) ≡ None }
-    requires steps { steps ≤ 8 }
+    requires counted { MayTell (unnamed problem.now) None 8 counted }
     ensures { IfOk result (IsSettled times problem.now) }
 {
     let _names = problem.names();
-    let lower = long_way(alloc, problem, chain, steps, times)?;
+    let more = more_way(problem, counted, times);
+    let long = long_way(alloc, problem, chain, steps_of(counted), times)?;
+    let lower = longer(problem, more, Some(long), times);
     let upper = short_way(alloc, problem, times)?;
     Ok(Settled::Within(lower, upper))
 }
@@ -102,18 +87,18 @@ fn searched(
     alloc: Global,
     problem: &Problem,
     chain: &Certificate,
-    steps: u8,
+    counted: Counted,
     times: u8,
 ) -> Result<Settled, NoMemory>
     requires chain { chain.now ≡ problem_chain problem.now }
     requires not_zero { zero_place (unnamed problem.now) ≡ None }
-    requires steps { steps ≤ 8 }
+    requires counted { MayTell (unnamed problem.now) None 8 counted }
     requires times { times ≤ 64 }
     ensures { IfOk result (IsSettled times problem.now) }
 {
     match far_way(alloc, problem, chain, times)? {
         Some(way) => Ok(Settled::FixedPoint(way)),
-        None => bounded(alloc, problem, chain, steps, times),
+        None => bounded(alloc, problem, chain, counted, times),
     }
 }
 
@@ -126,12 +111,12 @@ fn covered(
     times: u8,
 ) -> Result<Settled, NoMemory>
     requires chain { chain.now ≡ problem_chain problem.now }
-    requires known { IsKnown times problem.now Claim.Never way }
+    requires excluded { IsExcluded times problem.now way }
     requires times { times ≤ 64 }
     ensures { IfOk result (IsSettled times problem.now) }
 {
     let _names = problem.names();
-    if let Some(coloured) = coloured_way(alloc, problem, COLOURED_LABELS)? {
+    if let Some(coloured) = coloured_way(alloc, problem)? {
         return Ok(Settled::NoSolution(way, Some(coloured)));
     }
     match far_way(alloc, problem, chain, times)? {
@@ -145,12 +130,12 @@ fn tried(
     alloc: Global,
     problem: &Problem,
     chain: &Certificate,
-    steps: u8,
+    counted: Counted,
     times: u8,
 ) -> Result<Settled, NoMemory>
     requires chain { chain.now ≡ problem_chain problem.now }
     requires not_zero { zero_place (unnamed problem.now) ≡ None }
-    requires steps { steps ≤ 8 }
+    requires counted { MayTell (unnamed problem.now) None 8 counted }
     requires times { times ≤ 64 }
     ensures { IfOk result (IsSettled times problem.now) }
 {
@@ -159,7 +144,7 @@ fn tried(
     }
     match cover_way(alloc, problem, times)? {
         Some(way) => covered(alloc, problem, chain, way, times),
-        None => searched(alloc, problem, chain, steps, times),
+        None => searched(alloc, problem, chain, counted, times),
     }
 }
 
@@ -175,13 +160,10 @@ fn settled(
     requires times { times ≤ 64 }
     ensures { IfOk result (IsSettled times problem.now) }
 {
-    let count = counted(alloc, problem)?;
-    if count.ends {
-        if let Some(settled) = exact(alloc, problem, count.steps, times)? {
-            return Ok(settled);
-        }
+    match counted(alloc, problem)? {
+        Counted::Exactly(rounds) => exact(alloc, problem, rounds, times),
+        other => tried(alloc, problem, chain, other, times),
     }
-    tried(alloc, problem, chain, count.steps, times)
 }
 
 /// What the searches of this crate find out of how many rounds the problem takes, and the words that show it, where their bounds are taken so

@@ -1,5 +1,7 @@
 //! What is known of a problem, and the words that show it.
 
+use re_labels::Side;
+
 /// Words whose answer to a problem shows something of it.
 #[derive(Clone, Copy, Debug, PartialEq, Eq)]
 pub enum Way {
@@ -23,6 +25,11 @@ pub enum Way {
     Cover(u8),
     /// `explore cycle K M N`: a fixed point of at most K steps with at most M merges in each, of at most N problems that are looked at.
     Cycle(u8, u8, u32),
+    /// `explore relaxed N`: a fixed point behind a relaxation, of at most N that are looked at.
+    Relaxed(u32),
+    /// `explore rounds K`: how many rounds it takes, where these are at most K, or more than how many, as far as steps go and one is told ahead of
+    /// a step that passes a limit.
+    Rounds(u8),
     /// `explore longest K L`: a lower bound of at most K steps, each to a problem of at most L labels.
     Longest(u8, u8),
     /// `explore shortest K L`: an upper bound of at most K steps, each to a problem of at most L labels.
@@ -36,9 +43,11 @@ pub enum ColouredWay {
     Rounds(u8),
 }
 
-/// Words that show that some number of rounds is enough given a proper colouring with so many colours.
+/// Words that show that some number of rounds is enough given a proper colouring with so many colours, of active nodes or of passive ones, which are
+/// edges where they have two ends.
 #[derive(Clone, Copy, Debug, PartialEq, Eq)]
 pub struct Coloured {
+    pub side: Side,
     pub colours: u8,
     pub way: ColouredWay,
 }
@@ -85,10 +94,12 @@ pub struct Shown {
 pub enum Settled {
     /// It is solvable without communication.
     AtOnce,
+    /// It takes exactly so many rounds, as one of the words shows.
+    Exactly(Shown),
     /// No number of rounds solves it, as a fixed point shows.
     FixedPoint(Way),
     /// No number of rounds solves it, as a finite graph without a solution shows; and where it is known, some number is enough given a proper
-    /// colouring with one colour more than a node has neighbours.
+    /// colouring of one side with one colour more than a node of this side meets others.
     NoSolution(Way, Option<Coloured>),
     /// It takes more than the first number of rounds, and where a second one is known, at most that many.
     Within(Shown, Option<Shown>),

@@ -1,13 +1,13 @@
-use Rattle.std.proofs.Common.{subst}
-use Rattle.std.specs.Prelude.{IfSome}
-use Rattle.re_settle.specs.Ways.{IsKnown}
-use Rattle.re_settle.specs.declared.types.Claim.TheVariants.{AtMost, MoreThan}
-use Rattle.re_settle.specs.declared.types.Shown.{Shown}
-use Rattle.re_settle.proofs.Together.{within_settled}
+use Rattle.std.proofs.Common.{refl}
+use Rattle.re_given_words.specs.declared.counting.Counted.TheVariants as counted
+use Rattle.re_settle.proofs.Known.{count_known}
+use Rattle.re_settle.proofs.Together.{exactly_settled}
+use Rattle.re_settle.specs.declared.types.Claim.TheVariants.{Exactly}
+use Rattle.re_settle.specs.declared.types.Way.TheVariants.{Rounds}
 use Rattle.re_settle.proofs.settling.exact.Goals as goal
 
-pub returns-in-Some-2 : goal.returns-in-Some-2
-returns-in-Some-2 c =
-    within_settled c.args.times c.args.problem.now c.in-Some.lower c.in-Some-2.upper c.names-names.ensures.problem.problem
-    (subst (λ found. IfSome found (λ (shown : Shown). IsKnown c.args.times c.args.problem.now (MoreThan shown.rounds) shown.way)) c.in-Some.is c.in_ok-lower.ensures)
-    (subst (λ found. IfSome found (λ (shown : Shown). IsKnown c.args.times c.args.problem.now (AtMost shown.rounds) shown.way)) c.in-Some-2.is c.in_ok-upper.ensures)
+pub returns-in-None : goal.returns-in-None
+returns-in-None c =
+    let is = c.names-names.ensures.problem.problem in
+    exactly_settled c.args.times c.args.problem.now (record { rounds = c.args.rounds; way = Rounds 8 }) is
+    (count_known c.args.times c.args.problem.now (counted.Exactly c.args.rounds) (Exactly c.args.rounds) is c.requires refl)

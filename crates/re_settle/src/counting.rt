@@ -1,0 +1,63 @@
+//! What `rounds` counts.
+ghost use Rattle.re_given_words.specs.Counting.{MayTell};
+ghost use Rattle.re_problem.specs.NamedProblems.{unnamed};
+ghost use Rattle.re_settle.specs.Ways.{IsKnown, SaysCounted};
+ghost use Rattle.std.specs.Prelude.{◌≡◌, ◌≤◌, IfOk, IfSome, None};
+
+use crate::types::{Claim, Shown, Way};
+use re_given_words::{Counted, RoundsTexts, count};
+use re_labels::NoMemory;
+use re_problem::Problem;
+use std::alloc::Global;
+
+/// Up to how many rounds are counted by steps.
+pub const MAX_ROUNDS: u8 = 8;
+
+/// How many rounds the problem takes, up to `MAX_ROUNDS`, as far as steps go and one is told ahead of a step that passes a limit.
+pub(crate) fn counted(alloc: Global, problem: &Problem) -> Result<Counted, NoMemory>
+    ensures { IfOk result (MayTell (unnamed problem.now) None 8) }
+{
+    let texts = RoundsTexts {
+        problem: problem.copy()?,
+        input: None,
+    };
+    count(alloc, &texts, MAX_ROUNDS)
+}
+
+/// How many steps lead to problems that aren't solvable without communication, as far as steps go. Nothing rests on it.
+pub(crate) fn steps_of(counted: Counted) -> u8
+    ensures { result ≤ 8 }
+{
+    let steps = match counted {
+        Counted::Exactly(rounds) => rounds.saturating_sub(1),
+        Counted::MoreThan(rounds) | Counted::Passed(rounds, _) | Counted::Tried(rounds) => rounds,
+        Counted::Stopped(_, steps, _) => steps,
+    };
+    steps.min(MAX_ROUNDS)
+}
+
+// The rounds that are told to be too few, where more may be.
+fn few_of(counted: Counted) -> Option<u8>
+    ensures { IfSome result (λ rounds. SaysCounted counted (Claim.MoreThan rounds)) }
+{
+    match counted {
+        Counted::MoreThan(rounds) => Some(rounds),
+        Counted::Passed(rounds, _) => Some(rounds),
+        Counted::Stopped(rounds, _, _) => Some(rounds),
+        Counted::Exactly(_) | Counted::Tried(_) => None,
+    }
+}
+
+/// More than so many rounds, where that is counted.
+pub(crate) fn more_way(problem: &Problem, counted: Counted, times: u8) -> Option<Shown>
+    requires { MayTell (unnamed problem.now) None 8 counted }
+    ensures { IfSome result (λ shown. IsKnown times problem.now (Claim.MoreThan shown.rounds) shown.way) }
+{
+    let _names = problem.names();
+    let _times = times;
+    let rounds = few_of(counted)?;
+    Some(Shown {
+        rounds,
+        way: Way::Rounds(MAX_ROUNDS),
+    })
+}

@@ -1,7 +1,7 @@
 // The buttons of a card, and those for the labels that are selected on it.
 import {kindsOf} from './chains.js';
 import {openDiagramDialog} from './dialogs.js';
-import {button, copy, element, hint} from './dom.js';
+import {button, copy, element, hint, intoView} from './dom.js';
 import {SIDES} from './problems.js';
 import {searchActions} from './search_actions.js';
 
@@ -53,6 +53,8 @@ function moreMenu(bench, card, view) {
     const close = () => {
         menu.open = false;
     };
+    // In a narrow window it stands below its name.
+    menu.addEventListener('toggle', () => menu.open && intoView(menu));
     menu.addEventListener('click', event => {
         if (event.target.closest('button')) close();
     });

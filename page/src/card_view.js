@@ -1,5 +1,6 @@
 // One card: a problem with its constraints, diagrams, meanings and what can be done with it.
-import {button, code, element, hint, intoView, plural, replace, say} from './dom.js';
+import {button, code, element, hint, intoView, plural, replace} from './dom.js';
+import {say} from './messages.js';
 import {isStep, numberOf, stagesOf, titleOf} from './chains.js';
 import {clauseFault} from './certificates.js';
 import {blockOf, SIDES} from './problems.js';

@@ -98,7 +98,8 @@ export class Claim {
         const job = engine.start('explore', ['describe'], certificate, {quiet: true, limit: DESCRIBE_LIMIT, title: 'describe'});
         const {text} = await this.forThis(job).catch(() => ({text: ''})), found = roundsOfGraph(text);
         if (found && turn === this.turn)
-            $('#verdict-line').nextSibling.append(element('span', {id: 'rounds-of-graph', title: 'explore describe'}, ` · ${found}`));
+            $('#verdict-line')
+                .nextSibling.append(element('span', {id: 'rounds-of-graph', title: 'explore describe'}, ' · ', lineText(found)));
     }
 
     // The card that fails shows the clause in words, and what `explore why` says of it.

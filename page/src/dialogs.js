@@ -1,5 +1,6 @@
 // The windows over the page: the frame of all of them, and the plain ones.
-import {$, button, copy, cut, download, element, faulty, hint, plural, replace, say} from './dom.js';
+import {$, button, copy, cut, download, element, faulty, hint, plural, replace} from './dom.js';
+import {say} from './messages.js';
 import {lineText, modelOf} from './claims.js';
 import {DONE, keepDraft} from './drafts.js';
 import {LONGEST_SHOWN, NumberedArea} from './numbered_area.js';

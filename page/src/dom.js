@@ -1,4 +1,5 @@
 // Small helpers to build the page. Texts become text nodes and attributes alone, never markup.
+import {say} from './messages.js';
 
 export const $ = selector => document.querySelector(selector);
 
@@ -58,36 +59,9 @@ export async function copy(text, from) {
     from?.focus();
 }
 
-// Scrolls until an element that was opened is seen, clear of what stands over the page.
-export const intoView = node =>
-    requestAnimationFrame(() => node?.isConnected && node.scrollIntoView({block: 'nearest', behavior: 'instant'}));
-
-// A short message, which screen readers read too.
-let messageTimer = 0;
-export function say(text, isFault = false) {
-    const box = $('#message');
-    box.textContent = text;
-    box.className = isFault ? 'shown fault' : 'shown';
-    putAside(box);
-    clearTimeout(messageTimer);
-    messageTimer = setTimeout(() => {
-        box.className = '';
-    }, isFault ? 8000 : 3000);
-}
-
-const USED = 'button, input, select, textarea, summary, a, [data-label], .edge';
-
-// Puts a box where it covers nothing that is used: above the foot, or below the bar, in the middle or at a side, else over the title.
-function putAside(box) {
-    const {width, height} = box.getBoundingClientRect(), foot = $('#claim').offsetHeight, bar = $('.bar').getBoundingClientRect();
-    const lefts = [(innerWidth - width) / 2, 8, innerWidth - width - 24],
-          tops = [innerHeight - foot - height - 10, Math.max(0, bar.bottom) + 6, 2];
-    const places = [...tops.flatMap(top => lefts.map(left => [left, top])), [8, 2]], parts = [0, .1, .2, .3, .4, .5, .6, .7, .8, .9, 1];
-    const isFree = ([left, top]) =>
-        parts.every(x => [0, .5, 1].every(y => !document.elementFromPoint(left + width * x, Math.max(0, top + height * y))?.closest(USED)));
-    const [left, top] = places.find(isFree) || places.at(-1);
-    Object.assign(box.style, {left: `${Math.max(0, left)}px`, top: `${Math.max(0, top)}px`});
-}
+// Scrolls until an element that was opened is seen, clear of what stands over the page; its beginning at the top with `block` as 'start'.
+export const intoView = (node, block = 'nearest') =>
+    requestAnimationFrame(() => node?.isConnected && node.scrollIntoView({block, behavior: 'instant'}));
 
 const withCommas = new Intl.NumberFormat('en');
 export const plural = (n, one, many = one + 's') => `${withCommas.format(n)} ${n === 1 ? one : many}`;

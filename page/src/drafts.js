@@ -1,5 +1,5 @@
 // What was typed in a window that was closed without doing it: the same window opened again has it.
-import {say} from './dom.js';
+import {say} from './messages.js';
 
 // The value with which a window closes once it did what it is for.
 export const DONE = 'done';

@@ -1,5 +1,6 @@
 // An editor of a problem: the active and the passive constraint, with line numbers and the fault at its line.
-import {button, element, faulty, hint, plural, replace, say} from './dom.js';
+import {button, element, faulty, hint, plural, replace} from './dom.js';
+import {say} from './messages.js';
 import {bracketed, filledLines} from './texts.js';
 import {describe} from './problems.js';
 import {faultLine, isCertificate} from './certificates.js';
@@ -11,7 +12,7 @@ export class Editor {
     // `onRead(canonical, written)` is told of each problem that is read (null: none), `onOther(text)` of a pasted text that is no problem to
     // edit, and `onChange()` of what the user writes.
     constructor(engine, {onRead = () => {}, onOther = null, onChange = () => {}} = {}) {
-        Object.assign(this, {engine, onRead, onOther, onChange, problem: null, isOwn: false});
+        Object.assign(this, {engine, onRead, onOther, onChange, problem: null, isOwn: false, replaced: null});
         const area = (label, placeholder) =>
             new NumberedArea({label, placeholder, onInput: changed => this.changed(changed), onLarge: onOther});
         this.active = area('active constraint', 'M^3\nP O^2');
@@ -28,7 +29,7 @@ export class Editor {
 
     // `isOwn` says whether what stands here was written here, and nowhere else.
     set(active, passive) {
-        this.keepOld(active, passive);
+        this.keepOld({active, passive});
         this.isOwn = false;
         this.active.value = active;
         this.passive.value = passive;
@@ -36,15 +37,44 @@ export class Editor {
         return this.read();
     }
 
-    // What was written here and stands nowhere else can be brought back.
-    keepOld(active, passive) {
-        const old = this.sides;
-        this.old.hidden = !this.isOwn || !this.text.trim() || old.active === active && old.passive === passive;
-        if (this.old.hidden) return;
-        replace(this.old, hint('What you wrote was replaced. '), button('Bring it back', () => {
-            this.set(old.active, old.passive);
-            this.isOwn = true;
-        }));
+    // The same of a text that stands nowhere else.
+    setOwn(active, passive) {
+        const reading = this.set(active, passive);
+        this.isOwn = true;
+        return reading;
+    }
+
+    // What was written here and stands nowhere else can be brought back, also behind several texts that took its place.
+    keepOld(next) {
+        const isSame = sides => sides?.active === next.active && sides?.passive === next.passive;
+        if (this.isOwn && this.text.trim() && !isSame(this.sides)) this.replaced = this.sides;
+        else if (isSame(this.replaced)) this.replaced = null;
+        this.showOld();
+    }
+
+    showOld() {
+        const {replaced} = this, end = () => {
+            this.replaced = null;
+            this.showOld();
+            this.onChange();
+        };
+        const bringBack = () => {
+            this.setOwn(replaced.active, replaced.passive);
+            this.onChange();
+        };
+        this.old.hidden = !replaced;
+        replace(this.old, replaced && hint('What you wrote was replaced. '), replaced && button('Bring it back', bringBack),
+            replaced && button('×', end, {class: 'quiet close', 'aria-label': 'let it go', title: 'let it go'}));
+    }
+
+    // What stood here, as `kept` has it: for a reload.
+    get kept() { return {...this.sides, isOwn: this.isOwn, replaced: this.replaced}; }
+
+    async restore({active, passive, isOwn, replaced}) {
+        await this.set(active, passive);
+        this.isOwn = Boolean(isOwn);
+        this.replaced ||= replaced || null;
+        this.showOld();
     }
 
     // A whole problem text: its blocks go to the two areas.
@@ -62,7 +92,6 @@ export class Editor {
     changed(area) {
         const {value} = area;
         this.isOwn = true;
-        this.old.hidden = true;
         this.onChange();
         this.reading = null;
         if (this.onOther && isCertificate(value)) {
@@ -72,7 +101,9 @@ export class Editor {
         }
         // What is pasted with its empty line is cut there.
         if (area === this.active && !this.passive.value.trim() && /\S[^\n]*\n\s*\n\s*\S/.test(value)) {
+            this.isOwn = false;
             this.setText(value);
+            this.isOwn = true;
             return;
         }
         clearTimeout(this.timer);
@@ -154,8 +185,8 @@ export class Editor {
         if (!fixed[0] && !fixed[1]) return null;
         const changed = fixed.flatMap((text, i) => text ? text.split('\n').filter((line, k) => line !== old[i].split('\n')[k]) : []);
         return element('div', {},
-            button(
-                `Bracket the choices: ${changed[0].trim()}`, () => this.set(fixed[0] || old[0], fixed[1] || old[1]), {class: 'primary'}));
+            button(`Bracket the choices: ${changed[0].trim()}`, () => this.setOwn(fixed[0] || old[0], fixed[1] || old[1]),
+                {class: 'primary'}));
     }
 }
 

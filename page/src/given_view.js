@@ -1,6 +1,7 @@
 // What the nodes are given: a field of the chain, kept with its first card, and the line of `explore given` beside it.
 import {claimNodes} from './claims.js';
-import {$, button, code, element, faulty, hint, replace, say} from './dom.js';
+import {$, button, code, element, faulty, hint, replace} from './dom.js';
+import {say} from './messages.js';
 import {Editor} from './editor.js';
 import {openDialog} from './dialogs.js';
 import {DONE, keepDraft} from './drafts.js';
@@ -85,7 +86,12 @@ export class Given {
         if (this.number.value !== null) this.timer = setTimeout(() => this.choose(), 400);
     }
 
-    sayPending() { replace(this.line, this.number.value === null ? faulty(`Nothing is judged. ${this.number.fault}.`) : hint('asking…')); }
+    sayPending() {
+        replace(this.line,
+            this.number.value === null
+                ? faulty(`Nothing is judged: the ${this.number.label} has to be from ${this.number.least} to ${this.number.most}.`)
+                : hint('asking…'));
+    }
 
     async choose() {
         const {first} = this, kind = this.kind.value, counts = INPUT_KINDS.find(other => other.kind === kind).counts;

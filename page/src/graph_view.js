@@ -32,7 +32,7 @@ export function openGraphDialog(text, ask) {
         if (asked !== now()) return;
         const fault = faultOf(said);
         areas.forEach(area => area.number(fault?.area === area ? fault.line : 0));
-        replace(line, fault ? faulty(`line ${fault.line}: ${fault.text}`) : claimNodes(said), hint(' explore solve'));
+        replace(line, fault ? faulty(`line ${fault.line}: ${fault.text}`) : claimNodes(said), hint(' · explore solve'));
         replace(box, graph && !fault ? graphPicture(graph, labels) : null);
     };
     const save = () => {

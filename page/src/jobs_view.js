@@ -1,5 +1,6 @@
 // What runs, in the bar above: each with its time, what was found so far, and a button that stops it.
-import {$, button, element, hint, seconds} from './dom.js';
+import {lineText} from './claims.js';
+import {$, button, element, hint, replace, seconds} from './dom.js';
 import {nameOfJob} from './job_names.js';
 
 const EACH = 100, UNSEEN = 400;
@@ -14,7 +15,7 @@ export function watchJobs(engine, onBusy) {
             if (job.isPart || !rows.has(job) && (job.started ? now - job.started < UNSEEN : engine.running.size < engine.most)) continue;
             if (!rows.has(job)) box.append(rowOf(job, rows));
             rows.get(job).time.textContent = job.started ? seconds(now - job.started) : 'waiting';
-            rows.get(job).state.textContent = job.state || '';
+            rows.get(job).say(job.state || '');
         }
         for (const [job, {node}] of rows)
             if (job.isOver) {
@@ -31,6 +32,9 @@ function rowOf(job, rows) {
     const name = nameOfJob(job.title);
     const node = element('div.job', {title: name}, element('span.spinner', {'aria-hidden': 'true'}), element('span.name', {}, name), time,
         state, button('Stop', () => job.stop(), {'aria-label': `stop ${name}`}));
-    rows.set(job, {node, time, state});
+    const say = text => {
+        if (state.textContent !== text) replace(state, lineText(text));
+    };
+    rows.set(job, {node, time, say});
     return node;
 }

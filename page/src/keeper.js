@@ -1,7 +1,8 @@
 // What this browser keeps of the page, beside the address: the text in the editor, notes, what was tried, and what undo goes back to. The tab
 // keeps it for a reload, and the browser the last sessions for the file opened anew. It is never part of a session that is sent, and where
 // the browser keeps nothing the page works without.
-import {$, button, element, hint, plural, say} from './dom.js';
+import {$, button, element, hint, plural} from './dom.js';
+import {say} from './messages.js';
 import {isNote} from './notes.js';
 import {historyOf, readHistory} from './sessions.js';
 import {titleOf} from './chains.js';
@@ -51,7 +52,7 @@ export class Keeper {
             build: this.build,
             tab: this.tab,
             address: location.hash,
-            editor: {...editor.sides, isOwn: editor.isOwn},
+            editor: editor.kept,
             notes: kept,
             tries: [...tries.known],
             history: historyOf(cards)
@@ -117,8 +118,7 @@ export class Keeper {
     async restore({build, editor, notes, tries, history}) {
         const {workbench} = this, {cards} = workbench, {cards: before} = cards;
         if (!editor || !history) throw new Error('it is damaged');
-        await workbench.editor.set(editor.active, editor.passive);
-        workbench.editor.isOwn = editor.isOwn;
+        await workbench.editor.restore(editor);
         if (build === this.build) {
             workbench.notes.known = new Map(notes.map(([id, {problem, list}]) => [id, {problem, list: list.filter(isNote)}]));
             workbench.tries.known = new Map(tries);

@@ -1,5 +1,6 @@
 // Starts the page.
-import {$, button, element, say} from './dom.js';
+import {$, button, element} from './dom.js';
+import {say} from './messages.js';
 import {Engine, Stopped} from './engine.js';
 import {Editor} from './editor.js';
 import {keepTheme, keptTheme} from './keeper.js';
@@ -135,16 +136,22 @@ function skipToCards(bench) {
     else $('#chain button')?.focus();
 }
 
-// How tall the line at the bottom is: what stands above it keeps clear of it; and how much of the bar stands above what runs, so that
-// in a low window this part of it may go out of sight.
+// How tall the line at the bottom is: what stands above it keeps clear of it. How tall what runs is, and how much of the bar stands above it:
+// in a low window this part of the bar may go out of sight, and the line at the bottom makes room.
 function watchBars() {
     const foot = $('#claim'), bar = $('.bar'), jobs = $('#jobs'), {style} = document.documentElement;
     const measure = () => {
+        const above = jobs.hidden ? bar.offsetHeight : Math.max(0, jobs.offsetTop - 4);
         style.setProperty('--foot', `${foot.offsetHeight}px`);
-        style.setProperty('--above', `${jobs.hidden ? bar.offsetHeight : Math.max(0, jobs.offsetTop - 4)}px`);
+        style.setProperty('--above', `${above}px`);
+        style.setProperty('--jobs', `${bar.offsetHeight - above}px`);
     };
     const watcher = new ResizeObserver(measure);
     [foot, bar, jobs].forEach(node => watcher.observe(node));
+    // Who leaves a field there sees the verdict again.
+    foot.addEventListener('focusout', ({relatedTarget}) => {
+        if (!foot.contains(relatedTarget)) foot.scrollTop = 0;
+    });
 }
 
 function tellNoWords(error) {

@@ -1,5 +1,6 @@
 // A field for a whole number: what is out of its range is marked, with the range beside it, and has no value.
-import {element, say} from './dom.js';
+import {element} from './dom.js';
+import {say, unsay} from './messages.js';
 
 let count = 0;
 
@@ -10,6 +11,8 @@ export class NumberField {
         this.range = element('span.range.faulty', {id: `range-${++count}`, hidden: true});
         input.setAttribute('aria-describedby', this.range.id);
         input.addEventListener('input', () => {
+            // What was said of the number before.
+            unsay(`${this.fault}.`);
             this.mark();
             onChange();
         });

@@ -1,5 +1,6 @@
 // Texts from the clipboard, by a button or pasted anywhere, and files and texts that are dropped on the page.
-import {$, say} from './dom.js';
+import {$} from './dom.js';
+import {say} from './messages.js';
 import {openTextDialog} from './dialogs.js';
 
 // Opens a text at once; one with a fault is shown in the window of Open, with its fault.

@@ -1,4 +1,5 @@
 // The report of `explore describe` on the chain that is shown, beside the cards; and all of it on paper.
+import {lineText} from './claims.js';
 import {$, button, code, copy, download, element, faulty, hint, intoView, replace} from './dom.js';
 import {blocksOfReport, latexOfReport, partsOfText} from './reports.js';
 import {fileNameOf} from './texts.js';
@@ -31,9 +32,15 @@ export class ReportView {
         $('#report').setAttribute('aria-expanded', String(isOpen));
         document.body.classList.toggle('reading', isOpen);
         if (isOpen) {
-            this.fill(this.path, this.verdict);
-            intoView($('#report-box > header'));
+            this.comeIntoView();
+            this.fill(this.path, this.verdict).then(() => this.comeIntoView());
         } else $('#report').focus();
+    }
+
+    // Where it stands below the cards it begins at the top of what is seen.
+    comeIntoView() {
+        const isBelow = getComputedStyle($('#report-box')).position === 'static';
+        if (this.isOpen) intoView($('#report-box > header'), isBelow ? 'start' : 'nearest');
     }
 
     // The chain with its verdict; where there is no bound, the first problem alone.
@@ -102,13 +109,13 @@ export class ReportView {
 const PART_NODES = {
     code: text => code(text),
     bold: text => element('strong', {}, text),
-    plain: text => text
+    plain: text => lineText(text)
 };
 const textNodes = text => partsOfText(text).map(part => PART_NODES[part.kind](part.text));
 
 function blockNode({kind, level, text, items}) {
     if (kind === 'heading') return element(level === 1 ? 'h3' : 'h4', {}, ...textNodes(text));
-    if (kind === 'code') return element('pre', {tabIndex: 0}, text);
+    if (kind === 'code') return element('pre', {tabIndex: 0}, lineText(text));
     if (kind === 'list') return element('ul', {}, items.map(item => element('li', {}, ...textNodes(item))));
     return element('p', {}, ...textNodes(text));
 }

@@ -1,5 +1,6 @@
 // Texts that come in (problems, certificates, graphs, sessions), and the session that goes out: in the address, or as a file.
-import {$, button, download, element, faulty, replace, say} from './dom.js';
+import {$, button, download, element, faulty, replace} from './dom.js';
+import {say} from './messages.js';
 import {faultLine} from './certificates.js';
 import {titleOf} from './chains.js';
 import {isGraphText, readGraph} from './graphs.js';

@@ -59,7 +59,7 @@ export class Settling {
     // What `settle` printed: its claim, with what shows it, and below it each further line, as that on unique identifiers.
     lines(view, {text, what = 'settle', more}) {
         return [
-            ...readSettled(text).map(({line, shownBy}, i) => element('div.settled', {}, element('strong', {}, i ? '' : `${what}: `),
+            ...readSettled(text).map(({line, shownBy}, i) => element('div.settled', {}, i ? null : element('strong', {}, `${what}: `),
                                          claimNodes(line), ' ', this.buttons(view.card, view, shownBy), i ? null : hint(more))),
             this.moreEffort(view, what)
         ];

@@ -1,5 +1,6 @@
 // The algorithm of an upper bound: at work on a small tree, and as a table.
-import {button, code, copy, download, element, faulty, hint, replace} from './dom.js';
+import {lineText} from './claims.js';
+import {button, code, copy, download, element, faulty, hint, plural, replace} from './dom.js';
 import {deliveriesOf, randomFrom, readRun, ringPlaces, runInput, treeAround} from './trees.js';
 import {openWideDialog} from './dialogs.js';
 import {inRem, pictureFile, svg} from './pictures.js';
@@ -29,7 +30,7 @@ class TreeDialog {
         this.whole = element('input', {type: 'checkbox', onchange: () => this.draw()});
         this.wholeLabel = element('label', {hidden: true}, this.whole, 'the whole tree');
         openWideDialog('The algorithm of the upper bound',
-            element('p', {}, element('span.good.line', {}, verdict.line),
+            element('p', {}, element('span.good.line', {}, lineText(verdict.line)),
                 hint(' Squares are active nodes, circles passive ones; small numbers are ports.')),
             this.picture, this.state,
             element('footer', {},
@@ -66,7 +67,8 @@ class TreeDialog {
         const standing = readRun(text);
         // What the neighbours of the passive node in the middle say of their shared edges.
         const around = nodes.flatMap((node, v) => node.parent === 0 && standing[v].labels ? [standing[v].labels[node.own - 1]] : []);
-        replace(this.state, `After ${this.rounds} rounds the neighbours of the passive node in the middle output; around it stands `,
+        replace(this.state,
+            `After ${plural(this.rounds, 'round')} the neighbours of the passive node in the middle output; around it stands `,
             code(around.join(' ')), '.');
         this.wholeLabel.hidden = nodes.length <= FEW_NODES;
         const isCut = nodes.length > FEW_NODES && !this.whole.checked;

@@ -1,5 +1,6 @@
 // The workbench: the cards, the chain that is shown, and what leads from card to card.
-import {$, copy, download, replace, say} from './dom.js';
+import {$, copy, download, replace} from './dom.js';
+import {say} from './messages.js';
 import {Cards} from './cards.js';
 import {numberOf, titleOf} from './chains.js';
 import {CardList} from './card_list.js';

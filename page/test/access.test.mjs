@@ -80,10 +80,12 @@ async function look(page, user, checks, theme) {
     await faults('the empty page');
     await user.openProblem(...MIS);
     await user.search('lower', 8, 2);
-    await page.until(`!document.querySelector('#jobs').hidden`);
+    await user.running('lower 8 2');
     await faults('what runs');
-    await page.click('#jobs button', 'Stop');
-    await page.click('.card.last .written summary', 'Tried');
+    await user.stop('lower 8 2');
+    // The best so far, where there is one by now, has cards of its own: what was tried stands on the first card.
+    await page.until(`document.querySelector('.card .tried tr') && engine.tasks.size === 0`);
+    await page.click('.card .written summary', 'Tried');
     await faults('what was tried');
     await user.openText(example('colouring-refused.txt'));
     await page.until(`document.querySelector('.card.failing .fault div div') && ${drawn}`);
@@ -160,7 +162,9 @@ async function keyboard(page, checks) {
     await page.until(`${cardsAre(1)} && ${drawn}`);
     checks.check('the card has the focus', await page.value(`document.activeElement.matches('.card')`));
     // Past the bar and the editor.
-    await page.until(`(document.querySelector('#undo').focus(), document.activeElement.id === 'undo')`);
+    // On a slow machine what the page asks by itself stands in the bar, with a button of its own.
+    const isStill = `document.querySelector('#jobs').hidden && engine.running.size === 0`;
+    await page.until(`${isStill} && (document.querySelector('#undo').focus(), document.activeElement.id === 'undo')`);
     await wait(200);
     await page.key('Tab', {modifiers: 8});
     checks.equal('a way past the editor', await page.value(at), 'To the cards');
@@ -212,10 +216,11 @@ async function keyboard(page, checks) {
     await page.key('Tab', {modifiers: 8});
     checks.equal('its button stands before its numbers', await page.value(at), 'lower');
     await page.key('Enter');
-    await page.until(`!document.querySelector('#jobs').hidden`);
+    const stop = `document.querySelector('#jobs button[aria-label="stop lower 8 2 from problem 1"]')`;
+    await page.until(`Boolean(${stop})`);
     await tabTo('stop lower 8 2 from problem 1');
     await page.key('Enter');
-    await page.until(`document.querySelector('#jobs').hidden`);
+    await page.until(`!${stop}`);
 }
 const page = await openBrowser();
 await checked('the keyboard alone', async checks => {

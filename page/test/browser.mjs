@@ -126,11 +126,16 @@ class Page {
         throw new Error(`never: ${expression}`);
     }
 
+    // The element that is seen and not disabled, as an expression of the page.
+    found(selector, says) {
+        return `[...document.querySelectorAll(${text(selector)})].find(node => node.textContent.includes(${
+            text(says)}) && !node.disabled && node.getClientRects().length)`;
+    }
+
     // The middle of an element, once it rests there and nothing covers it; `says` picks among several by what they say.
     async place(selector, says = '') {
         const find = `(() => {
-            const node = [...document.querySelectorAll(${text(selector)})].find(node => node.textContent.includes(${
-            text(says)}) && !node.disabled && node.getClientRects().length);
+            const node = ${this.found(selector, says)};
             if (!node) return null;
             node.scrollIntoView({block: 'center', inline: 'nearest', behavior: 'instant'});
             const box = node.getBoundingClientRect(), at = {x: box.x + box.width / 2, y: box.y + box.height / 2}, top = document.elementFromPoint(at.x, at.y);
@@ -144,9 +149,17 @@ class Page {
 
     async mouse(type, place) { await this.ask('Input.dispatchMouseEvent', {type, ...place, button: 'left', clickCount: 1}); }
 
-    async click(selector, says) {
-        const place = await this.place(selector, says);
-        for (const type of ['mouseMoved', 'mousePressed', 'mouseReleased']) await this.mouse(type, place);
+    // Where the page moves between the look and the click, it is tried again.
+    async click(selector, says = '') {
+        for (let i = 0; i < 5; i++) {
+            const place = await this.place(selector, says);
+            await this.mouse('mouseMoved', place);
+            await this.value(`(() => { const aimed = ${this.found(selector, says)}; window.reached = false;
+                document.addEventListener('click', ({target}) => { reached ||= !aimed || aimed.contains(target) || !aimed.matches('button, input, summary') && aimed.parentNode?.contains(target); }, {capture: true, once: true}); })()`);
+            for (const type of ['mousePressed', 'mouseReleased']) await this.mouse(type, place);
+            if (await this.value('window.reached !== false')) return;
+        }
+        throw new Error(`no click reaches ${selector} ${says}`);
     }
 
     async hover(selector, says) { await this.mouse('mouseMoved', await this.place(selector, says)); }

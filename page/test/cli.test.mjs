@@ -67,9 +67,12 @@ await checked('what a shell gives: an empty argument, streams that fail, argumen
         shell(`RE family mis 3 2 0 > /dev/null${behind}`, 'an output that is thrown away');
         shell(`RE read < /dev/null${behind}`, 'an empty input');
     }
-    // Streams that another program than a shell throws away are open.
-    checks.equal('ignored',
-        spawnSync(process.execPath, [cli, 're', 'family', 'mis', '3', '2', '0'], {stdio: ['ignore', 'ignore', 'ignore']}).status, 0);
+    // Streams that another program than a shell throws away are open. By `_` a shell says what it started, also to the tests themselves.
+    checks.equal('ignored', spawnSync(process.execPath, [cli, 're', 'family', 'mis', '3', '2', '0'], {
+        stdio: ['ignore', 'ignore', 'ignore'],
+        env: {...process.env, _: ''}
+    }).status,
+        0);
     const alone = spawnSync(process.execPath, [cli], {input: ''});
     checks.check(`alone it says how it is used: ${alone.stderr}`,
         alone.status === 2 && !alone.stdout.length &&

@@ -4,7 +4,7 @@ import {mkdtempSync} from 'fs';
 import {rm} from 'fs/promises';
 import {tmpdir} from 'os';
 import {join} from 'path';
-import {wait} from './browser.mjs';
+import {PATIENCE, wait} from './browser.mjs';
 import {checked} from './checks.mjs';
 import {answer, example, natively, pageFile} from './place.mjs';
 
@@ -45,7 +45,7 @@ async function drive(socket) {
         return found.result.value;
     };
     const until = async expression => {
-        for (let i = 0; i < 600; i++, await wait(100)) {
+        for (const end = Date.now() + PATIENCE; Date.now() < end; await wait(100)) {
             const found = await value(expression).catch(() => null);
             if (found) return found;
         }
@@ -79,20 +79,21 @@ async function session(checks, {value, until, go, reload}) {
     await until(`document.querySelector('#verdict-line')?.textContent === '${
         line}' && document.querySelectorAll('.card.last svg.diagram').length === 2`);
     checks.equal('native check', answer(['check'], await value('bench.claim.verdict.certificate')).trim(), line);
+    // A search that has no shorter ones beside it: nothing is kept of it.
     const search = () => value(
-        `(() => { const [k, m] = document.querySelectorAll('.card.last .search input'); k.value = 8; m.value = 2; for (const input of [k, m]) input.dispatchEvent(new Event('input')); ${
-            click('.card.last .search button')}; })()`);
+        `(() => { const ask = document.querySelector('.card.last .ask[data-search=fixed]'), numbers = ask.querySelectorAll('input'); [16, 8].forEach((number, i) => { numbers[i].value = number; numbers[i].dispatchEvent(new Event('input')); }); ask.querySelector('button').click(); })()`);
+    const stop = `document.querySelector('#jobs button[aria-label^="stop fixed 16 8"]')`,
+          notes = `document.querySelectorAll('.card.last .note')`;
     await search();
-    await until(`!document.querySelector('#jobs').hidden`);
-    await value(click('#jobs button'));
-    checks.check('stopped', (await until(`document.querySelector('.card.last .note')?.textContent`)).includes('stopped'));
+    await until(`Boolean(${stop})`);
+    await value(`${stop}.click()`);
+    checks.equal('stopped', await until(`${notes}[0]?.textContent`), 'fixed 16 8 from problem 3: stopped.×');
     await search();
-    await until(`[...engine.running].some(job => job.title.startsWith('lower 8 2') && performance.now() - job.started > 1000)`);
-    await value(`[...engine.running].find(job => job.title.startsWith('lower 8 2')).worker.terminate()`);
-    checks.check('a worker that ends',
-        (await until(
-             `document.querySelectorAll('.card.last .note').length === 2 && document.querySelector('.card.last .note').textContent`))
-            .includes('the browser ended its worker'));
+    const job = `[...engine.running].find(job => job.title.startsWith('fixed 16 8'))`;
+    await until(`Boolean(${job})`);
+    await value(`${job}.worker.terminate()`);
+    checks.check(
+        'a worker that ends', (await until(`${notes}.length === 2 && ${notes}[0].textContent`)).includes('the browser ended its worker'));
     await until('location.hash.length > 100');
     await reload();
     checks.check('a reload', await until(`${ready} && ${cardsAre(4)}`));

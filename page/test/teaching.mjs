@@ -1,5 +1,6 @@
 // Words of `explore` that the page offers where the program has them: one that it lacks is answered by the test in its place.
 import {wordsIn} from '../src/words.js';
+import {wait} from './browser.mjs';
 import {natively} from './place.mjs';
 
 export const explored = wordsIn(natively('explore', ['help']).text);
@@ -22,14 +23,22 @@ export async function teach(page, answers, forms = []) {
 export const teachMissing = (page, answers) =>
     teach(page, Object.fromEntries(Object.entries(answers).filter(([words]) => !explored.has(words.split(' ')[0]))));
 
-// The next answers to each of these commands, `check` or `explore given`, come so late, also where the job is stopped meanwhile: they were
-// on their way.
-export const delay = (page, commands, ms, times = 1) => page.value(`(() => {
+// The next answers to each of these commands, `check` or `explore given`, are held until they are let go, also where the job is stopped
+// meanwhile: they were on their way.
+export const hold = (page, commands, times = 1) => page.value(`(() => {
     const late = new Map(${JSON.stringify(commands)}.map(command => [command, ${times}])), start = engine.start.bind(engine);
+    window.held = [];
     engine.start = (program, words, input, options) => {
         const job = start(program, words, input, options), command = [words[0], words.join(' ')].find(name => late.get(name));
         if (!command) return job;
         late.set(command, late.get(command) - 1);
-        return {...job, stop() {}, answer: job.answer.then(answer => new Promise(resolve => setTimeout(() => resolve(answer), ${ms})))};
+        return {...job, stop() {}, answer: job.answer.then(answer => new Promise(resolve => held.push(() => resolve(answer))))};
     };
 })()`);
+// So many answers are there, and held.
+export const isHeld = (page, count = 1) => page.until(`held.length >= ${count}`);
+// They come, and what follows of them.
+export async function letGo(page) {
+    await page.value('held.splice(0).forEach(go => go())');
+    await wait(700);
+}

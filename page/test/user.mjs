@@ -8,6 +8,9 @@ const quoted = value => JSON.stringify(value);
 export const drawn = `document.querySelectorAll('.card.last svg.diagram, .card.last .classes').length === 2`;
 export const cardsAre = count => `document.querySelectorAll('.card').length === ${count}`;
 
+// The button that stops a job.
+const jobOf = name => `#jobs button[aria-label^="stop ${name}"]`;
+
 export class User {
     // `checks` are those of the test that runs.
     constructor(page, checks) { Object.assign(this, {page, checks}); }
@@ -65,6 +68,22 @@ export class User {
         const box = `.card.last .ask[data-search=${kind}]`;
         for (const [at, number] of numbers.entries()) await this.page.fill(`${box} input`, String(number), at);
         await this.page.click(`${box} button.more`);
+    }
+
+    // A search that runs, by its name, once it is shown in the bar, and until it is gone from there. Other jobs may stand beside it.
+    async running(name) { return this.page.until(`document.querySelector('${jobOf(name)}')?.closest('.job').textContent`); }
+    async stop(name) {
+        await this.running(name);
+        await this.page.click(jobOf(name));
+        await this.page.until(`!document.querySelector('${jobOf(name)}')`);
+    }
+    async stopAll() {
+        await this.page.value('[...engine.tasks].forEach(task => task.stop())');
+        await this.page.until('engine.tasks.size === 0');
+    }
+    // What is known so far of a search that runs: its best is there to be kept.
+    async best(name) {
+        return this.page.until(`document.querySelector('${jobOf(name)}')?.closest('.job').textContent.includes('best so far: ')`);
     }
 
     note() { return this.page.until(`document.querySelector('.card.last .note')?.textContent`); }

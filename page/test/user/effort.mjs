@@ -25,14 +25,17 @@ export const effortSessions = {
         checks.equal(
             'the command', await page.value(`document.querySelector('.card.last .more-effort').title.split(':')[0]`), 'explore settle 2');
         await page.click('.card.last .more-effort');
-        await page.until(`!document.querySelector('#jobs').hidden`);
-        checks.equal('what runs, and what is known so far',
-            await page.value(`[document.querySelector('#jobs .name').textContent, document.querySelector('#jobs .hint').textContent]`),
+        await user.running('settle 2 problem 0');
+        const job = part =>
+            page.value(`[...document.querySelectorAll('#jobs .job')].find(node => node.title === 'settle 2 problem 0').querySelector('${
+                part}').textContent`);
+        checks.equal('what runs, and what is known so far', [await job('.name'), await job('.hint')],
             ['settle 2 problem 0', 'so far: more than 2, at most 5 (1 to 3 rounds of the graph)']);
-        checks.check('and how long', /^\d+\.\d s$/.test(await page.value(`document.querySelector('#jobs .time').textContent`)));
+        const time = await job('.time');
+        checks.check(`and how long: ${time}`, /^(\d+\.\d|\d+|\d+ min \d+) s$/.test(time));
         checks.check('said on the card, without a second button',
             (await page.value(`${notes}[0]`)).includes('settle 2 runs…') && await page.value(effort) === 0);
-        await page.click('#jobs button', 'Stop');
+        await user.stop('settle 2 problem 0');
         checks.equal('stopped', await page.until(`${notes}.length === 2 && ${notes}[0]`), 'settle 2 problem 0: stopped.×');
         checks.equal('the button is there again', await page.value(effort), 1);
         await page.value('window.isDone = true');
@@ -166,7 +169,7 @@ export const effortSessions = {
         checks.equal('the problem, and what is given', await page.value(`sent.find(([words]) => words === 'cover 2')[1]`),
             `${problem}== given\n${input}`);
         checks.equal('the line, with its model', await page.value(`document.querySelector('dialog p[role=status]').textContent`),
-            `${no} with port numbers and that input explore solve`);
+            `${no} with port numbers and that input · explore solve`);
         checks.equal('what is given at each end',
             await page.value(`[...document.querySelectorAll('dialog svg.graph .end .given')].map(node => node.textContent)`),
             ['A', 'B', 'A', 'B', 'A', 'B']);

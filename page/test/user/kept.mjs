@@ -26,6 +26,34 @@ export const keptSessions = {
         await page.until(`${texts}[0] === '[IO]^3'`);
         await page.click('#editor .old button', 'Bring it back');
         checks.equal('after an example', await page.until(`${texts}[0].startsWith('A') && ${texts}`), own);
+        // Behind two texts, behind what is written over them, and behind a reload.
+        await page.choose('#gallery', 'orientation');
+        await page.until(`${texts}[0] === '[IO]^3'`);
+        await page.click('#family-write');
+        await page.until(`${texts}[0].startsWith('M^3')`);
+        checks.check('behind two texts', await page.value(`Boolean(${back}?.getClientRects().length)`));
+        await wait(700);
+        await kept(page);
+        await page.reload();
+        await page.until(`${texts}[0].startsWith('M^3') && ${back}?.getClientRects().length`);
+        await page.fill('#editor textarea', 'C^3', 0);
+        await page.click('#editor .old button', 'Bring it back');
+        checks.equal('behind a reload', await page.until(`${texts}[0].startsWith('A') && ${texts}`), own);
+        await page.click('#editor .old button', 'Bring it back');
+        checks.equal('and what was written over it', (await page.until(`${texts}[0].startsWith('C') && ${texts}`))[0], 'C^3');
+        await page.click('#editor .old button', 'Bring it back');
+        await page.until(`${texts}[0].startsWith('A')`);
+        await page.click('#editor .old .close');
+        // A whole problem that is pasted into one field was not written over.
+        await page.value(`bench.editor.set('', '')`);
+        await page.fill('#editor textarea', `${own.join('\n\n')}\n`, 0);
+        checks.equal('cut in two', await page.until(`${texts}[1] && ${texts}`), own);
+        checks.check('nothing was replaced', await page.value(`!${back}?.getClientRects().length`));
+        await page.click('#family-write');
+        await page.until(`${texts}[0].startsWith('M^3')`);
+        await page.click('#editor .old button', 'Bring it back');
+        checks.equal('a pasted text', await page.until(`${texts}[0].startsWith('A') && ${texts}`), own);
+        await page.until(`document.querySelector('#editor .state .good')`);
         // What became a card stands there.
         await page.click('#editor button', 'Open as a card');
         await page.until(cardsAre(1));
@@ -133,8 +161,7 @@ export const keptSessions = {
         await user.search('lower', 8, 2);
         await page.until('engine.tasks.size === 1');
         checks.check('not while it runs', await page.until(asksFirst));
-        await page.until(`!document.querySelector('#jobs').hidden`);
-        await page.click('#jobs button', 'Stop');
+        await user.stop('lower 8 2');
         await page.until('engine.tasks.size === 0');
         await page.until('bench.sessions.isSaved');
         checks.check('and again', await page.until(`!${asksFirst}`));

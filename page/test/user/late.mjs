@@ -1,26 +1,23 @@
 // Answers that come late: what is shown of another chain, or another text, is never said of the one that is shown now.
-import {wait} from '../browser.mjs';
+import {mapInput} from '../../src/certificates.js';
 import {answer, example, natively} from '../place.mjs';
-import {delay, explored} from '../teaching.mjs';
+import {explored, hold, isHeld, letGo} from '../teaching.mjs';
 import {cardsAre, drawn, MIS} from '../user.mjs';
 
-const LATE = 2500;
-const verdict = `document.querySelector('#verdict').textContent`;
+const verdict = `document.querySelector('#verdict').textContent`, line = `document.querySelector('#verdict-line')?.textContent`;
 
-// What is shown `LATE` ms after the user went on, and a little more.
-const settled = () => wait(LATE + 700);
-
-const sessions = {
+export const lateSessions = {
     async 'a late verdict'(user, page, checks) {
         await user.openProblem(...MIS);
         await user.step(2);
         await user.says('accepted: not solvable in 1 or fewer rounds');
-        await delay(page, ['check'], LATE);
+        await hold(page, ['check']);
         await user.step(3);
+        await isHeld(page);
         await page.click('#undo');
-        await settled();
-        checks.equal('the line of the chain of one step', await page.value(`document.querySelector('#verdict-line').textContent`),
-            'accepted: not solvable in 1 or fewer rounds');
+        await page.until(line);
+        await letGo(page);
+        checks.equal('the line of the chain of one step', await page.value(line), 'accepted: not solvable in 1 or fewer rounds');
         await user.agrees('accepted: not solvable in 1 or fewer rounds');
     },
 
@@ -28,12 +25,15 @@ const sessions = {
         if (!explored.has('describe')) return;
         await user.openProblem(...MIS);
         for (const n of [2, 3]) await user.step(n);
-        await page.until(`document.querySelector('#rounds-of-graph')`);
-        await delay(page, ['describe'], LATE);
+        const said = `document.querySelector('#rounds-of-graph')`;
+        await page.until(said);
+        await hold(page, ['describe']);
         await user.step(4);
-        await page.until(`document.querySelector('#verdict-line')?.textContent.includes('in 3 or')`);
+        await page.until(`${line}?.includes('in 3 or')`);
+        await isHeld(page);
         await page.click('#undo');
-        await settled();
+        await page.until(said);
+        await letGo(page);
         checks.equal('of the chain that is shown',
             await page.value(`[...document.querySelectorAll('#rounds-of-graph')].map(node => node.textContent)`),
             [` · Problem 0 isn't solvable in 1 or fewer rounds of the graph.`]);
@@ -46,25 +46,27 @@ const sessions = {
         await page.until(`${verdict}.includes('is a relaxation of problem 0.')`);
         await page.click('#undo');
         await page.until(cardsAre(1));
-        // `relax` is asked once for the card that comes back, then for its relation.
         await page.value(`engine.answers.clear()`);
-        await delay(page, ['relax'], LATE);
+        await hold(page, ['relax']);
         await page.click('#redo');
         await page.until(cardsAre(2));
-        await wait(600);
+        await isHeld(page);
         await page.click('#undo');
-        await settled();
+        await page.until(`${cardsAre(1)} && ${line}`);
+        await letGo(page);
         checks.check('none where nothing was changed', !(await page.value(verdict)).includes('relaxation'));
     },
 
     async 'a late reason of a refusal'(user, page, checks) {
         if (!explored.has('why')) return;
-        await delay(page, ['why'], LATE);
+        await hold(page, ['why']);
         await user.openText(example('colouring-refused.txt'));
-        await page.until(`document.querySelector('#verdict-line')?.textContent.startsWith('refused')`);
+        await page.until(`${line}?.startsWith('refused')`);
+        await isHeld(page);
         await page.click('#undo');
         await user.openText(example('trivial-lower.txt'));
-        await settled();
+        await page.until(`document.querySelector('.card.failing .fault')?.textContent.includes('solvable without communication')`);
+        await letGo(page);
         checks.check('the reason of the chain that is shown',
             (await page.value(`document.querySelector('.card.failing .fault').textContent`)).includes('solvable without communication'));
         checks.equal('one card fails', await page.value(`document.querySelectorAll('.card.failing').length`), 1);
@@ -75,58 +77,70 @@ const sessions = {
         await user.openProblem(...MIS);
         await user.step(2);
         await page.choose('#given-kind', 'a colouring');
-        const line = `document.querySelector('#given-line').textContent`;
-        await page.until(`${line}.includes('in 1 or fewer')`);
+        const said = `document.querySelector('#given-line').textContent`;
+        await page.until(`${said}.includes('in 1 or fewer')`);
         // While the next chain is checked nothing is said of it.
-        await delay(page, ['check'], LATE);
+        await hold(page, ['check']);
         await user.act('Step');
         await page.until(cardsAre(3));
-        checks.equal('nothing of the chain before', await page.value(line), 'asking…');
-        await page.until(`${line}.includes('in 2 or fewer')`);
+        await isHeld(page);
+        checks.equal('nothing of the chain before', await page.value(said), 'asking…');
+        await letGo(page);
+        await page.until(`${said}.includes('in 2 or fewer')`);
         await page.click('#undo');
-        await page.until(`${line}.includes('in 1 or fewer')`);
-        await delay(page, ['given'], LATE);
+        await page.until(`${said}.includes('in 1 or fewer')`);
+        await hold(page, ['given']);
         await user.step(3);
-        await page.until(`document.querySelector('#verdict-line')?.textContent.includes('in 2 or fewer')`);
+        await page.until(`${line}?.includes('in 2 or fewer')`);
+        await isHeld(page);
         await page.click('#undo');
-        await settled();
+        await page.until(`${said}.includes('in 1 or fewer')`);
+        await letGo(page);
         const wanted = natively(
             'explore', ['given'], `${await user.certificate()}== given\n${await page.value('bench.cards.path()[0].given.problem')}`)
                            .text.split('\n', 1)[0];
-        checks.check(`of the chain that is shown: ${await page.value(line)}`, (await page.value(line)).startsWith(wanted));
+        checks.check(`of the chain that is shown: ${await page.value(said)}`, (await page.value(said)).startsWith(wanted));
         // A kind that is chosen while another one is asked for.
         if (!explored.has('input')) return;
-        await delay(page, ['input sides 3 2 0'], LATE);
+        await hold(page, ['input sides 3 2 0']);
         await page.choose('#given-kind', 'the two sides');
+        await isHeld(page);
         await page.choose('#given-kind', 'an orientation');
-        await settled();
+        await page.until(`bench.cards.path()[0].given.kind === 'orientation'`);
+        await letGo(page);
         checks.equal('the kind that was chosen last',
             await page.value(`[document.querySelector('#given-kind').value, bench.cards.path()[0].given.kind]`),
             ['orientation', 'orientation']);
     },
 
     async 'late badges and diagrams of a card'(user, page, checks) {
-        await user.openProblem(...MIS);
-        if (explored.has('fit')) {
-            await delay(page, ['fit'], LATE);
+        await user.openProblem('1^3\n2^3\n3^3', '1 2\n1 3\n2 3');
+        if (explored.has('fit') && explored.has('input')) {
+            // In 0 rounds it is solvable with the sides, and not with four colours.
+            const badges = `[...document.querySelectorAll('.card .badge')].filter(badge => !badge.hidden).map(badge => badge.textContent)`;
+            await hold(page, ['fit']);
             await page.choose('#given-kind', 'a colouring');
-            await page.until(`bench.cards.path()[0].given`);
-            await wait(500);
+            await isHeld(page);
+            await page.choose('#given-kind', 'the two sides');
+            await page.until(`${badges}.includes('0 rounds given: yes')`);
+            await letGo(page);
+            checks.check(
+                `that of what is given now: ${await page.value(badges)}`, (await page.value(badges)).includes('0 rounds given: yes'));
             await page.choose('#given-kind', 'nothing');
-            await settled();
-            checks.check('no badge of what was given',
-                await page.value(
-                    `[...document.querySelectorAll('.card .badge')].every(badge => badge.hidden || !badge.textContent.includes('given'))`));
         }
-        await delay(page, ['zero', 'diagram passive'], LATE);
+        await user.openProblem(...MIS);
+        await hold(page, ['zero', 'diagram passive']);
         await user.act('Step');
         await page.until(cardsAre(2));
+        await isHeld(page, 2);
         await page.click('#undo');
         await page.until(cardsAre(1));
         await user.openProblem('1^3\n2^3', '[12]^2');
-        await settled();
+        await letGo(page);
         checks.check('0 rounds of the card that is shown',
-            (await page.value(`document.querySelector('.card.last .badges').textContent`)).includes('0 rounds: yes'));
+            (await page.until(
+                 `!document.querySelector('.card.last .badge.waiting:not([hidden])') && document.querySelector('.card.last .badges').textContent`))
+                .includes('0 rounds: yes'));
         const classes = ['active', 'passive'].flatMap(side => answer(['diagram', side], '1^3\n2^3\n\n[12]^2\n').match(/^class/gm)).length;
         checks.equal('its diagrams', await page.value(`document.querySelectorAll('.card.last svg.diagram .node').length`), classes);
     },
@@ -136,12 +150,12 @@ const sessions = {
         for (const n of [2, 3]) await user.step(n);
         await page.until(`document.querySelector('#offers button') || ${verdict}.includes('in 2 or')`);
         await page.value('engine.answers.clear()');
-        await delay(page, ['rename'], LATE);
+        await hold(page, ['rename']);
         await user.step(4);
-        await page.until(`document.querySelector('#verdict-line')?.textContent.includes('in 3 or')`);
-        await wait(400);
+        await page.until(`${line}?.includes('in 3 or')`);
+        await isHeld(page);
         await user.openProblem(...MIS);
-        await settled();
+        await letGo(page);
         checks.equal('none on a chain of one card', await page.value(`document.querySelectorAll('#offers button').length`), 0);
     },
 
@@ -153,11 +167,13 @@ const sessions = {
         await page.until(`document.querySelector('.paper pre')`);
         await page.value('engine.answers.clear()');
         // Asked by the report, and by the line at the bottom.
-        await delay(page, ['describe'], LATE, 2);
+        await hold(page, ['describe'], 2);
         await user.step(3);
-        await page.until(`document.querySelector('#verdict-line')?.textContent.includes('in 2 or')`);
+        await page.until(`${line}?.includes('in 2 or')`);
+        await isHeld(page, 2);
         await page.click('#undo');
-        await settled();
+        await page.until(`document.querySelector('.paper pre')?.textContent.includes('in 1 or')`);
+        await letGo(page);
         checks.equal(
             'that of the chain that is shown', await page.value(`document.querySelector('.paper pre').textContent`), await user.verdict());
         checks.equal('which has one step', await user.verdict(), 'accepted: not solvable in 1 or fewer rounds');
@@ -169,29 +185,33 @@ const sessions = {
         await page.until(`!document.querySelector('#algorithm').hidden`);
         await page.click('#algorithm');
         await page.until(`document.querySelector('dialog svg.run')`);
-        await delay(page, ['run'], LATE);
-        await page.click('dialog button', 'Other port numbers');
-        await page.click('dialog button', 'Other port numbers');
-        await page.until(`document.querySelector('dialog svg.run')`);
-        await wait(600);
         const ports = `[...document.querySelectorAll('dialog svg.run text.small')].map(node => node.textContent).join('')`,
-              second = await page.value(ports);
-        await settled();
+              first = await page.value(ports);
+        await hold(page, ['run']);
+        await page.click('dialog button', 'Other port numbers');
+        await isHeld(page);
+        await page.click('dialog button', 'Other port numbers');
+        const second = await page.until(`${ports} !== '${first}' && ${ports}`);
+        await letGo(page);
         checks.equal('the ports that are copied are those that are drawn', await page.value(ports), second);
         await page.key('Escape');
         // The edit of a problem: a map that was right for the text before.
         await user.openProblem(...MIS);
         await page.value('engine.answers.clear()');
-        await delay(page, ['relax'], LATE);
+        await hold(page, ['relax']);
         await user.act('Edit');
-        await wait(600);
+        await isHeld(page);
         await page.fill('dialog .editor textarea', 'M^3', 0);
-        await settled();
-        checks.check('no yes for another text',
-            (await page.value(`document.querySelector('dialog .map ~ .state, dialog > .state').textContent`)) !== 're relax: yes' ||
-                answer(['read'],
-                    await page.value(`[...document.querySelectorAll('dialog .editor textarea')].map(area => area.value).join('\\n\\n')`))
-                    .startsWith('M^3\n\n'));
+        await page.until(
+            `document.querySelector('dialog .map textarea').value && document.querySelector('dialog > .state').textContent.startsWith('re relax: ')`);
+        const edited = await page.value(`[...document.querySelectorAll('dialog .editor textarea')].map(area => area.value).join('\\n\\n')`),
+              map = (await page.value(`document.querySelector('dialog .map textarea').value`)).split('\n'),
+              said =
+                  natively('re', ['relax'], mapInput(answer(['read'], MIS.join('\n\n')), answer(['read'], `${edited}\n`), map)).text.trim();
+        await letGo(page);
+        checks.check(`not yes: ${said}`, said !== 'yes');
+        checks.equal('of the text that stands there', await page.value(`document.querySelector('dialog > .state').textContent`),
+            `re relax: ${said}`);
         await page.key('Escape');
         // A graph: the answer to the lines that stood there before.
         if (!explored.has('solve')) return;
@@ -199,26 +219,33 @@ const sessions = {
         await page.value(`bench.settling.draw(${JSON.stringify(`${problem}== graph\n${lines}\n`)})`);
         await page.until(`document.querySelector('dialog .line')`);
         await page.value('engine.answers.clear()');
-        await delay(page, ['solve'], LATE);
+        await hold(page, ['solve']);
         await page.click('dialog button', 'Solve');
+        await isHeld(page);
         await page.fill('dialog textarea', '1.1 2.1\n1.2 2.2\n1.3 2.3');
         await page.click('dialog button', 'Solve');
-        await settled();
+        await page.until(`document.querySelector('dialog .line')`);
+        await letGo(page);
         checks.equal('the line of the lines that stand there', await page.value(`document.querySelector('dialog .line').textContent`),
             natively('explore', ['solve'], `${problem}== graph\n1.1 2.1\n1.2 2.2\n1.3 2.3\n`).text.split('\n', 1)[0]);
     },
 
     async 'a late reading of the editor'(user, page, checks) {
-        await delay(page, ['read'], LATE);
-        await page.fill('#editor textarea', 'A^3', 0);
-        await page.fill('#editor textarea', 'A^2', 1);
-        await wait(400);
-        await page.fill('#editor textarea', 'A^3\nB', 0);
-        await settled();
-        checks.check('the fault of the text that stands there',
-            (await page.value(`document.querySelector('#editor .state').textContent`)).includes('wrong degree'));
-        checks.check('no card of it', await page.value(`[...document.querySelectorAll('#editor button')].at(-1).disabled`));
+        const state = `document.querySelector('#editor .state').textContent`;
+        // Good texts, then one with a fault; and one with a fault, then a good one.
+        for (const [before, now, says] of [['A^3', 'A^3\nB', 'wrong degree'], ['A^3 [', 'A^3', 'Read: ']]) {
+            await page.fill('#editor textarea', '', 0);
+            await page.fill('#editor textarea', 'A^2', 1);
+            await page.until(`${state}.includes('input: ')`);
+            await hold(page, ['read']);
+            await page.fill('#editor textarea', before, 0);
+            await isHeld(page);
+            await page.fill('#editor textarea', now, 0);
+            await page.until(`${state}.includes('${says}')`);
+            await letGo(page);
+            checks.check(`that of the text that stands there: ${await page.value(state)}`, (await page.value(state)).includes(says));
+            checks.equal(
+                'a card of it', await page.value(`[...document.querySelectorAll('#editor button')].at(-1).disabled`), says !== 'Read: ');
+        }
     },
 };
-
-export const lateSessions = sessions;

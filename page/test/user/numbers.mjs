@@ -5,9 +5,9 @@ import {explored} from '../teaching.mjs';
 import {MIS} from '../user.mjs';
 
 const line = `document.querySelector('#given-line').textContent`, accepted = `${line}.startsWith('accepted: ')`;
-// What is marked, with the range beside it: [value, range].
+// What is marked, with the range that is seen beside it: [value, range].
 const marked =
-    `[...document.querySelectorAll('input[aria-invalid=true]')].map(input => [input.value, document.getElementById(input.getAttribute('aria-describedby')).textContent])`;
+    `[...document.querySelectorAll('input[aria-invalid=true]')].map(input => { const range = document.getElementById(input.getAttribute('aria-describedby')); return [input.value, range.getClientRects().length ? range.textContent : 'not seen']; })`;
 const given = (text, input) => natively('explore', ['given'], `${text}== given\n${input}`).text.split('\n', 1)[0];
 
 const sessions = {
@@ -72,6 +72,11 @@ const sessions = {
         checks.equal('no note, nothing tried',
             await page.value(`[document.querySelectorAll('.card .note').length, bench.tries.of(bench.cards.path()[0].problem).length]`),
             [0, 0]);
+        // What was said of a number goes with it.
+        await user.search('lower', '99', '0');
+        await page.until(`${message}?.startsWith('lower: ')`);
+        await page.fill('.card.last .ask[data-search=lower] input', '1');
+        checks.equal('the message is gone', await page.value(`document.querySelector('#message').className`), '');
         await user.search('lower', '1', '0');
         await user.says('accepted: not solvable in 1 or fewer rounds');
         // What was out of its range isn't kept for the next card.

@@ -14,7 +14,7 @@ export const placesSessions = {
         await user.search('rounds', 0);
         await page.until(`document.querySelector('.card.last .note')`);
         await user.search('lower', 8, 2);
-        await page.until(`!document.querySelector('#jobs').hidden`);
+        await user.running('lower 8 2');
         checks.check('it stands in the bar', await page.value(`document.querySelector('.bar').contains(document.querySelector('#jobs'))`));
         const bar = await boxOf(page, '.bar'), jobs = await boxOf(page, '#jobs');
         checks.check('within it', jobs.top >= bar.top && jobs.bottom <= bar.bottom && jobs.right <= bar.right);
@@ -25,8 +25,7 @@ export const placesSessions = {
         checks.check('the result is seen',
             await page.value(
                 `(() => { const note = document.querySelector('.card.last .note'), box = note.getBoundingClientRect(); return note.contains(document.elementFromPoint(box.left + 30, box.top + box.height / 2)); })()`));
-        await page.click('#jobs button', 'Stop');
-        await page.until(`document.querySelector('#jobs').hidden`);
+        await user.stop('lower 8 2');
     },
 
     async 'three lines of buttons, and room for the cards'(user, page, checks) {

@@ -5,20 +5,19 @@ import {answer, natively} from '../place.mjs';
 import {explored, teachMissing} from '../teaching.mjs';
 import {cardsAre, MIS} from '../user.mjs';
 
-const state = `document.querySelector('#jobs .hint')?.textContent`;
+const jobs = `document.querySelector('#jobs').textContent`;
 
 export const searchingSessions = {
     async 'a search, stopped'(user, page, checks) {
         await user.openProblem(...MIS);
         await user.search('lower', 8, 2);
-        await page.until(`!document.querySelector('#jobs').hidden`);
-        await wait(1200);
         // The page lives meanwhile.
         await user.act('Universal rows');
         await page.until(`document.querySelector('.card.last .note pre')`);
-        checks.check('elapsed time', /\d\.\d s/.test(await page.value(`document.querySelector('#jobs .time').textContent`)));
-        await page.click('#jobs button', 'Stop');
-        await page.until(`document.querySelector('#jobs').hidden`);
+        const shown = await user.running('lower 8 2');
+        checks.check(`elapsed time: ${shown}`, /\d s/.test(shown));
+        await user.best('lower 8 2');
+        await user.stop('lower 8 2');
         // What shorter searches beside it found is kept.
         const [kept] = [await page.until(`bench.cards.path().length > 1 && bench.claim.verdict?.accepted && bench.claim.verdict.line`)];
         checks.check(`Stop keeps the best: ${kept}`, /not solvable in [1-9] or fewer/.test(kept));
@@ -72,8 +71,8 @@ export const searchingSessions = {
         await user.openProblem(...MIS);
         await user.searchOn('longest', 2, 6);
         // Asked again with twice as many steps, or labels.
-        await page.until(`/best so far: [3-9] further steps; now longest/.test(${state})`);
-        await page.click('#jobs button', 'Stop');
+        await page.until(`/best so far: [3-9] further steps; now longest/.test(${jobs})`);
+        await user.stop('longest');
         const line = await user.verdict();
         await page.until(`bench.cards.path().length > 3`);
         const found = await page.until(`bench.claim.verdict?.accepted && bench.claim.verdict.line`);

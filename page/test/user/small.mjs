@@ -13,7 +13,16 @@ const seen = selector =>
     `(() => { const nodes = [...document.querySelectorAll('${selector}')]; return nodes.length > 0 && nodes.every(node => {
     const box = node.getBoundingClientRect(), top = document.elementFromPoint(box.left + box.width / 2, box.top + box.height / 2);
     return box.width > 4 && box.left >= 0 && box.top >= 0 && box.right <= document.documentElement.clientWidth + 1 && box.bottom <= innerHeight && (node === top || node.contains(top)); }); })()`;
+// How tall what stands over the page is, as far as it is seen.
+const over =
+    `['.bar', '#claim'].reduce((sum, selector) => { const box = document.querySelector(selector).getBoundingClientRect(); return sum + Math.max(0, Math.min(innerHeight, box.bottom) - Math.max(0, box.top)); }, 0)`;
+const verdictSeen =
+    `(() => { const box = document.querySelector('#verdict-line').getBoundingClientRect(); return box.top >= document.querySelector('#claim').getBoundingClientRect().top && box.bottom <= innerHeight && box.height > 4; })()`;
 const overSide = 'document.documentElement.scrollWidth - document.documentElement.clientWidth';
+
+// Messages stay, however slow the machine is.
+const stay = page => page.value(
+    `(() => { const later = window.setTimeout.bind(window); window.setTimeout = (run, ms, ...words) => later(run, [3000, 8000].includes(ms) ? 1e8 : ms, ...words); })()`);
 
 export const smallSessions = {
     async 'Stop and the time are in sight, of one job and of three'(user, page, checks) {
@@ -31,11 +40,11 @@ export const smallSessions = {
                 checks.check(`${width}x${height}: ${count} jobs: the time`, await page.value(seen('#jobs .time')));
                 checks.equal(`${width}x${height}: ${count} jobs: nothing over the side`, await page.value(overSide), 0);
             }
-            // Each click on the first button ends a job; one that was moved meanwhile is tried again.
-            const left = () => page.value(`document.querySelectorAll('#jobs .job').length`);
+            // By the mouse where the buttons stand, without scrolling.
+            const left = () => page.value(`document.querySelectorAll('#jobs button[aria-label^="stop lower"]').length`);
             for (let i = 0, count = await left(); count > 0 && i < 40; i++, count = await left()) {
                 const at = await page.value(
-                    `(() => { const box = document.querySelector('#jobs button').getBoundingClientRect(); return {x: box.x + box.width / 2, y: box.y + box.height / 2}; })()`);
+                    `(() => { const box = document.querySelector('#jobs button[aria-label^="stop lower"]')?.getBoundingClientRect(); return box ? {x: box.x + box.width / 2, y: box.y + box.height / 2} : {x: 1, y: 1}; })()`);
                 for (const type of ['mouseMoved', 'mousePressed', 'mouseReleased']) await page.mouse(type, at);
                 await wait(250);
             }
@@ -49,6 +58,9 @@ export const smallSessions = {
         await page.go();
         checks.equal('the empty page', await page.value(overSide), 0);
         checks.check('Help is reachable', await page.value(seen('#help-button')));
+        checks.check('the bar is one line',
+            await page.value(
+                `new Set([...document.querySelectorAll('.bar nav button')].map(node => Math.round(node.getBoundingClientRect().top / 4))).size === 1`));
         await user.openProblem(...MIS);
         for (const n of [2, 3]) await user.step(n);
         await page.value('scrollTo(0, 0)');
@@ -69,6 +81,9 @@ export const smallSessions = {
             await page.until(`document.querySelector('.paper h3')`);
             await wait(400);
             checks.check('the report comes into view', await page.value(seen('#report-box > header h2')));
+            checks.check('with what it says',
+                await page.value(
+                    `document.querySelector('.paper pre').getBoundingClientRect().bottom < document.querySelector('#claim').getBoundingClientRect().top`));
             checks.equal('the report', await page.value(overSide), 0);
             await page.click('#report-box .close');
         }
@@ -84,8 +99,12 @@ export const smallSessions = {
         await page.choose('#gallery', 'two colouring 3');
         await page.until(`bench.cards.path()[0].title === 'two colouring 3' && ${drawn}`);
         await page.click('.card.last .menu summary');
-        await wait(200).catch(() => {});
+        await wait(400);
         checks.equal('a chain with a map', await page.value(overSide), 0);
+        checks.check('the menu comes into view', await page.value(seen('.card.last .menu button')));
+        checks.check('and stands between no buttons',
+            await page.value(
+                `(() => { const box = document.querySelector('.card.last .menu').getBoundingClientRect(); return [...document.querySelectorAll('.card.last .actions button:not(.menu button)')].every(node => { const other = node.getBoundingClientRect(); return other.bottom <= box.top + 1 || other.top >= box.bottom - 1; }); })()`));
         await sized(page, 1366, 900);
     },
 
@@ -99,16 +118,32 @@ export const smallSessions = {
                 await page.choose('#given-kind', 'a colouring');
                 await page.until(`document.querySelector('#given-line .line')`);
             }
+            await page.value('document.activeElement.blur()');
             await page.value('scrollTo(0, 500)');
             await wait(400);
-            // What stands over the page, as far as it is seen.
-            const over = await page.value(
-                `['.bar', '#claim'].reduce((sum, selector) => { const box = document.querySelector(selector).getBoundingClientRect(); return sum + Math.max(0, Math.min(innerHeight, box.bottom) - Math.max(0, box.top)); }, 0)`);
-            checks.check(`${width}x${height}: ${over} px of bars`, over <= height / 4);
-            checks.check(`${width}x${height}: the verdict is seen`,
-                await page.value(
-                    `(() => { const box = document.querySelector('#verdict-line').getBoundingClientRect(); return box.bottom <= innerHeight && box.height > 4; })()`));
+            const bars = await page.value(over);
+            checks.check(`${width}x${height}: ${bars} px of bars`, bars <= height / 4);
+            checks.check(`${width}x${height}: the verdict is seen`, await page.value(verdictSeen));
             checks.equal(`${width}x${height}: nothing over the side`, await page.value(overSide), 0);
+            // With three jobs, too; and behind a field of the foot the verdict is seen again.
+            await user.openProblem(...MIS);
+            if (explored.has('given')) {
+                await page.choose('#given-kind', 'a colouring');
+                await page.until(`document.querySelector('#given-line .line')`);
+            }
+            for (const search of [['lower', 8, 2], ['lower', 9, 2], ['lower', 9, 3]]) await user.search(...search);
+            await page.until(`document.querySelectorAll('#jobs .job').length === 3`);
+            await page.value('scrollTo(0, 500)');
+            await wait(400);
+            const withJobs = await page.value(over);
+            checks.check(`${width}x${height}: ${withJobs} px of bars with three jobs`, withJobs <= height / 4);
+            checks.check(`${width}x${height}: Stop of each is seen`, await page.value(seen('#jobs button')));
+            checks.check(`${width}x${height}: and their times`, await page.value(seen('#jobs .time')));
+            await page.value(`document.querySelector('#given-kind')?.focus()`);
+            await page.value(`document.querySelector('#claim').scrollTop = 99`);
+            await page.value(`document.querySelector('.card').focus()`);
+            checks.check(`${width}x${height}: the verdict is seen behind a field`, await page.value(verdictSeen));
+            await user.stopAll();
         }
         await sized(page, 1366, 900);
     },
@@ -131,20 +166,35 @@ export const smallSessions = {
             `(() => { const box = document.querySelector('#message').getBoundingClientRect(); return [...document.querySelectorAll(document.querySelector('dialog') ? 'dialog button, dialog input, dialog textarea, dialog select' : 'button, input, select, textarea, summary')].filter(node => {
             const other = node.getBoundingClientRect(), top = document.elementFromPoint(other.left + other.width / 2, other.top + other.height / 2);
             return other.width && (node === top || node.contains(top)) && other.right > box.left && other.left < box.right && other.bottom > box.top && other.top < box.bottom; }).map(node => node.outerHTML.slice(0, 60)); })()`;
+        const shown = `document.querySelector('#message').className.includes('shown')`;
         for (const [width, height] of [[1280, 800], [1366, 768], [390, 844]]) {
             await sized(page, width, height);
             await page.go();
+            await stay(page);
             await user.openProblem(...MIS);
             await user.step(2);
             await wait(300);
             await user.watchCopies();
             for (const [open, act] of [[null, 'Copy'], ['#certificate', 'Copy']]) {
+                if (open) await user.verdict();
                 if (open) await page.click(open);
                 await page.click(open ? 'dialog footer button' : '.card.last .actions button', act);
-                await page.until(`document.querySelector('#message').className.includes('shown')`);
+                await page.until(shown);
                 checks.equal(`${width}x${height}, ${open || 'a card'}`, await page.value(covered), []);
                 if (open) await page.key('Escape');
             }
+            // A longer one, over a card that is full of buttons.
+            await user.search('lower', '99', '99');
+            await page.until(`document.querySelector('#message').className === 'shown fault'`);
+            checks.equal(`${width}x${height}, a fault`, await page.value(covered), []);
+            // Nor where other things come below it.
+            for (let i = 0; i < 12; i++) {
+                await page.value(`scrollTo(0, ${i * 60})`);
+                await page.until(`(${covered}).length === 0`, 10000).catch(async () => {
+                    checks.equal(`${width}x${height}, scrolled by ${i * 60}`, await page.value(covered), []);
+                });
+            }
+            checks.check('it is shown', await page.value(shown));
         }
         await sized(page, 1366, 900);
         await teach(page, {});

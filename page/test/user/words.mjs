@@ -86,6 +86,21 @@ export const wordsSessions = {
             await page.value(
                 `[document.querySelector('#verdict-line .caret').textContent, document.querySelector('#verdict-line .caret').getBoundingClientRect().width]`),
             ['s', 0]);
+        await page.click('#algorithm');
+        await page.until(`document.querySelector('dialog svg.run')`);
+        const seen = `document.querySelector('dialog').innerText`;
+        checks.check(`the algorithm: ${await page.value(seen)}`,
+            (await page.value(seen)).includes('After 1 round the') &&
+                await page.value(`Boolean(document.querySelector('dialog .line .caret'))`));
+        await page.key('Escape');
+        if (!explored.has('describe')) return;
+        const letters =
+            `[...document.querySelectorAll('#rounds-of-graph, .paper')].map(node => [node.textContent.split('1 rounds').length - 1, node.querySelectorAll('.caret').length])`;
+        await page.click('#report');
+        await page.until(`document.querySelector('.paper h3') && document.querySelector('#rounds-of-graph')`);
+        for (const [rounds, carets] of await page.value(letters))
+            checks.check(`the graph and the report: ${rounds}`, rounds > 0 && carets === rounds);
+        await page.click('#report-box .close');
     },
 
     async 'the model beside each claim'(user, page, checks) {

@@ -97,7 +97,7 @@ GROUPS = [
     (
         "Classes",
         "what `re_classes::constant_law`, `nothing_between_law`, `order_log_star_law` and `apart_law`, `re_given_bounds::class_law` and `no_two_classes_law`, "
-        "`re_edge_colours::order_edge_coloured_law` and `no_edge_coloured_law`, and "
+        "`re_edge_colours::order_edge_coloured_law`, `order_both_coloured_law` and `no_edge_coloured_law`, and "
         "`re_local::nodes_seen_law` and `no_room_law` add: classes, and how many nodes a node sees.",
         [
             ("re_classes", "constant_law", None),
@@ -108,6 +108,7 @@ GROUPS = [
             ("re_given_bounds", "no_two_classes_law", None),
             ("re_edge_colours", "order_edge_coloured_law", None),
             ("re_edge_colours", "no_edge_coloured_law", None),
+            ("re_edge_colours", "order_both_coloured_law", None),
             ("re_local", "nodes_seen_law", None),
             ("re_local", "no_room_law", None),
         ],
@@ -121,11 +122,15 @@ GROUPS = [
     ),
     (
         "What `explore` says",
-        "what the claim of `settle` and the meaning of the answers of `given`, `fit` and `solve` add. Nobody has to believe what shows a claim; "
+        "what the claim of `settle`, its class and the meaning of the answers of `rounds`, `given`, `fit` and `solve` add. Nobody has to believe what shows a claim; "
         "which steps are kept behind a refusal, the line says.",
         [
             ("re_settle", "Claims.Holds", None),
             ("re_settle", "Claims.claim_of", None),
+            ("re_settle", "Classes.HoldsLocal", None),
+            ("re_settle", "Classes.ClassHolds", None),
+            ("re_settle", "Classes.class_of", None),
+            ("re_given_words", "Counting.CountMeans", None),
             ("re_given_words", "Meanings.AnswerMeans", None),
             ("re_graph_words", "SolveWords.AnswerMeans", None),
         ],

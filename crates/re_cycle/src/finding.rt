@@ -1,18 +1,18 @@
 //! The certificate of the cycle.
 ghost use Rattle.re_cert.specs.Bounds.{last_problem};
 ghost use Rattle.re_cert.specs.declared.certificate.Kind.TheVariants.{Fixed};
-ghost use Rattle.re_cycle.specs.Answers.{Answers};
-ghost use Rattle.re_extend.specs.Extensions.{GoesOn};
+ghost use Rattle.re_cycle.specs.Answers.{Answers, AnswersGiven, IsFailure};
 ghost use Rattle.re_problem.specs.NamedProblems.{unnamed};
 ghost use Rattle.re_problem.specs.Zero.{zero_place};
 ghost use Rattle.std.specs.Prelude.{◌≡◌, IfOk, IfSome, None};
 
 use crate::nodes::{Graph, Return};
-use crate::walking::{Walk, Walked};
+use crate::walking::{Left, Walk, Walked};
 use re_cert::{Certificate, Kind, MAX_STEPS, Step};
 use re_extend::{Extension, extended, route_steps, takes_merges};
+use re_given_words::extended_given;
 use re_labels::{MAX_LABELS, NoMemory};
-use re_problem::LabelMap;
+use re_problem::{LabelMap, Problem};
 use re_zero::zero_round;
 use std::alloc::Global;
 
@@ -34,6 +34,14 @@ pub enum Cycle {
     },
     /// None was found among the most problems that may be looked at.
     TooMany,
+}
+
+// How far a search goes: how many further steps, how many merges in each, over how many problems.
+#[derive(Clone, Copy)]
+struct Size {
+    steps: u8,
+    merges: u8,
+    nodes: u32,
 }
 
 // Each label with its image.
@@ -66,102 +74,159 @@ fn fixed(number: usize, steps: Vec<Step>, renaming: Vec<(u8, u8)>) -> Extension
     }
 }
 
-// The certificate that goes on from the chain along the walk.
+// What a search comes to: what makes a fixed point behind the chain, if a way back was found; whether there were too many problems; how many
+// were looked at, and how many limits were passed, or renamings given up.
+#[derive(Drop)]
+struct Searched {
+    way: Option<Extension>,
+    full: bool,
+    nodes: u32,
+    cut: u32,
+}
+
+impl Searched {
+    // The answer where there is no fixed point.
+    fn failed(&self) -> Cycle
+        ensures { IsFailure result }
+    {
+        if self.full {
+            Cycle::TooMany
+        } else {
+            Cycle::NotFound {
+                nodes: self.nodes,
+                cut: self.cut,
+            }
+        }
+    }
+}
+
+// What makes the fixed point along the walk.
 fn along(
     alloc: Global,
     chain: &Certificate,
-    steps: u8,
     graph: &Graph,
     walk: &Return,
-) -> Result<Option<Certificate>, NoMemory>
-    ensures { IfOk result (λ found. IfSome found (GoesOn Fixed steps MAX_LABELS chain.now)) }
+) -> Result<Extension, NoMemory>
+    ensures { IfOk result (λ way. way.kind ≡ Fixed) }
 {
     let (number, labels) = graph.back_of(walk);
     let more = route_steps(alloc, chain, graph.route(walk)?)?;
-    let extension = fixed(number, more, own_pairs(alloc, labels)?);
-    extended(alloc, chain, extension, steps, MAX_LABELS)
+    Ok(fixed(number, more, own_pairs(alloc, labels)?))
 }
 
-// The certificate of the chain, whose last problem is an earlier one.
-fn at_once(
-    alloc: Global,
-    chain: &Certificate,
-    steps: u8,
-    number: usize,
-    map: &LabelMap,
-) -> Result<Option<Certificate>, NoMemory>
-    ensures { IfOk result (λ found. IfSome found (GoesOn Fixed steps MAX_LABELS chain.now)) }
+// What makes a fixed point of the chain, whose last problem is an earlier one.
+fn at_once(alloc: Global, number: usize, map: &LabelMap) -> Result<Extension, NoMemory>
+    ensures { IfOk result (λ way. way.kind ≡ Fixed) }
 {
-    let extension = fixed(number, Vec::new(alloc), pairs_of(alloc, map)?);
-    extended(alloc, chain, extension, steps, MAX_LABELS)
+    Ok(fixed(number, Vec::new(alloc), pairs_of(alloc, map)?))
 }
 
-// The certificate where the walk found a way back.
-fn found(
+// What makes the fixed point where the walk found a way back.
+fn way_of(
     alloc: Global,
     chain: &Certificate,
-    steps: u8,
     graph: &Graph,
     walked: &Walked,
-) -> Result<Option<Certificate>, NoMemory>
-    ensures { IfOk result (λ found. IfSome found (GoesOn Fixed steps MAX_LABELS chain.now)) }
+) -> Result<Option<Extension>, NoMemory>
+    ensures { IfOk result (λ found. IfSome found (λ way. way.kind ≡ Fixed)) }
 {
     match walked {
-        Walked::Start(number, map) => at_once(alloc, chain, steps, *number, map),
-        Walked::Back(walk) => along(alloc, chain, steps, graph, walk),
+        Walked::Start(number, map) => Ok(Some(at_once(alloc, *number, map)?)),
+        Walked::Back(walk) => Ok(Some(along(alloc, chain, graph, walk)?)),
         Walked::Ended | Walked::Full => Ok(None),
     }
 }
 
-// What the walk came to.
+// What is found behind the chain; one of the merges of the first step may be of labels of the chain's last problem, where that is asked. Where it can't
+// be, though merges are asked for, it counts as cut once.
+fn look_behind(
+    alloc: Global,
+    chain: &Certificate,
+    input: Option<&Problem>,
+    size: Size,
+    begins: bool,
+) -> Result<Searched, NoMemory>
+    ensures { IfOk result (λ found. IfSome found.way (λ way. way.kind ≡ Fixed)) }
+{
+    let before = chain.steps().len().min(MAX_STEPS);
+    let room = MAX_STEPS.saturating_sub(before);
+    let depth = (room.min(MAX_STEPS) as u8).min(size.steps);
+    let mut walk = Walk {
+        alloc,
+        graph: Graph::of_chain(alloc, chain)?,
+        left: Left {
+            input,
+            steps: before as u8,
+        },
+        most: size.nodes as usize,
+        merges: size.merges,
+        begins,
+        limits: 0,
+    };
+    let walked = walk.walk(depth)?;
+    let once = !begins && size.merges > 0 && !takes_merges(alloc, chain)?;
+    let cut = walk.limits.saturating_add(walk.graph.given_up());
+    Ok(Searched {
+        way: way_of(alloc, chain, &walk.graph, &walked)?,
+        full: matches!(walked, Walked::Full),
+        nodes: walk.graph.len().min(u32::MAX as usize) as u32,
+        cut: cut.saturating_add(u32::from(once)),
+    })
+}
+
+// The answer by what is found, where the chain's last problem isn't solvable without communication.
 fn answer_of(
     alloc: Global,
     chain: &Certificate,
     steps: u8,
-    walk: &Walk,
-    walked: &Walked,
+    found: Searched,
 ) -> Result<Cycle, NoMemory>
-    requires { zero_place (unnamed (last_problem chain.now)) ≡ None }
+    requires ends { zero_place (unnamed (last_problem chain.now)) ≡ None }
+    requires way { IfSome found.way (λ way. way.kind ≡ Fixed) }
     ensures { IfOk result (Answers steps chain.now) }
 {
-    if let Some(certificate) = found(alloc, chain, steps, &walk.graph, walked)? {
-        return Ok(Cycle::Found(certificate));
+    let failed = found.failed();
+    let Some(way) = found.way else {
+        return Ok(failed);
+    };
+    match extended(alloc, chain, way, steps, MAX_LABELS)? {
+        Some(certificate) => Ok(Cycle::Found(certificate)),
+        None => Ok(failed),
     }
-    if let Walked::Full = walked {
-        return Ok(Cycle::TooMany);
-    }
-    Ok(Cycle::NotFound {
-        nodes: walk.graph.len().min(u32::MAX as usize) as u32,
-        cut: walk.limits.saturating_add(walk.graph.given_up()),
-    })
 }
 
-// What is found where the chain's last problem isn't solvable without communication; one of the merges of the first step may be of labels of
-// this problem, where that is asked. Where it can't be, though merges are asked for, it counts as a limit once.
-fn walked_from(
+// The answer by what is found given the input problem.
+fn answer_given(
     alloc: Global,
     chain: &Certificate,
+    input: &Problem,
     steps: u8,
-    merges: u8,
-    nodes: u32,
-    begins: bool,
+    found: Searched,
 ) -> Result<Cycle, NoMemory>
-    requires { zero_place (unnamed (last_problem chain.now)) ≡ None }
-    ensures { IfOk result (Answers steps chain.now) }
+    requires { IfSome found.way (λ way. way.kind ≡ Fixed) }
+    ensures { IfOk result (AnswersGiven input.now steps chain.now) }
 {
-    let room = MAX_STEPS.saturating_sub(chain.steps().len());
-    let depth = (room.min(MAX_STEPS) as u8).min(steps);
-    let once = !begins && merges > 0 && !takes_merges(alloc, chain)?;
-    let mut walk = Walk {
-        alloc,
-        graph: Graph::of_chain(alloc, chain)?,
-        most: nodes as usize,
-        merges,
-        begins,
-        limits: u32::from(once),
+    let failed = found.failed();
+    let Some(way) = found.way else {
+        return Ok(failed);
     };
-    let walked = walk.walk(depth)?;
-    answer_of(alloc, chain, steps, &walk, &walked)
+    match extended_given(alloc, chain, way, input, steps, MAX_LABELS)? {
+        Some(certificate) => Ok(Cycle::Found(certificate)),
+        None => Ok(failed),
+    }
+}
+
+// Whether it is searched once more behind this answer.
+fn goes_on(
+    alloc: Global,
+    chain: &Certificate,
+    merges: u8,
+    answer: &Cycle,
+) -> Result<bool, NoMemory> {
+    match answer {
+        Cycle::NotFound { .. } => Ok(merges > 0 && takes_merges(alloc, chain)?),
+        _ => Ok(false),
+    }
 }
 
 /// Searches for a fixed point that goes on from a sound chain: with at most so many further steps, each to what at most so many merges
@@ -183,11 +248,43 @@ pub fn find_cycle(
     if let Some(place) = zero_round(chain.last()) {
         return Ok(Cycle::Solvable(place));
     }
-    let answer = walked_from(alloc, chain, steps, merges, nodes, false)?;
-    if let Cycle::NotFound { .. } = answer {
-        if merges > 0 && takes_merges(alloc, chain)? {
-            return walked_from(alloc, chain, steps, merges, nodes, true);
-        }
+    let size = Size {
+        steps,
+        merges,
+        nodes,
+    };
+    let found = look_behind(alloc, chain, None, size, false)?;
+    let answer = answer_of(alloc, chain, steps, found)?;
+    if goes_on(alloc, chain, merges, &answer)? {
+        let found = look_behind(alloc, chain, None, size, true)?;
+        return answer_of(alloc, chain, steps, found);
+    }
+    Ok(answer)
+}
+
+/// The same given an input problem of the chain's first problem: the walk leaves out what `ends_after` of `re_given_words` knows to be solvable
+/// in 0 rounds given it, exchanged as often as there are steps, and what is found is accepted by `given`. The answer is never `Solvable`:
+/// the chain's own last problem isn't asked.
+pub fn find_cycle_given(
+    alloc: Global,
+    chain: &Certificate,
+    input: &Problem,
+    steps: u8,
+    merges: u8,
+    nodes: u32,
+) -> Result<Cycle, NoMemory>
+    ensures { IfOk result (AnswersGiven input.now steps chain.now) }
+{
+    let size = Size {
+        steps,
+        merges,
+        nodes,
+    };
+    let found = look_behind(alloc, chain, Some(input), size, false)?;
+    let answer = answer_given(alloc, chain, input, steps, found)?;
+    if goes_on(alloc, chain, merges, &answer)? {
+        let found = look_behind(alloc, chain, Some(input), size, true)?;
+        return answer_given(alloc, chain, input, steps, found);
     }
     Ok(answer)
 }

@@ -2,7 +2,8 @@
 //!
 //! It looks at the graph of the problems that are reached from the last one of a chain by steps, each of them to what some merges have made
 //! of a derived problem, where problems under other names of their labels are one: those of fewer steps first, then those of fewer merges,
-//! then in the order of the merges. A problem that is solvable without communication is left out. Each problem is looked at once, under
+//! then in the order of the merges. A problem that is solvable without communication is left out, and given an
+//! input problem one that few tries show to be solvable in 0 rounds given it. Each problem is looked at once, under
 //! the names under which it was first met; a step that leads to it again, under other names, is kept with the renaming behind its map.
 //!
 //! The answer is the shortest walk on this graph whose last problem is an earlier one of the walk or of the chain; where the chain's last
@@ -24,4 +25,4 @@ mod nodes;
 mod returning;
 mod walking;
 
-pub use finding::{Cycle, find_cycle};
+pub use finding::{Cycle, find_cycle, find_cycle_given};

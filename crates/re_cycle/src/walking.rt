@@ -2,6 +2,7 @@
 use crate::nodes::{Graph, Origin, Return};
 use crate::returning::shortest_return;
 use re_changes::{Change, Changed};
+use re_given_words::{Ends, ends_after};
 use re_labels::NoMemory;
 use re_problem::{LabelMap, Problem};
 use re_step::{Derived, StepFault, step};
@@ -21,12 +22,37 @@ pub(crate) enum Walked {
     Full,
 }
 
-/// A walk: the problems so far, how many of them may be, how many merges a step may have, whether one of them may be of labels of the first
-/// problem, and at how many problems the derived problem passed a limit.
+/// What a walk leaves out: problems that are solvable without communication, or where an input problem is given those that are known to be
+/// solvable in 0 rounds given it, exchanged as often as there are steps to them. How many steps lead to the first one is told, too.
+#[derive(Clone, Copy)]
+pub(crate) struct Left<'a> {
+    pub(crate) input: Option<&'a Problem>,
+    pub(crate) steps: u8,
+}
+
+impl<'a> Left<'a> {
+    // Whether the problem behind so many steps of the walk is left out.
+    fn has(self, alloc: Global, problem: &Problem, depth: u8) -> Result<bool, NoMemory> {
+        if zero_round(problem).is_some() {
+            return Ok(true);
+        }
+        match self.input {
+            Some(input) => {
+                let steps = self.steps.saturating_add(depth);
+                Ok(ends_after(alloc, problem, input, steps)? == Ends::Solvable)
+            }
+            None => Ok(false),
+        }
+    }
+}
+
+/// A walk: the problems so far, what is left out, how many problems may be, how many merges a step may have, whether one of them may be of
+/// labels of the first problem, and at how many problems the derived problem passed a limit.
 #[derive(Drop)]
-pub(crate) struct Walk {
+pub(crate) struct Walk<'a> {
     pub(crate) alloc: Global,
     pub(crate) graph: Graph,
+    pub(crate) left: Left<'a>,
     pub(crate) most: usize,
     pub(crate) merges: u8,
     pub(crate) begins: bool,
@@ -41,25 +67,27 @@ struct Merged {
     from: u8,
 }
 
-// What one merge more makes, where there are such labels.
+// What one merge more makes, where there are such labels, unless it is left out.
 fn merge_one(
     alloc: Global,
+    left: Left,
     before: &Merged,
-    low: u8,
-    high: u8,
+    merge: (u8, u8),
+    depth: u8,
 ) -> Result<Option<Merged>, NoMemory> {
+    let (low, high) = merge;
     let labels = before.made.problem().names().len();
     if low >= high || high as usize >= labels {
         return Ok(None);
     }
     let made = before.made.changed(alloc, Change::Merge(low, high))?;
-    if zero_round(made.problem()).is_some() {
+    if left.has(alloc, made.problem(), depth)? {
         return Ok(None);
     }
     Ok(Some(Merged { made, from: high }))
 }
 
-impl Walk {
+impl<'a> Walk<'a> {
     // Looks at a problem. The answer is None where the walk goes on.
     fn look_at(&mut self, made: &Changed, origin: Origin) -> Result<Option<Walked>, NoMemory> {
         match self.graph.meet(made, origin, self.most)? {
@@ -82,7 +110,8 @@ impl Walk {
         let labels = before.made.problem().names().len() as u8;
         for high in before.from..labels {
             for low in 0..high {
-                if let Some(after) = merge_one(self.alloc, before, low, high)? {
+                let after = merge_one(self.alloc, self.left, before, (low, high), origin.depth)?;
+                if let Some(after) = after {
                     let walked = self.look_at(&after.made, origin)?;
                     if walked.is_some() {
                         return Ok(walked);
@@ -141,7 +170,7 @@ impl Walk {
         merges: u8,
         origin: Origin,
     ) -> Result<Option<Walked>, NoMemory> {
-        if zero_round(&problem).is_some() {
+        if self.left.has(self.alloc, &problem, origin.depth)? {
             return Ok(None);
         }
         let made = Changed::unchanged(problem);
@@ -182,7 +211,8 @@ impl Walk {
         let merges = self.merges.saturating_sub(1);
         for high in 1..labels {
             for low in 0..high {
-                if let Some(after) = merge_one(self.alloc, &first, low, high)? {
+                let after = merge_one(self.alloc, self.left, &first, (low, high), 0)?;
+                if let Some(after) = after {
                     let origin = Origin {
                         parent: 0,
                         depth: 1,

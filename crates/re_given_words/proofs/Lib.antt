@@ -1,10 +1,12 @@
 mod Answered
 pub mod CountingMeans
 mod EndNumbers
+mod EndsAfter
 mod GivenCuts
 mod GivenMeans
+pub mod GoingOn
 mod Held
 mod ProductMeaning
 mod RoundsAnswers
-mod Saying
+pub mod Saying
 mod AheadCounts

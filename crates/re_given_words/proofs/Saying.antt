@@ -76,7 +76,7 @@ input_says : (input : NamedProblem) (fault : Option InputFault) (outcome : Outco
 input_says input (Some fault) outcome says = refl
 input_says input None outcome says = says
 
-given_says : (word : BoundWord) (input : NamedProblem) (bound : Bound) → MaySay (given_outcome word input bound).status true
+pub given_says : (word : BoundWord) (input : NamedProblem) (bound : Bound) → MaySay (given_outcome word input bound).status true
 given_says word input bound =
     input_says input (input_fault bound.first input) (or_refusal (steps_refusal bound) (sound_outcome word input bound)) (refusal_says (steps_refusal bound) (sound_outcome word input bound) (sound_says word input bound))
 

@@ -1,5 +1,6 @@
 pub mod Answers
 pub mod Counting
+pub mod Extensions
 pub mod GivenTexts
 pub mod InputFaults
 pub mod Meanings

@@ -81,8 +81,8 @@ fn steps_output(
     }
 }
 
-// What it gives to a bound and a problem behind it.
-fn given_output(
+/// What it gives to a bound and a problem behind it.
+pub(crate) fn given_output(
     alloc: Global,
     word: BoundWord,
     bound: &Certificate,

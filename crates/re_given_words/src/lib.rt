@@ -3,8 +3,10 @@
 
 mod answering;
 mod counting;
+mod ends;
 mod faults;
 mod fitting;
+mod going_on;
 mod judging;
 mod multiplying;
 mod rounds;
@@ -15,8 +17,10 @@ mod words;
 ghost use Rattle.re_given_words.specs.Meanings.{AnswerLaw};
 
 pub use counting::{Counted, RoundsTexts, count, count_within};
+pub use ends::{Ends, FEW_TRIES, ends_after};
 pub use faults::input_fault_output;
 pub use fitting::MAX_TRIES;
+pub use going_on::{extended_given, given_verdict, is_accepted, taken_law};
 pub use texts::{GIVEN, GivenTexts, read_given};
 pub use words::{BoundWord, GivenWord, given_help, given_word};
 

@@ -1,1 +1,2 @@
 mod Itself
+mod ItselfGiven

@@ -3,7 +3,7 @@ ghost use Rattle.re_given.specs.Inputs.{IsInput};
 ghost use Rattle.re_problem.specs.NamedProblems.{unnamed};
 
 use re_fit::{FitFault, find_fit, input_fault};
-const FEW_TRIES: u32 = 10_000;
+use re_given_words::FEW_TRIES;
 use re_labels::{LabelSet, NoMemory};
 use re_problem::Problem;
 use std::alloc::Global;

@@ -1,18 +1,18 @@
 -- The lines of a text of a certificate: it begins with a section line, and none of its lines is `== given`.
-use Rattle.std.proofs.Common.{◌≡◌, ℕ, ◌+◌, Bool, true, false, not, cond, eqb, List, [], ◌∷◌, ◌++◌, length, map, refl, sym, ap, ◌∙◌, subst, codes, Option, None, Some, Result, Ok, Err}
+use Rattle.std.proofs.Common.{◌≡◌, ℕ, Bool, true, false, not, cond, eqb, List, [], ◌∷◌, map, refl, sym, ap, ◌∙◌, codes, Option, None, Some, Result, Ok, Err}
 use Rattle.std.specs.Prelude.{◌&&◌, ◌||◌, find, if◌then◌else◌}
 use Rattle.std.specs.List.{list_any}
 use Rattle.std.specs.Option.{option_map_or}
 use Rattle.std.specs.Str.{bytes_eq}
 use Rattle.std.proofs.lemmas.Bool.{false≢true}
 use Rattle.std.proofs.lemmas.Slice.Eq.{bytes_eq-Decides}
-use Rattle.re_items.specs.Bytes.{is_blank, is_empty_line}
+use Rattle.re_items.specs.Bytes.{is_empty_line}
 use Rattle.re_labels.proofs.Tests.{and-true, eqb-true}
 use Rattle.re_problem.specs.ProblemTexts.{end_fault, fault_if, fault_or, problem_of}
 use Rattle.re_problem.specs.declared.fault.InputFault.{InputFault}
-use Rattle.re_problem.specs.declared.fault.InputFault.TheVariants.{BadSection, EarlyEnd}
+use Rattle.re_problem.specs.declared.fault.InputFault.TheVariants.{EarlyEnd}
 use Rattle.re_sections.specs.SectionLines.{is_section, name_in, section_name, words_of}
-use Rattle.re_cert.specs.CertificateTexts.{Brought, First, Next, State, and_behind, bad_section, begins, behind, behind_from, certificate_fault, fault_behind, goes_on, has_ended, in_phase, in_section, in_text, joined, judged, judged_in, map_begins, past, renaming_ends, silent, step_begins, takes_labels, takes_mapped, takes_row, text_ends, whole_step}
+use Rattle.re_cert.specs.CertificateTexts.{Brought, First, Next, State, and_behind, bad_section, begins, behind, behind_from, certificate_fault, fault_behind, goes_on, has_ended, in_text, joined, judged, judged_in, map_begins, past, renaming_ends, silent, step_begins, text_ends, whole_step}
 use Rattle.re_cert.specs.SectionLines.{heading_in, heading_of, section_by, section_of}
 use Rattle.re_cert.specs.declared.cert_reader.Phase.{Phase}
 use Rattle.re_cert.specs.declared.cert_reader.Phase.TheVariants as phase

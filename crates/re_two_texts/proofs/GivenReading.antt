@@ -1,5 +1,5 @@
 -- What is printed of a bound and an input problem is read as them.
-use Rattle.std.proofs.Common.{◌≡◌, ℕ, ◌+◌, Bool, true, false, cond, eqb, List, [], ◌∷◌, ◌++◌, append_assoc, length, length-append, map, take, refl, sym, ap, ◌∙◌, subst, codes, arith, Option, None, Some, Ok}
+use Rattle.std.proofs.Common.{◌≡◌, ℕ, ◌+◌, Bool, true, false, eqb, List, [], ◌∷◌, ◌++◌, append_assoc, length, length-append, map, take, refl, sym, ap, ◌∙◌, subst, codes, arith, Option, None, Some}
 use Rattle.std.specs.Prelude.{◌||◌, if◌then◌else◌, option_map}
 use Rattle.std.specs.List.{AllByRecursion, after_first, before_first, list_any}
 use Rattle.std.proofs.Math.Seq.{take-append_seam}
@@ -27,7 +27,7 @@ use Rattle.re_chain_texts.specs.ChainTexts.{begins_section, chain_fault, is_cert
 use Rattle.re_two_texts.specs.GivenTexts.{GivenTextLaw, IsReadAs, given_text}
 use Rattle.re_two_texts.specs.TwoTexts.{at_line, back_problem, front_bound, front_text, has_line, is_line, lines_before, lines_behind, lines_to, problem_fault, problem_lines, two_fault}
 use Rattle.re_two_texts.proofs.CertificateLines.{header_first, none_given, whole_of}
-use Rattle.re_two_texts.proofs.Splits.{after_there, any_there, before_none, before_there, to_there}
+use Rattle.re_two_texts.proofs.Splits.{after_there, any_there, before_none, before_there}
 
 -- ---- lines that line feeds end
 -- a text is that of these lines

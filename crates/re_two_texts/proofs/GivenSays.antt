@@ -1,8 +1,8 @@
 -- What may be said of a text of a bound and an input problem.
-use Rattle.std.proofs.Common.{◌≡◌, Bool, true, false, List, ℕ, length, nat_lt}
+use Rattle.std.proofs.Common.{Bool, true, false, List, ℕ, length, nat_lt}
 use Rattle.std.specs.Prelude.{if◌then◌else◌}
 use Rattle.re_cert.specs.Bounds.{Bound}
-use Rattle.re_frame.specs.Outcomes.{Outcome, done, too_long, within_limit}
+use Rattle.re_frame.specs.Outcomes.{done, too_long, within_limit}
 use Rattle.re_frame.specs.Runs.{MaySay}
 use Rattle.re_io.specs.declared.read.TheConstants.{MAX_BYTES}
 use Rattle.re_problem.specs.NamedProblems.{NamedProblem}

@@ -1,12 +1,11 @@
 -- The fault of a text that is cut.
-use Rattle.std.proofs.Common.{◌≡◌, ℕ, ◌+◌, ◌-◌, Bool, true, false, List, length, sym, ap, ◌∙◌, arith, Option, Some, None, Ok}
+use Rattle.std.proofs.Common.{◌≡◌, ℕ, ◌+◌, ◌-◌, List, length, sym, ap, ◌∙◌, arith, Option, Some, None, Ok}
 use Rattle.std.specs.Prelude.{if◌then◌else◌, option_map}
 use Rattle.re_problem.specs.ProblemTexts.{bytes_of, lines_of, or_else, problem_of}
 use Rattle.re_problem.specs.declared.fault.InputFault.{InputFault}
 use Rattle.re_problem.specs.declared.fault.InputFault.TheVariants.{EarlyEnd}
 use Rattle.re_problem.specs.declared.fault.TextFault.{TextFault}
 use Rattle.re_problem.specs.declared.fault.TextFault.TheVariants.{Bad, NoMemory}
-use Rattle.re_cert.specs.Bounds.{Bound}
 use Rattle.re_chain_texts.specs.ChainTexts.{chain_fault, text_bound, text_chain}
 use Rattle.re_two_texts.specs.TwoTexts.{ChainReadGives, IsCut, ProblemRefuses, ReadGives, ReadRefuses, at_line, front_text, lines_behind, lines_to, problem_fault, problem_lines, two_fault}
 use Rattle.re_two_texts.specs.declared.cutting.Cut.{Cut}

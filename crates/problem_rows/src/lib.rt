@@ -1,6 +1,13 @@
-//! Worked rows of inputs, items, problems built by hand, maps as they are read, merged labels and derived problems by their definition.
+//! Worked rows of labels, configurations, constraints and maximal rows; of inputs, items, problems built by hand, maps as they are read, merged labels and
+//! derived problems by their definition.
 #![tactic(auto)]
 
+#[cfg(test)]
+mod allowed_rows;
+#[cfg(test)]
+mod configurations;
+#[cfg(test)]
+mod constraints;
 #[cfg(test)]
 mod diagrams;
 #[cfg(test)]
@@ -10,8 +17,18 @@ mod inputs;
 #[cfg(test)]
 mod items;
 #[cfg(test)]
+mod labels;
+#[cfg(test)]
 mod map_texts;
+#[cfg(test)]
+mod maximal_rows;
 #[cfg(test)]
 mod problems;
 #[cfg(test)]
 mod reference;
+#[cfg(test)]
+mod rests;
+#[cfg(test)]
+mod set_rows;
+#[cfg(test)]
+mod tables;

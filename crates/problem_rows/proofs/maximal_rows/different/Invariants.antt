@@ -1,5 +1,5 @@
 use Rattle.std.proofs.Common.{◌≡◌}
-use Rattle.table_rows.proofs.maximal_rows.different.Given as goal
+use Rattle.problem_rows.proofs.maximal_rows.different.Given as goal
 
 abbrev pub invariant-loop-label : goal.invariant-loop-label
 invariant-loop-label l = l.constraint.degree ≡ 2

@@ -1,5 +1,5 @@
 use Rattle.std.proofs.Common.{◌≡◌}
-use Rattle.table_rows.proofs.tables.pairs.Given as goal
+use Rattle.problem_rows.proofs.tables.pairs.Given as goal
 
 abbrev pub invariant-loop-pair : goal.invariant-loop-pair
 invariant-loop-pair l = l.constraint.degree ≡ 2

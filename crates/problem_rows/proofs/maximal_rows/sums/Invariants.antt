@@ -1,5 +1,5 @@
 use Rattle.std.proofs.Common.{◌≡◌}
-use Rattle.table_rows.proofs.maximal_rows.sums.Given as goal
+use Rattle.problem_rows.proofs.maximal_rows.sums.Given as goal
 
 abbrev pub invariant-loop-i : goal.invariant-loop-i
 invariant-loop-i l = l.constraint.degree ≡ 4

@@ -9,7 +9,7 @@ use Rattle.re_cert.specs.declared.certificate.Kind.{Kind}
 use Rattle.re_cert.specs.declared.certificate.Kind.TheVariants.{Fixed, Lower, Upper}
 use Rattle.re_cert.specs.declared.certificate.TheConstants.{MAX_STEPS}
 use Rattle.re_check.specs.declared.verdict.Verdict.{Verdict}
-use Rattle.re_chain_texts.proofs.WordsGiven.{certificate_says, or_fault_says}
+use Rattle.re_chain_texts.proofs.WordsGiven.{certificate_says, or_fault_says, problem_says}
 use Rattle.re_chain_texts.specs.OverChains.{or_refusal, steps_refusal}
 use Rattle.re_frame.proofs.Said.{check_says}
 use Rattle.re_frame.specs.Outcomes.{Outcome, limit, limit_of}
@@ -99,7 +99,7 @@ text_says bytes =
     (sound_says (back_problem (codes "to") bytes) (chain_of (front_bound (codes "to") bytes)))
 
 reduced_says : (reduced : Option NamedProblem) → MaySay (reduced_outcome reduced).status false
-reduced_says (Some reduced) = tt
+reduced_says (Some reduced) = problem_says reduced false
 reduced_says None = tt
 
 pub word_says : (word : BridgeWord) (bytes : List ℕ) → MaySay (word_outcome word bytes).status (is_judging word)

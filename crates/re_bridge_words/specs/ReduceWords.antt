@@ -4,14 +4,14 @@ use Rattle.re_problem.specs.CanonicalTexts.{canonical}
 use Rattle.re_problem.specs.NamedProblems.{NamedProblem, unnamed}
 use Rattle.re_problem.specs.ProblemTexts.{first_fault, lines_of, problem_of}
 use Rattle.re_laws.specs.Algorithms.{Solvable}
-use Rattle.re_chain_texts.specs.OverChains.{or_fault}
-use Rattle.re_frame.specs.Outcomes.{Outcome, done, limit_of}
+use Rattle.re_chain_texts.specs.OverChains.{or_fault, problem_outcome}
+use Rattle.re_frame.specs.Outcomes.{Outcome, limit_of}
 use Rattle.re_bridge.specs.Reductions.{Reduces, reduced_of, reduction}
 use Rattle.re_bridge_words.specs.declared.answering.TheConstants.{MAX_TRIES}
 
--- the canonical text of the reduced problem, or that the tries don't suffice
+-- the text of the reduced problem, where it isn't too long to be read, or that the tries don't suffice
 abbrev pub reduced_outcome : Option NamedProblem → Outcome
-reduced_outcome (Some reduced) = done (canonical reduced)
+reduced_outcome (Some reduced) = problem_outcome reduced
 reduced_outcome None = limit_of MAX_TRIES (codes "tries")
 
 -- what the word gives to a problem text

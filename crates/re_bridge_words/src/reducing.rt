@@ -9,18 +9,19 @@ ghost use Rattle.std.specs.Prelude.{◌≡◌, ◌≤◌, IfOk, length};
 
 use crate::answering::MAX_TRIES;
 use re_bridge::{ReduceFault, reduce};
-use re_frame::{Output, done, fault_output, limit_of};
+use re_chain_texts::problem_output;
+use re_frame::{Output, fault_output, limit_of};
 use re_labels::NoMemory;
-use re_problem::{Problem, TextFault, print_problem, read_problem};
+use re_problem::{Problem, TextFault, read_problem};
 use std::alloc::Global;
 
 // What the word gives to a problem.
-fn problem_output(alloc: Global, problem: &Problem) -> Result<Output, NoMemory>
+fn reduced_output(alloc: Global, problem: &Problem) -> Result<Output, NoMemory>
     ensures output { IfOk result (λ output. outcome_of output ≡ reduced_outcome (reduced_of problem.now MAX_TRIES)) }
     ensures text { IfOk result (λ output. (outcome_of output).status ≡ Done → IsReducedText problem.now output.text.items) }
 {
     match reduce(alloc, problem, MAX_TRIES) {
-        Ok(reduced) => Ok(done(print_problem(alloc, &reduced)?)),
+        Ok(reduced) => problem_output(alloc, &reduced),
         Err(ReduceFault::TooManyTries) => limit_of(alloc, MAX_TRIES as usize, "tries"),
         Err(ReduceFault::NoMemory) => Err(NoMemory),
     }
@@ -34,7 +35,7 @@ pub(crate) fn reduce_output(alloc: Global, text: &[u8]) -> Result<Output, NoMemo
     ensures text { IfOk result (λ output. (outcome_of output).status ≡ Done → ReduceWorth text.now output.text.items) }
 {
     match read_problem(alloc, text) {
-        Ok(problem) => problem_output(alloc, &problem),
+        Ok(problem) => reduced_output(alloc, &problem),
         Err(TextFault::Bad(fault)) => Ok(fault_output(alloc, fault)?),
         Err(TextFault::NoMemory) => Err(NoMemory),
     }

@@ -1,6 +1,8 @@
 -- What is read of a text for a word, and what words give.
 use Rattle.std.proofs.Common.{◌≡◌, ℕ, Bool, true, false, List, Option, Some, None, refl, sym, ap, ◌∙◌, subst}
 use Rattle.std.specs.Prelude.{Err, IfOk, Ok, Result, if◌then◌else◌, length, nat_lt, option_map}
+use Rattle.re_problem.specs.CanonicalTexts.{canonical}
+use Rattle.re_problem.specs.NamedProblems.{NamedProblem}
 use Rattle.re_problem.specs.declared.fault.InputFault.{InputFault}
 use Rattle.re_problem.specs.declared.fault.InputFault.TheVariants as input
 use Rattle.re_cert.specs.Bounds.{Bound}
@@ -20,7 +22,7 @@ use Rattle.re_frame.specs.declared.status.Status.TheVariants as status
 use Rattle.re_io.specs.declared.read.TheConstants.{MAX_BYTES}
 use Rattle.re_chain_parts.specs.Chains.{IsSoundChain}
 use Rattle.re_chain_texts.specs.ChainTexts.{chain_fault, text_chain}
-use Rattle.re_chain_texts.specs.OverChains.{GivesSound, GivesText, IsAnswered, IsJudged, IsTextOf, ReadsSound, certificate_outcome, or_fault, or_refusal, over_any, over_sound, refusal_of, steps_refusal}
+use Rattle.re_chain_texts.specs.OverChains.{GivesSound, GivesText, IsAnswered, IsJudged, IsTextOf, ReadsSound, certificate_outcome, or_fault, or_refusal, over_any, over_sound, problem_outcome, refusal_of, steps_refusal}
 use Rattle.re_chain_texts.specs.declared.over_chains.ChainRead.{ChainRead}
 use Rattle.re_chain_texts.specs.declared.over_chains.ChainRead.TheVariants.{Answered, Chain}
 
@@ -126,6 +128,10 @@ limited_says false text judging = tt
 pub certificate_says : (bound : Bound) (judging : Bool) → MaySay (certificate_outcome bound).status judging
 unfolding within_limit
 certificate_says bound judging = limited_says (nat_lt MAX_BYTES (length (certificate_text bound))) (certificate_text bound) judging
+
+pub problem_says : (problem : NamedProblem) (judging : Bool) → MaySay (problem_outcome problem).status judging
+unfolding within_limit
+problem_says problem judging = limited_says (nat_lt MAX_BYTES (length (canonical problem))) (canonical problem) judging
 
 -- a text that is given is that of the certificate
 short_text : (over : Bool) (text : List ℕ) (outcome : Outcome) → outcome ≡ (if over then too_long else done text) → outcome.status ≡ status.Done → outcome ≡ done text

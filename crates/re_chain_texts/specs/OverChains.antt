@@ -1,5 +1,7 @@
 -- What a word gives to a text, by what it gives to the chain of the text.
 use Rattle.std.specs.Prelude.{◌≡◌, ◌≤◌, ℕ, length, Bool, true, false, List, Option, Some, None, option_map}
+use Rattle.re_problem.specs.CanonicalTexts.{canonical}
+use Rattle.re_problem.specs.NamedProblems.{NamedProblem}
 use Rattle.re_problem.specs.declared.fault.InputFault.{InputFault}
 use Rattle.re_cert.specs.Bounds.{Bound}
 use Rattle.re_cert.specs.CertificateTexts.{certificate_fault, certificate_of, text_lines}
@@ -75,6 +77,12 @@ IsJudged given (Answered output) = IsAnswered (λ word. or_refusal (steps_refusa
 abbrev pub certificate_outcome : Bound → Outcome
 certificate_outcome bound = within_limit done (certificate_text bound)
 
+-- ---- problems as answers
+-- the canonical text of the problem, where it is no longer than a text that is read may be
+abbrev pub problem_outcome : NamedProblem → Outcome
+problem_outcome problem = within_limit done (canonical problem)
+
+-- ---- what texts are worth
 -- the text is no longer than a text that is read may be, has no fault, and is read as this certificate
 pub record IsTextOf (bound : Bound) (text : List ℕ) : Type 0 where
   pub short : length text ≤ MAX_BYTES

@@ -1,8 +1,11 @@
-//! Chains of steps as texts: read, judged step by step, and printed. What each word does to a chain is said and done over one reading.
+//! Chains of steps as texts: read, judged step by step, and printed. What each word does to a chain is said and done over one reading. And problems
+//! as answers.
 #![tactic(auto)]
 
 mod chain_text;
 mod over_chains;
 
 pub use chain_text::{is_certificate_text, problem_chain, read_bound, read_chain};
-pub use over_chains::{ChainRead, certificate_output, read_any, read_sound, steps_refusal};
+pub use over_chains::{
+    ChainRead, certificate_output, problem_output, read_any, read_sound, steps_refusal,
+};

@@ -1,8 +1,10 @@
 //! Words over chains: what all of them answer where the text has a fault or a step fails, and the text of a certificate as an answer.
-ghost use Rattle.re_chain_texts.specs.OverChains.{GivesText, IsJudged, ReadsAny, ReadsSound, certificate_outcome, refusal_of, steps_refusal};
+ghost use Rattle.re_chain_texts.specs.OverChains.{GivesText, IsJudged, ReadsAny, ReadsSound, certificate_outcome, problem_outcome, refusal_of, steps_refusal};
 ghost use Rattle.re_check.specs.Verdicts.{steps_fault};
 ghost use Rattle.re_frame.specs.Outcomes.{outcome_of};
+ghost use Rattle.re_frame.specs.declared.status.Status.TheVariants.{Done};
 ghost use Rattle.re_io.specs.declared.read.TheConstants.{MAX_BYTES};
+ghost use Rattle.re_problem.specs.CanonicalTexts.{canonical};
 ghost use Rattle.std.specs.Prelude.{◌≡◌, ◌≤◌, ◌+◌, IfOk, length, option_map};
 
 use crate::chain_text::read_chain;
@@ -13,7 +15,7 @@ use re_check::{Verdict, step_clause};
 use re_frame::{Output, done, fault_output, too_long, verdict_output};
 use re_io::MAX_BYTES;
 use re_labels::NoMemory;
-use re_problem::{Problem, TextFault};
+use re_problem::{Problem, TextFault, print_problem};
 use std::alloc::Global;
 
 /// What is read of a text for a word: the chain on which the word goes on, or the output that is its answer already.
@@ -92,6 +94,21 @@ pub fn certificate_output(alloc: Global, certificate: &Certificate) -> Result<Ou
 {
     let text = print_certificate(alloc, certificate)?;
     if text.len() > MAX_BYTES {
+        return Ok(too_long(alloc)?);
+    }
+    Ok(done(text))
+}
+
+/// The output that is the canonical text of a problem, or the limit exactly where that text is longer than `MAX_BYTES` bytes, and so
+/// would be read by no word.
+#[tactic(auto, unfolding(re_frame::specs::Outcomes::within_limit))]
+pub fn problem_output(alloc: Global, problem: &Problem) -> Result<Output, NoMemory>
+    ensures outcome { IfOk result (λ output. outcome_of output ≡ problem_outcome problem.now) }
+    ensures text { IfOk result (λ output. (outcome_of output).status ≡ Done → output.text.items ≡ canonical problem.now) }
+{
+    let text = print_problem(alloc, problem)?;
+    let length = text.len();
+    if length > MAX_BYTES {
         return Ok(too_long(alloc)?);
     }
     Ok(done(text))

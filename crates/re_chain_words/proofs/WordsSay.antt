@@ -1,7 +1,7 @@
 -- What the words may say.
 use Rattle.std.proofs.Common.{ℕ, true, false, List, [], Option, Some, None, refl}
 use Rattle.re_problem.specs.ProblemTexts.{first_fault, lines_of, problem_of}
-use Rattle.re_cert.specs.Bounds.{Bound}
+use Rattle.re_cert.specs.Bounds.{Bound, last_problem}
 use Rattle.re_cert.specs.CertificateTexts.{certificate_fault, certificate_of, text_lines}
 use Rattle.re_chain_parts.specs.Chains.{chain_with}
 use Rattle.re_chain_texts.specs.OverChains.{certificate_outcome}
@@ -11,7 +11,7 @@ use Rattle.re_chain.specs.declared.refusal.Refusal.{Refusal}
 use Rattle.re_chain_steps.specs.declared.stepping.ChainStepFault.{ChainStepFault}
 use Rattle.re_chain_steps.specs.declared.stepping.ChainStepFault.TheVariants.{Limit, NoMemory, TooManySteps}
 use Rattle.re_step.specs.declared.derivation.StepLimit.{StepLimit}
-use Rattle.re_chain_texts.proofs.WordsGiven.{certificate_says, or_fault_says, over_any_says, over_sound_says}
+use Rattle.re_chain_texts.proofs.WordsGiven.{certificate_says, or_fault_says, over_any_says, over_sound_says, problem_says}
 use Rattle.re_chain_words.specs.Answers.{begin_outcome, is_judging, last_outcome, or_stop, shaped_outcome, step_outcome, tidy_outcome, word_outcome}
 use Rattle.re_chain_words.specs.Shapings.{drop_outcome, merge_outcome, name_outcome, or_line, or_merge_line}
 use Rattle.re_chain_words.specs.declared.words.ChainWord.{ChainWord}
@@ -44,6 +44,6 @@ shaped_says (Drop x) chain = or_line_says _ _ _
 pub word_says : (word : ChainWord) (bytes : List ℕ) → MaySay (word_outcome word bytes).status (is_judging word)
 unfolding begin_outcome last_outcome tidy_outcome
 word_says (Begin kind) bytes = or_fault_says (first_fault 0 1 (lines_of bytes)) (certificate_outcome (chain_with kind (problem_of (lines_of bytes)) [])) false (certificate_says (chain_with kind (problem_of (lines_of bytes)) []) false)
-word_says Last bytes = over_any_says last_outcome bytes false (λ chain. tt)
+word_says Last bytes = over_any_says last_outcome bytes false (λ chain. problem_says (last_problem chain) false)
 word_says Tidy bytes = or_fault_says (certificate_fault (text_lines bytes)) (certificate_outcome (tidied (certificate_of (text_lines bytes)))) false (certificate_says (tidied (certificate_of (text_lines bytes))) false)
 word_says (Shape shaping) bytes = over_sound_says (shaped_outcome shaping) bytes (shaped_says shaping)

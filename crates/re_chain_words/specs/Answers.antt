@@ -1,12 +1,11 @@
 -- What the words give.
 use Rattle.std.specs.Prelude.{◌≡◌, ℕ, suc, Bool, true, false, List, [], codes, length, Option, None, Some}
-use Rattle.re_problem.specs.CanonicalTexts.{canonical}
 use Rattle.re_problem.specs.ProblemTexts.{first_fault, lines_of, problem_of}
 use Rattle.re_cert.specs.Bounds.{Bound, last_problem}
 use Rattle.re_cert.specs.CertificateTexts.{certificate_fault, certificate_of, text_lines}
 use Rattle.re_cert.specs.declared.certificate.Kind.{Kind}
 use Rattle.re_cert.specs.declared.certificate.TheConstants.{MAX_STEPS}
-use Rattle.re_frame.specs.Outcomes.{Outcome, done, limit, limit_of}
+use Rattle.re_frame.specs.Outcomes.{Outcome, limit, limit_of}
 use Rattle.re_frame.specs.StepLimits.{limit_line}
 use Rattle.re_frame.specs.declared.status.Status.TheVariants.{Done}
 use Rattle.re_chain_parts.specs.Chains.{chain_with}
@@ -14,7 +13,7 @@ use Rattle.re_chain_steps.specs.Stepped.{stepped, stepping_fault}
 use Rattle.re_chain_steps.specs.declared.stepping.ChainStepFault.{ChainStepFault}
 use Rattle.re_chain_steps.specs.declared.stepping.ChainStepFault.TheVariants.{Limit}
 use Rattle.re_chain_texts.specs.ChainTexts.{text_chain}
-use Rattle.re_chain_texts.specs.OverChains.{IsSoundText, IsTextOf, certificate_outcome, or_fault, over_any, over_sound}
+use Rattle.re_chain_texts.specs.OverChains.{IsSoundText, IsTextOf, certificate_outcome, or_fault, over_any, over_sound, problem_outcome}
 use Rattle.re_chain.specs.Dropping.{dropped}
 use Rattle.re_chain.specs.Merging.{merged}
 use Rattle.re_chain.specs.Naming.{named}
@@ -32,9 +31,9 @@ begun kind bytes = chain_with kind (problem_of (lines_of bytes)) []
 unfoldable pub begin_outcome : Kind → List ℕ → Outcome
 begin_outcome kind bytes = or_fault (first_fault 0 1 (lines_of bytes)) (certificate_outcome (begun kind bytes))
 
--- `last`: the last problem
+-- `last`: the last problem, where its text isn't too long to be read
 unfoldable pub last_outcome : Bound → Outcome
-last_outcome chain = done (canonical (last_problem chain))
+last_outcome chain = problem_outcome (last_problem chain)
 
 -- `tidy`: the certificate of the text in order
 unfoldable pub tidy_outcome : List ℕ → Outcome

@@ -15,10 +15,10 @@ use crate::words::{ChainWord, Shaping};
 use re_cert::{Certificate, Kind, read_certificate};
 use re_chain::tidy;
 use re_chain_parts::{chain_kind, over_problems};
-use re_chain_texts::{ChainRead, certificate_output, read_any, read_sound};
-use re_frame::{Finding, Output, done, fault_output};
+use re_chain_texts::{ChainRead, certificate_output, problem_output, read_any, read_sound};
+use re_frame::{Finding, Output, fault_output};
 use re_labels::NoMemory;
-use re_problem::{Problem, TextFault, print_problem, read_problem};
+use re_problem::{Problem, TextFault, read_problem};
 use std::alloc::Global;
 
 // The chain of this kind without steps.
@@ -66,7 +66,7 @@ fn begin_output(alloc: Global, kind: Kind, text: &[u8]) -> Result<Output, NoMemo
 fn last_problem(alloc: Global, chain: &Certificate) -> Result<Output, NoMemory>
     ensures { IfOk result (λ output. outcome_of output ≡ last_outcome chain.now) }
 {
-    Ok(done(print_problem(alloc, chain.last())?))
+    problem_output(alloc, chain.last())
 }
 
 fn last_output(alloc: Global, text: &[u8]) -> Result<Output, NoMemory>

@@ -8,6 +8,6 @@ use Rattle.re_bridge_words.proofs.reducing.reduce_output.Goals as goal
 pub returns-in-Ok-clause-text : goal.returns-in-Ok-clause-text
 unfolding ReduceWorth
 returns-in-Ok-clause-text c =
-    IfOk-weaker c.problem_output.result _ _
+    IfOk-weaker c.reduced_output.result _ _
     (λ output gives. subst (λ problem. (outcome_of output).status ≡ Done → IsReducedText problem output.text.items) c.in-Ok.ensures.1 gives)
-    c.problem_output.ensures.text
+    c.reduced_output.ensures.text

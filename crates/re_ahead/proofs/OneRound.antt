@@ -1,5 +1,5 @@
 -- One round: a row of the problem, and the problem of its places.
-use Rattle.std.proofs.Common.{◌≡◌, ℕ, zero, suc, ◌+◌, ◌<◌, ◌≤◌, List, [], ◌∷◌, length, map, get_or, refl, sym, ap, ◌∙◌, subst, arith, ◌↔◌, inl, inr}
+use Rattle.std.proofs.Common.{◌≡◌, ℕ, zero, suc, ◌<◌, ◌≤◌, List, [], ◌∷◌, length, map, get_or, refl, sym, ap, ◌∙◌, subst, arith, inl, inr}
 use Rattle.std.specs.Prelude.{Contains, ◌⊎◌}
 use Rattle.std.specs.List.{AllByRecursion}
 use Rattle.std.proofs.lemmas.List.{get_or-map, length-map}
@@ -9,13 +9,13 @@ use Rattle.re_labels.specs.Lists.{IsRising, count_from}
 use Rattle.re_config.proofs.LawsOfRows.{multisets_law}
 use Rattle.re_config.proofs.Placing.{placed_whole}
 use Rattle.re_config.proofs.Rearranging.{Rearranged-map, Rearranged-sym}
-use Rattle.re_config.proofs.Sorting.{IsConfig-sorted, Rearranged-sorted, sorted_again}
+use Rattle.re_config.proofs.Sorting.{IsConfig-sorted, Rearranged-sorted}
 use Rattle.re_config.specs.Configs.{IsConfig, sorted}
 use Rattle.re_config.specs.Orders.{multisets}
 use Rattle.re_config.specs.Rows.{placed, set_at}
 use Rattle.re_table.proofs.Goodness.{IsAllowed-Rearranged}
-use Rattle.re_table.specs.Constraints.{Constraint, Has, IsConstraint}
-use Rattle.re_table.specs.GoodRows.{IsAllowed, IsGood, max_sets}
+use Rattle.re_table.specs.Constraints.{Constraint, Has}
+use Rattle.re_table.specs.GoodRows.{IsAllowed, IsGood}
 use Rattle.re_problem.specs.Problems.{IsProblem, Problem}
 use Rattle.re_problem.specs.Steps.{IsUpper}
 use Rattle.re_problem.specs.Zero.{Zero}

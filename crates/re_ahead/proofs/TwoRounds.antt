@@ -4,7 +4,7 @@ use Rattle.std.specs.Prelude.{Contains}
 use Rattle.std.specs.List.{AllByRecursion, AllZip, flat_map}
 use Rattle.std.proofs.lemmas.List.{get_or-map, get_or_default, length-map, length-replicate}
 use Rattle.std.proofs.lemmas.List.Elements.{Contains-get_or}
-use Rattle.re_labels.proofs.Membership.{AllByRecursion-contains, AllByRecursion-from_contains, Contains-count_from, Contains-filter, Contains-filter_cases, Contains-flat_map, Contains-flat_map_cases, Contains-map, Contains-map_cases, count_from_range, get_or-count_from, length-count_from}
+use Rattle.re_labels.proofs.Membership.{AllByRecursion-from_contains, Contains-count_from, Contains-filter, Contains-filter_cases, Contains-flat_map, Contains-flat_map_cases, Contains-map, Contains-map_cases, count_from_range, get_or-count_from, length-count_from}
 use Rattle.re_labels.proofs.Tests.{eqb-same, eqb-true}
 use Rattle.re_labels.specs.Lists.{IsRising, count_from}
 use Rattle.re_labels.specs.Sets.{IsIn}
@@ -16,10 +16,10 @@ use Rattle.re_config.proofs.Sorting.{IsConfig-sorted, Rearranged-sorted}
 use Rattle.re_config.specs.Configs.{IsConfig, sorted}
 use Rattle.re_config.specs.Orders.{multisets}
 use Rattle.re_config.specs.Rows.{IsChoice, placed, set_at}
-use Rattle.re_table.proofs.Goodness.{IsAllowed-Rearranged, IsGood-Rearranged, IsGood-is_good, is_allowed-IsAllowed, is_good-IsGood}
+use Rattle.re_table.proofs.Goodness.{IsAllowed-Rearranged, IsGood-Rearranged, IsGood-is_good, is_good-IsGood}
 use Rattle.re_table.proofs.MaxSets.{allowed_law}
-use Rattle.re_table.specs.Constraints.{Constraint, Has}
-use Rattle.re_table.specs.GoodRows.{IsAllowed, IsGood, allowed, is_allowed, is_good}
+use Rattle.re_table.specs.Constraints.{Has}
+use Rattle.re_table.specs.GoodRows.{IsAllowed, IsGood, allowed, is_good}
 use Rattle.re_problem.specs.Problems.{Problem}
 use Rattle.re_problem.specs.Steps.{IsUpper}
 use Rattle.re_ahead.proofs.OneRound.{HasDegrees, allowed-labels}

@@ -1,3 +1,4 @@
 pub mod Ahead
 pub mod Laws
 pub mod RowTests
+pub mod Searching

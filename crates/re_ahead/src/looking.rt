@@ -1,10 +1,12 @@
 //! What is told of the rounds of a problem without its derived problem.
 ghost use Rattle.re_ahead.specs.Ahead.{IsTold};
+ghost use Rattle.re_laws.specs.Algorithms.{Solvable};
 ghost use Rattle.re_problem.specs.NamedProblems.{unnamed};
 ghost use Rattle.re_table.specs.GoodRows.{max_rows};
 ghost use Rattle.std.specs.Prelude.{◌≡◌, ◌≤◌, IfOk, length, ℕ};
 
 use crate::one::find_row;
+use crate::two::{Told, find_rows};
 use re_config::Row;
 use re_labels::NoMemory;
 use re_problem::Problem;
@@ -20,19 +22,39 @@ pub enum Ahead {
     MoreThan(u8),
 }
 
-// The same, with the maximal rows.
-fn look_with(alloc: Global, problem: &Problem, rows: &[Row]) -> Result<Ahead, NoMemory>
+// What is told by two rounds, where one is too few.
+fn look_on(alloc: Global, problem: &Problem, rows: &[Row]) -> Result<Ahead, NoMemory>
     requires rows { rows.now ≡ max_rows problem.now.passive (length problem.now.names) }
-    ensures { (most : ℕ) → 1 ≤ most → IfOk result (IsTold (unnamed problem.now) most) }
+    requires few { Solvable (unnamed problem.now) 1 → ⊥ }
+    ensures { (most : ℕ) → 2 ≤ most → IfOk result (IsTold (unnamed problem.now) most) }
 {
-    match find_row(alloc, problem, rows)? {
-        Some(_) => Ok(Ahead::Exactly(1)),
-        None => Ok(Ahead::MoreThan(1)),
+    match find_rows(alloc, problem, rows)? {
+        Told::Enough => Ok(Ahead::Exactly(2)),
+        Told::TooFew => Ok(Ahead::MoreThan(2)),
+        Told::Untold => Ok(Ahead::MoreThan(1)),
     }
 }
 
-/// What is told of the rounds from 1 to the most without a derived problem: one round by the maximal rows of the passive side. Nothing is
-/// told where there are more than `re_config::MAX_ROWS`. It costs what `re_universal::maximal_rows` and `find_row` cost.
+// The same, with the maximal rows.
+fn look_with(alloc: Global, problem: &Problem, rows: &[Row], most: u8) -> Result<Ahead, NoMemory>
+    requires rows { rows.now ≡ max_rows problem.now.passive (length problem.now.names) }
+    requires most { 1 ≤ most }
+    ensures { IfOk result (IsTold (unnamed problem.now) most) }
+{
+    match find_row(alloc, problem, rows)? {
+        Some(_) => Ok(Ahead::Exactly(1)),
+        None => {
+            if most == 1 {
+                return Ok(Ahead::MoreThan(1));
+            }
+            look_on(alloc, problem, rows)
+        }
+    }
+}
+
+/// What is told of the rounds from 1 to the most without a derived problem: one round and two, by the maximal rows of the passive side.
+/// Nothing is told where there are more than `re_config::MAX_ROWS`, and nothing of two rounds where `find_rows` tells nothing. It costs
+/// what `re_universal::maximal_rows`, `find_row` and `find_rows` cost.
 pub fn look_ahead(alloc: Global, problem: &Problem, most: u8) -> Result<Ahead, NoMemory>
     ensures { IfOk result (IsTold (unnamed problem.now) most) }
 {
@@ -41,7 +63,7 @@ pub fn look_ahead(alloc: Global, problem: &Problem, most: u8) -> Result<Ahead, N
     }
     let labels = problem.names().len() as u8;
     match maximal_rows(alloc, problem.passive(), labels) {
-        Ok(rows) => look_with(alloc, problem, rows.as_slice()),
+        Ok(rows) => look_with(alloc, problem, rows.as_slice(), most),
         Err(RowsFault::TooManyRows) => Ok(Ahead::MoreThan(0)),
         Err(RowsFault::NoMemory) => Err(NoMemory),
     }

@@ -29,7 +29,7 @@ fn set_at(sets: &[LabelSet], place: usize) -> LabelSet
 }
 
 // The sets at these places.
-fn sets_at(sets: &[LabelSet], places: &[u8]) -> ArrayVec<LabelSet, 6>
+pub(crate) fn sets_at(sets: &[LabelSet], places: &[u8]) -> ArrayVec<LabelSet, 6>
     requires six { length places.now ≤ 6 }
     ensures { result.items ≡ placed sets.now places.now }
 {

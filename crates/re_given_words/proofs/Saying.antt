@@ -5,7 +5,7 @@ use Rattle.re_problem.specs.declared.fault.InputFault.{InputFault as Fault}
 use Rattle.re_cert.specs.Bounds.{Bound}
 use Rattle.re_cert.specs.declared.certificate.Kind.{Kind}
 use Rattle.re_cert.specs.declared.certificate.Kind.TheVariants.{Fixed, Lower, Upper}
-use Rattle.re_chain_texts.proofs.WordsGiven.{or_fault_says}
+use Rattle.re_chain_texts.proofs.WordsGiven.{or_fault_says, problem_says}
 use Rattle.re_chain_texts.specs.OverChains.{or_refusal, steps_refusal}
 use Rattle.re_check.specs.Verdicts.{meets_back}
 use Rattle.re_fit.specs.InputProblems.{input_fault}
@@ -14,7 +14,7 @@ use Rattle.re_check.specs.declared.verdict.Verdict.{Verdict}
 use Rattle.re_frame.proofs.Said.{check_says, fault_says, says_as}
 use Rattle.re_frame.specs.Outcomes.{Outcome}
 use Rattle.re_frame.specs.Runs.{MaySay}
-use Rattle.re_inputs.specs.NamedProducts.{product_fault}
+use Rattle.re_inputs.specs.NamedProducts.{named_product, product_fault}
 use Rattle.re_inputs.specs.declared.products.ProductFault.{ProductFault}
 use Rattle.re_inputs.specs.declared.products.ProductFault.TheVariants.{Nameless, NoMemory, TooManyConfigurations, TooManyLabels}
 use Rattle.re_two_texts.specs.TwoTexts.{back_problem, front_bound, two_fault}
@@ -115,7 +115,7 @@ reason_says problem input NoMemory = tt
 
 made_says : (problem input : NamedProblem) (fault : Option ProductFault) → MaySay (made_or_refused problem input fault).status true
 made_says problem input (Some fault) = reason_says problem input fault
-made_says problem input None = tt
+made_says problem input None = problem_says (named_product problem input) true
 
 product_says : (bytes : List ℕ) → MaySay (product_outcome bytes).status true
 unfolding product_outcome

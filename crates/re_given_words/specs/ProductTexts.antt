@@ -1,15 +1,14 @@
 -- What `product` answers to a text: a problem text, a line `== given` and an input problem.
 use Rattle.std.specs.Prelude.{◌≡◌, ℕ, ◌↔◌, List, ◌++◌, codes, if◌then◌else◌, Option, None, Some}
 use Rattle.std.specs.Fmt.{decimal}
-use Rattle.re_chain_texts.specs.OverChains.{or_fault}
+use Rattle.re_chain_texts.specs.OverChains.{or_fault, problem_outcome}
 use Rattle.re_fit.specs.InputProblems.{input_fault}
-use Rattle.re_frame.specs.Outcomes.{Outcome, done, limit, refused}
+use Rattle.re_frame.specs.Outcomes.{Outcome, limit, refused}
 use Rattle.re_frame.specs.declared.status.Status.TheVariants.{Done}
 use Rattle.re_given.specs.Given.{SolvableGiven}
 use Rattle.re_inputs.specs.NamedProducts.{is_long, named_product, pair_count, pair_name, product_fault}
 use Rattle.re_inputs.specs.declared.products.ProductFault.{ProductFault}
 use Rattle.re_inputs.specs.declared.products.ProductFault.TheVariants.{Nameless, NoMemory, TooManyConfigurations, TooManyLabels}
-use Rattle.re_problem.specs.CanonicalTexts.{canonical}
 use Rattle.re_problem.specs.NamedProblems.{NamedProblem, unnamed}
 use Rattle.re_given_words.specs.GivenTexts.{given_fault, given_input, given_problem}
 use Rattle.re_given_words.specs.InputFaults.{or_input_fault}
@@ -31,10 +30,10 @@ product_refusal problem input TooManyConfigurations = limit (codes "limit: more 
 product_refusal problem input NoMemory = limit (codes "")
 
 -- ---- the answer
--- the product, where there is none of these reasons
+-- the product, where there is none of these reasons, and its text isn't too long to be read
 abbrev pub made_or_refused : NamedProblem → NamedProblem → Option ProductFault → Outcome
 made_or_refused problem input (Some fault) = product_refusal problem input fault
-made_or_refused problem input None = done (canonical (named_product problem input))
+made_or_refused problem input None = problem_outcome (named_product problem input)
 
 -- the line of the fault of the input problem comes before
 abbrev pub product_answer : NamedProblem → NamedProblem → Outcome

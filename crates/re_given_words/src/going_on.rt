@@ -28,8 +28,8 @@ pub fn given_verdict(
     given_output(alloc, BoundWord::Given, bound, input)
 }
 
-// Whether it is Done.
-fn is_done(answer: Answer) -> bool
+/// Whether the answer is Done.
+pub fn is_done(answer: Answer) -> bool
     ensures { IsTrue result ↔ status_of answer ≡ Done }
 {
     matches!(answer, Answer::Done)

@@ -20,7 +20,7 @@ pub use counting::{Counted, RoundsTexts, count, count_within};
 pub use ends::{Ends, FEW_TRIES, ends_after};
 pub use faults::input_fault_output;
 pub use fitting::MAX_TRIES;
-pub use going_on::{extended_given, given_verdict, is_accepted, taken_law};
+pub use going_on::{extended_given, given_verdict, is_accepted, is_done, taken_law};
 pub use texts::{GIVEN, GivenTexts, read_given};
 pub use words::{BoundWord, GivenWord, given_help, given_word};
 

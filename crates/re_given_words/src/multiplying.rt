@@ -9,11 +9,12 @@ ghost use Rattle.std.specs.Prelude.{◌≡◌, ◌≤◌, ◌<◌, ◌++◌, IfO
 
 use crate::faults::input_fault_output;
 use crate::texts::{GivenTexts, read_given};
+use re_chain_texts::problem_output;
 use re_fit::input_fault;
-use re_frame::{Answer, Output, begun, done, fault_output, push_number, push_words, refused};
+use re_frame::{Answer, Output, begun, fault_output, push_number, push_words, refused};
 use re_inputs::{ProductFault, pair_name, product};
 use re_labels::{NoMemory, is_name};
-use re_problem::{Problem, TextFault, print_problem};
+use re_problem::{Problem, TextFault};
 use std::alloc::Global;
 
 // The words and a name in parentheses.
@@ -94,7 +95,7 @@ fn multiplied(alloc: Global, problem: &Problem, input: &Problem) -> Result<Outpu
     ensures { IfOk result (λ output. outcome_of output ≡ made_or_refused problem.now input.now (product_fault problem.now input.now)) }
 {
     match product(alloc, problem, input) {
-        Ok(made) => Ok(done(print_problem(alloc, &made)?)),
+        Ok(made) => problem_output(alloc, &made),
         Err(fault) => refusal_output(alloc, problem, input, fault),
     }
 }

@@ -1,3 +1,5 @@
+mod FoundGiven
+mod GivenSaying
 pub mod Saying
 mod Shortening
 mod WordCounts

@@ -1,2 +1,3 @@
+pub mod GivenAnswers
 pub mod MayGive
 pub mod Words

@@ -9,9 +9,11 @@ ghost use Rattle.re_frame.specs.Outcomes.{outcome_of};
 ghost use Rattle.re_io.specs.declared.read.TheConstants.{MAX_BYTES};
 ghost use Rattle.re_problem.specs.NamedProblems.{unnamed};
 ghost use Rattle.re_problem.specs.Zero.{zero_place};
+ghost use Rattle.re_search_words.specs.GivenAnswers.{MayGiveText};
 ghost use Rattle.re_search_words.specs.MayGive.{MayFindBehind, MayGive, MayGiveAt, MayGiveSound, MayShorten, upper_chain, word_chain};
 ghost use Rattle.std.specs.Prelude.{◌≡◌, ◌≤◌, IfOk, None, Some, length};
 
+use crate::given::given_output;
 use crate::words::SearchWord;
 use re_cert::{Certificate, Kind};
 use re_chain_texts::{certificate_output, is_certificate_text, read_chain, steps_refusal};
@@ -20,9 +22,11 @@ use re_frame::{
     Finding, Output, fault_output, limit_of, not_found_output, not_lower_output, not_upper_output,
     solvable_output, verdict_output,
 };
+use re_given_words::GIVEN;
 use re_labels::NoMemory;
 use re_longest::{Longest, Shortest, find_longest, find_shortest};
 use re_problem::TextFault;
+use re_two_texts::has_line;
 use std::alloc::Global;
 
 // What `longest` gives to a sound chain of kind lower.
@@ -164,8 +168,8 @@ fn upper_chain(alloc: Global, text: &[u8], chain: Certificate) -> Result<Certifi
     }
 }
 
-// The chain that the text stands for to the word, of the one that it writes.
-fn word_chain(
+/// The chain that the text stands for to the word, of the one that it writes.
+pub(crate) fn word_chain(
     alloc: Global,
     word: SearchWord,
     text: &[u8],
@@ -194,9 +198,9 @@ fn read_output(
     sound_output(alloc, word, &chain)
 }
 
-// What the word gives to a text.
+// What the word gives to a text without a line `== given`.
 #[tactic(auto, unfolding(crate::specs::MayGive::MayGive))]
-fn text_output(alloc: Global, word: SearchWord, text: &[u8]) -> Result<Output, NoMemory>
+fn plain_output(alloc: Global, word: SearchWord, text: &[u8]) -> Result<Output, NoMemory>
     requires { length text.now ≤ MAX_BYTES }
     ensures { IfOk result (λ output. MayGive word text.now (outcome_of output)) }
 {
@@ -207,14 +211,27 @@ fn text_output(alloc: Global, word: SearchWord, text: &[u8]) -> Result<Output, N
     }
 }
 
+// What the word gives to a text.
+#[tactic(auto, unfolding(crate::specs::GivenAnswers::MayGiveText))]
+fn text_output(alloc: Global, word: SearchWord, text: &[u8]) -> Result<Output, NoMemory>
+    requires { length text.now ≤ MAX_BYTES }
+    ensures { IfOk result (λ output. MayGiveText word text.now (outcome_of output)) }
+{
+    if has_line(GIVEN, text) {
+        given_output(alloc, word, text)
+    } else {
+        plain_output(alloc, word, text)
+    }
+}
+
 impl Finding for SearchWord {
     ghost use Rattle.std.specs.Prelude.{true};
-    ghost use Rattle.re_search_words.specs.MayGive.{MayGive};
+    ghost use Rattle.re_search_words.specs.GivenAnswers.{MayGiveText};
     ghost use Rattle.re_search_words.specs.Words.{IsSearchWord};
 
     ghost fits = { IsSearchWord };
 
-    ghost may = { MayGive };
+    ghost may = { MayGiveText };
 
     ghost judging = { λ _. true };
 

@@ -1,7 +1,9 @@
-//! The words `longest`, `shortest` and `cycle`: searches for a lower bound, an upper bound or a fixed point that goes on from a chain.
+//! The words `longest`, `shortest` and `cycle`: searches for a lower bound, an upper bound or a fixed point that goes on from a chain, alone or
+//! where a solution of an input problem is given.
 #![tactic(auto)]
 
 mod answering;
+mod given;
 mod words;
 
 pub use words::{SearchWord, search_help, search_word};

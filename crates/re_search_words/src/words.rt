@@ -109,5 +109,5 @@ pub fn search_word(words: &[String]) -> Option<SearchWord>
 pub fn search_help() -> &'static str
     ensures { result.now ≡ search_help }
 {
-    "longest K L: reads a chain, gives the longest lower bound that is found with at most K more steps, each to at most L labels\nshortest K L: reads a chain of kind upper or a problem, gives the shortest upper bound that is found with at most K more steps, each to at most L labels\ncycle K M N: reads a chain, gives a fixed point with at most K more steps and at most M merges in each, of at most N problems looked at\n"
+    "longest K L: reads a chain, or one with a line == given and an input problem, gives the longest lower bound that is found with at most K more steps, each to at most L labels\nshortest K L: reads a chain of kind upper or a problem, or one with a line == given and an input problem, gives the shortest upper bound that is found with at most K more steps, each to at most L labels\ncycle K M N: reads a chain, or one with a line == given and an input problem, gives a fixed point with at most K more steps and at most M merges in each, of at most N problems looked at\n"
 }

@@ -1,11 +1,15 @@
 -- What is known of a problem, said of local algorithms.
-use Rattle.std.proofs.Common.{◌≡◌, ℕ, Bool, ◌≤◌, true, ap, refl, ◌∙◌, sym, subst, arith, Option, None, Some}
+use Rattle.std.proofs.Common.{◌≡◌, ℕ, Bool, ◌≤◌, true, [], length, ap, refl, ◌∙◌, sym, subst, arith, Option, None, Some}
 use Rattle.std.specs.Prelude.{if◌then◌else◌}
+use Rattle.re_cert.specs.Bounds.{Bound}
+use Rattle.re_cert.specs.declared.certificate.Kind.TheVariants.{Upper}
+use Rattle.re_chain_parts.specs.Chains.{chain_with}
 use Rattle.re_classes.proofs.Decided.{above_log_star, order_log_star}
 use Rattle.re_given.specs.Given.{SolvableGiven}
 use Rattle.re_given.specs.Inputs.{IsInput}
 use Rattle.re_given_words.proofs.CountingMeans.{count_means}
 use Rattle.re_given_words.specs.Counting.{IsCounted}
+use Rattle.re_given_words.specs.Extensions.{GoesOnGiven}
 use Rattle.re_given_words.specs.declared.counting.Counted.TheVariants as counted
 use Rattle.re_classes.specs.Classes.{IsOrderLogStar}
 use Rattle.re_edge_colours.proofs.EdgeClasses.{order_edge_coloured}
@@ -23,15 +27,16 @@ use Rattle.re_problem.specs.Problems.{IsProblem, Problem}
 use Rattle.re_separating.specs.Laws.{IsBeyondLocal}
 use Rattle.re_settle.specs.Claims.{Holds}
 use Rattle.re_settle.specs.Classes.{ClassHolds, HoldsLocal, SolvableByAny, class_of, few_colours}
-use Rattle.re_settle.specs.Coloured.{IsColoured, IsColouringOf, IsSolvableGivenFew, colours_of, input_kind}
+use Rattle.re_settle.specs.Coloured.{IsColoured, IsColouringOf, IsSolvableGivenFew, IsTriedGiven, colours_of, input_kind}
 use Rattle.re_settle.specs.Ways.{IsExcluded, IsFixedPoint, IsKnown, IsSettled, MayBeColoured}
 use Rattle.re_settle.specs.declared.types.Claim.{Claim}
 use Rattle.re_settle.specs.declared.types.Claim.TheVariants.{AtMost, Between, Exactly, MoreThan, Never}
 use Rattle.re_settle.specs.declared.types.Class.TheVariants as class
 use Rattle.re_settle.specs.declared.types.Coloured.{Coloured}
-use Rattle.re_settle.specs.declared.types.ColouredWay.TheVariants.{Rounds}
+use Rattle.re_settle.specs.declared.types.ColouredWay.TheVariants.{Rounds, Shortest}
 use Rattle.re_settle.specs.declared.types.Settled.TheVariants as settled
 use Rattle.re_settle.specs.declared.types.Way.{Way}
+use Rattle.re_two_texts.specs.GivenTexts.{IsGivenText, given_text}
 
 -- ---- constantly many rounds
 module _ (problem : Problem) (is : IsProblem problem) where
@@ -55,23 +60,42 @@ module _ (problem : Problem) (is : IsProblem problem) where
 
 -- ---- given a proper colouring
 -- some number of rounds is enough
-few-enough : (problem : NamedProblem) (side : Side) (k : ℕ) → SolvableGiven (unnamed problem) (colours_of side problem (few_colours side problem.active.degree problem.passive.degree)) k
+some-enough : (problem : NamedProblem) (side : Side) (k : ℕ) → SolvableGiven (unnamed problem) (colours_of side problem (few_colours side problem.active.degree problem.passive.degree)) k
     → IsSolvableGivenFew side (unnamed problem)
-few-enough problem Active k solvable = (k, solvable)
-few-enough problem Passive k solvable = (k, solvable)
+some-enough problem Active k solvable = (k, solvable)
+some-enough problem Passive k solvable = (k, solvable)
+
+few-enough : (problem input : NamedProblem) (side : Side) (colours k : ℕ) → colours ≡ few_colours side problem.active.degree problem.passive.degree → IsColouringOf problem side colours input
+    → SolvableGiven (unnamed problem) (unnamed input) k → IsSolvableGivenFew side (unnamed problem)
+few-enough problem input side colours k few colouring solvable =
+    some-enough problem side k
+    (subst (λ (c : ℕ). SolvableGiven (unnamed problem) (colours_of side problem c) k) few (subst (λ (p : Problem). SolvableGiven (unnamed problem) p k) colouring.same solvable))
 
 -- what is counted given few colours
-pub counted_coloured : (problem input : NamedProblem) (side : Side) (colours k : ℕ) → IsProblem (unnamed problem)
+pub counted_coloured : (times : ℕ) (problem input : NamedProblem) (side : Side) (colours k : ℕ) → IsProblem (unnamed problem)
     → colours ≡ few_colours side problem.active.degree problem.passive.degree → IsColouringOf problem side colours input
-    → IsCounted (unnamed problem) (Some (unnamed input)) 8 (counted.Exactly k) → IsColoured problem (record { side = side; colours = colours; way = Rounds 8 })
-counted_coloured problem input side colours k is few colouring counts =
+    → IsCounted (unnamed problem) (Some (unnamed input)) 8 (counted.Exactly k) → IsColoured times problem (record { side = side; colours = colours; way = Rounds 8 })
+counted_coloured times problem input side colours k is few colouring counts =
     let means = count_means (unnamed problem) is (Some (unnamed input)) 8 (counted.Exactly k) colouring.is_input counts in
     record {
       tried = refl;
       colours = few;
       shows = (k, subst (λ (p : Problem). IsCounted (unnamed problem) (Some p) 8 (counted.Exactly k)) colouring.same counts);
-      solvable = few-enough problem side k
-          (subst (λ (c : ℕ). SolvableGiven (unnamed problem) (colours_of side problem c) k) few (subst (λ (p : Problem). SolvableGiven (unnamed problem) p k) colouring.same means.0));
+      solvable = few-enough problem input side colours k few colouring means.0;
+    }
+
+-- the upper bound that is found given few colours
+pub shortened_coloured : (times : ℕ) (problem input : NamedProblem) (chain bound : Bound) (side : Side) (colours steps labels : ℕ)
+    → colours ≡ few_colours side problem.active.degree problem.passive.degree → IsColouringOf problem side colours input → IsTriedGiven times problem (Shortest steps labels)
+    → chain ≡ chain_with Upper problem [] → GoesOnGiven input Upper steps labels chain bound → IsGivenText bound input (given_text bound input)
+    → IsColoured times problem (record { side = side; colours = colours; way = Shortest steps labels })
+shortened_coloured times problem input chain bound side colours steps labels few colouring tried start goes_on text =
+    let on : GoesOnGiven input Upper steps labels (chain_with Upper problem []) bound = subst (λ (c : Bound). GoesOnGiven input Upper steps labels c bound) start goes_on in
+    record {
+      tried = tried;
+      colours = few;
+      shows = record { input = input; colouring = colouring; bound = bound; goes_on = on; text = text };
+      solvable = few-enough problem input side colours (length bound.steps) few colouring on.means;
     }
 
 -- edges have as many colours as are named
@@ -112,13 +136,13 @@ few_order Passive problem is never solvable = order_edge_coloured problem is nev
 pub fixed_settled : (times : ℕ) (problem : NamedProblem) (way : Way) → IsFixedPoint times problem way → IsSettled times problem (settled.FixedPoint way)
 fixed_settled times problem way fixed = record { shown = (fixed.known.shown, fixed.finds); holds = fixed.known.holds; class = fixed.above }
 
-no_solution_class : (times : ℕ) (problem : NamedProblem) (way : Way) (coloured : Option Coloured) → IsProblem (unnamed problem) → IsKnown times problem Never way → MayBeColoured coloured problem
+no_solution_class : (times : ℕ) (problem : NamedProblem) (way : Way) (coloured : Option Coloured) → IsProblem (unnamed problem) → IsKnown times problem Never way → MayBeColoured times coloured problem
     → ClassHolds (class_of (settled.NoSolution way coloured)) (unnamed problem)
 no_solution_class times problem way None is known may = above_log_star (unnamed problem) is known.holds
 no_solution_class times problem way (Some coloured) is known may = few_order coloured.side (unnamed problem) is known.holds may.solvable
 
 pub no_solution_settled : (times : ℕ) (problem : NamedProblem) (way : Way) (coloured : Option Coloured) → IsProblem (unnamed problem) → IsExcluded times problem way
-    → MayBeColoured coloured problem → IsSettled times problem (settled.NoSolution way coloured)
+    → MayBeColoured times coloured problem → IsSettled times problem (settled.NoSolution way coloured)
 no_solution_settled times problem way coloured is excluded may =
     record {
       shown = (excluded.known.shown, excluded.finds, may);

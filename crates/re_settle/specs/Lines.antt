@@ -117,6 +117,7 @@ class_text class.AtLeastLog = codes "at least order log N"
 -- the words, given a proper colouring
 abbrev pub coloured_words : ColouredWay → List ℕ
 coloured_words (coloured.Rounds most) = codes "explore rounds " ++ decimal most
+coloured_words (coloured.Shortest steps labels) = codes "explore shortest " ++ (decimal steps ++ (codes " " ++ decimal labels))
 
 -- what has colours
 abbrev pub colours_text : Side → List ℕ

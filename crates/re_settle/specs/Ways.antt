@@ -186,16 +186,16 @@ pub record IsExcluded (times : ℕ) (problem : NamedProblem) (way : Way) : Type 
   pub finds : IsForGraphs way
 
 -- words show that some number of rounds is enough given few colours
-abbrev pub MayBeColoured : Option Coloured → NamedProblem → Type 0
-MayBeColoured None problem = Unit {0}
-MayBeColoured (Some coloured) problem = IsColoured problem coloured
+abbrev pub MayBeColoured : ℕ → Option Coloured → NamedProblem → Type 0
+MayBeColoured times None problem = Unit {0}
+MayBeColoured times (Some coloured) problem = IsColoured times problem coloured
 
 -- each of the words shows its part of what is known
 abbrev pub AreShown : ℕ → Settled → NamedProblem → Type 0
 AreShown times settled.AtOnce problem = IsShown times problem (AtMost 0) Zero
 AreShown times (settled.Exactly shown) problem = IsShown times problem (Exactly shown.rounds) shown.way
 AreShown times (settled.FixedPoint way) problem = IsShown times problem Never way × IsForFixedPoints way
-AreShown times (settled.NoSolution way coloured) problem = IsShown times problem Never way × IsForGraphs way × MayBeColoured coloured problem
+AreShown times (settled.NoSolution way coloured) problem = IsShown times problem Never way × IsForGraphs way × MayBeColoured times coloured problem
 AreShown times (settled.Within more None) problem = IsShown times problem (MoreThan more.rounds) more.way
 AreShown times (settled.Within more (Some most)) problem =
     IsShown times problem (MoreThan more.rounds) more.way × IsShown times problem (AtMost most.rounds) most.way

@@ -22,4 +22,4 @@ IsSettleWord word = (1 ≤ word.times) × (word.times ≤ 64)
 
 -- the line of help
 unfoldable pub settle_help : List ℕ
-settle_help = codes "settle, settle N: reads a problem, gives how many rounds it takes, as far as that is found, and the words that show it\n"
+settle_help = codes "settle, settle N: reads a problem, or one with a line == given and an input problem, gives how many rounds it takes, as far as that is found, and the words that show it\n"

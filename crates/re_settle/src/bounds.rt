@@ -28,7 +28,7 @@ const PATTERN_SIZE: usize = 8;
 const ALL_LABELS: u8 = 128;
 
 /// How many steps a certificate has.
-pub(crate) fn count_of(certificate: &Certificate) -> u8
+pub fn count_of(certificate: &Certificate) -> u8
     ensures { result ≡ length certificate.now.steps }
 {
     certificate.steps().len() as u8
@@ -166,8 +166,8 @@ pub(crate) fn long_way(
     Ok(longer(problem, longest, lower, times))
 }
 
-// The chain of kind upper without steps that a problem stands for.
-fn upper_chain(alloc: Global, problem: Problem) -> Certificate
+/// The chain of kind upper without steps that a problem stands for.
+pub fn upper_chain(alloc: Global, problem: Problem) -> Certificate
     ensures { result ≡ chain_with Upper problem [] }
 {
     match Certificate::build(Kind::Upper, 0, problem, Vec::new(alloc), Vec::new(alloc)) {
@@ -215,8 +215,8 @@ fn brief_way(
     shortest_way(alloc, problem, steps, ALL_LABELS, times)
 }
 
-// Whether patterns may lead to an upper bound.
-fn has_patterns(problem: &Problem, times: u8) -> bool {
+/// Whether patterns may lead to an upper bound. Nothing rests on it.
+pub fn has_patterns(problem: &Problem, times: u8) -> bool {
     problem.active().degree() == 5
         && problem.passive().degree() == 2
         && is_small(problem, PATTERN_SIZE, times)

@@ -3,10 +3,14 @@ ghost use Rattle.re_settle.specs.Classes.{few_colours};
 ghost use Rattle.re_settle.specs.Coloured.{IsColoured, IsColouringOf, input_kind};
 ghost use Rattle.std.specs.Prelude.{◌≡◌, IfOk, IfSome};
 
+use crate::bounds::upper_chain;
+use crate::measures::{coloured_steps, doublings, greatest_degree, is_small, shortest_labels};
+use crate::texts::has_given_text;
 use crate::types::{Coloured, ColouredWay};
 use re_given_words::{Counted, RoundsTexts, count_within};
 use re_inputs::{InputKind, fits, input};
 use re_labels::{NoMemory, Side};
+use re_longest::{Shortest, find_shortest_given};
 use re_problem::Problem;
 use std::alloc::Global;
 
@@ -15,6 +19,9 @@ const COLOURED_ROUNDS: u8 = 8;
 
 /// Up to how many labels problems have from which steps are taken then.
 const COLOURED_LABELS: u8 = 64;
+
+/// Up to how many configurations a problem has of which few labels are kept given colours.
+const SHORTEST_SIZE: usize = 8;
 
 // One colour more than a node of the side meets others of it.
 fn colour_count(problem: &Problem, side: Side) -> u8
@@ -65,10 +72,16 @@ fn few_colours(
 
 // A number of rounds of at most `COLOURED_ROUNDS` that is enough given a proper colouring of the side with one colour more than a node of it meets
 // others, found by steps to problems of at most so many labels.
-fn counted_way(alloc: Global, problem: &Problem, side: Side) -> Result<Option<Coloured>, NoMemory>
-    ensures { IfOk result (λ found. IfSome found (IsColoured problem.now)) }
+fn counted_way(
+    alloc: Global,
+    problem: &Problem,
+    side: Side,
+    times: u8,
+) -> Result<Option<Coloured>, NoMemory>
+    ensures { IfOk result (λ found. IfSome found (IsColoured times problem.now)) }
 {
     let _names = problem.names();
+    let _times = times;
     let colours = colour_count(problem, side);
     let Some(input) = few_colours(alloc, problem, side, colours)? else {
         return Ok(None);
@@ -87,12 +100,73 @@ fn counted_way(alloc: Global, problem: &Problem, side: Side) -> Result<Option<Co
     }
 }
 
-/// The first words that show that some number of rounds is enough given few colours of nodes, or of edges.
-pub(crate) fn coloured_way(alloc: Global, problem: &Problem) -> Result<Option<Coloured>, NoMemory>
-    ensures { IfOk result (λ found. IfSome found (IsColoured problem.now)) }
+// The shortest upper bound that is found with few labels, given this proper colouring of the side.
+fn shortest_way(
+    alloc: Global,
+    problem: &Problem,
+    side: Side,
+    colours: u8,
+    input: &Problem,
+    times: u8,
+) -> Result<Option<Coloured>, NoMemory>
+    requires colours { colours ≡ few_colours side problem.now.active.degree problem.now.passive.degree }
+    requires input { IsColouringOf problem.now side colours input.now }
+    ensures { IfOk result (λ found. IfSome found (IsColoured times problem.now)) }
 {
-    if let Some(coloured) = counted_way(alloc, problem, Side::Active)? {
+    let doublings = doublings(times);
+    let steps = coloured_steps(doublings);
+    let labels = shortest_labels(greatest_degree(problem), doublings);
+    let chain = upper_chain(alloc, problem.copy()?);
+    let Shortest::Found(certificate) = find_shortest_given(alloc, &chain, input, steps, labels)?
+    else {
+        return Ok(None);
+    };
+    let has = has_given_text(alloc, &certificate, input)?;
+    if !has {
+        return Ok(None);
+    }
+    Ok(Some(Coloured {
+        side,
+        colours,
+        way: ColouredWay::Shortest(steps, labels),
+    }))
+}
+
+// The same of a proper colouring of the side with one colour more than a node of it meets others, where the problem is small.
+fn shortened_way(
+    alloc: Global,
+    problem: &Problem,
+    side: Side,
+    times: u8,
+) -> Result<Option<Coloured>, NoMemory>
+    ensures { IfOk result (λ found. IfSome found (IsColoured times problem.now)) }
+{
+    if !is_small(problem, SHORTEST_SIZE, times) {
+        return Ok(None);
+    }
+    let colours = colour_count(problem, side);
+    match few_colours(alloc, problem, side, colours)? {
+        Some(input) => shortest_way(alloc, problem, side, colours, &input, times),
+        None => Ok(None),
+    }
+}
+
+/// The first words that show that some number of rounds is enough given few colours of nodes, or of edges.
+pub(crate) fn coloured_way(
+    alloc: Global,
+    problem: &Problem,
+    times: u8,
+) -> Result<Option<Coloured>, NoMemory>
+    ensures { IfOk result (λ found. IfSome found (IsColoured times problem.now)) }
+{
+    if let Some(coloured) = counted_way(alloc, problem, Side::Active, times)? {
         return Ok(Some(coloured));
     }
-    counted_way(alloc, problem, Side::Passive)
+    if let Some(coloured) = shortened_way(alloc, problem, Side::Active, times)? {
+        return Ok(Some(coloured));
+    }
+    if let Some(coloured) = counted_way(alloc, problem, Side::Passive, times)? {
+        return Ok(Some(coloured));
+    }
+    shortened_way(alloc, problem, Side::Passive, times)
 }

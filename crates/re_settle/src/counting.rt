@@ -13,7 +13,7 @@ use std::alloc::Global;
 /// Up to how many rounds are counted by steps.
 pub const MAX_ROUNDS: u8 = 8;
 
-/// How many rounds the problem takes, up to `MAX_ROUNDS`, as far as steps go and one is told ahead of a step that passes a limit.
+/// How many rounds the problem takes, up to `MAX_ROUNDS`, as far as steps go and the problem before a step that passes a limit tells.
 pub(crate) fn counted(alloc: Global, problem: &Problem) -> Result<Counted, NoMemory>
     ensures { IfOk result (MayTell (unnamed problem.now) None 8) }
 {
@@ -36,8 +36,8 @@ pub(crate) fn steps_of(counted: Counted) -> u8
     steps.min(MAX_ROUNDS)
 }
 
-// The rounds that are told to be too few, where more may be.
-fn few_of(counted: Counted) -> Option<u8>
+/// The rounds that are told to be too few, where more may be.
+pub fn few_of(counted: Counted) -> Option<u8>
     ensures { IfSome result (λ rounds. SaysCounted counted (Claim.MoreThan rounds)) }
 {
     match counted {

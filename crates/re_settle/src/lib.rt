@@ -5,13 +5,14 @@
 //! machine. What is said of N is multiplied by N in `settle N`.
 //!
 //! 1. Whether the problem is solvable without communication.
-//! 2. Its number of rounds, where this is at most `MAX_ROUNDS` and no step on the way passes a limit, or just the one behind all others does.
-//! 3. A fixed point of at most 4 steps without merges; of a problem of at most 32 N configurations the fixed point of its closure; one behind one of
-//!    the first 16 N relaxations.
-//! 4. A graph of at most 4 active nodes without a solution, or one of at most 64 that gadgets make in 1,000,000 N steps, 50,000,000
-//!    at most. Where there is one:
-//!    whether some number of rounds, at most 8, is enough given few colours of nodes, or of edges, by problems of at most 64 labels. Then nothing
-//!    more is tried.
+//! 2. Its number of rounds, where this is at most `MAX_ROUNDS` and no step on the way passes a limit, or one does and the problem before it tells
+//!    of one round more, or two.
+//! 3. A fixed point of at most 4 steps without merges; of a problem of at most 32 N configurations the fixed point of its closure, and one behind
+//!    one of the first 16 N relaxations.
+//! 4. A graph of at most 4 active nodes without a solution, or one of at most 64 that gadgets make in 1,000,000 N steps, 50,000,000 at most. Where
+//!    there is one: whether some number of rounds, at most 8, is enough given few colours of nodes, by problems of at most 64 labels; of a problem of
+//!    at most 8 N configurations what `shortest` finds given them, with 8 steps and 8 more for each doubling of N, and the labels that it has
+//!    below; and both given few colours of edges. Where one of these finds something, nothing more is tried.
 //! 5. Behind a graph too, a fixed point: of the closure of the problem; of that behind 1 or 2 steps, where the closures before are solvable
 //!    without communication and the problems have at most 16 labels and 64 N configurations; where the problem has at most 8 labels, of the
 //!    closure behind a merge of two of them in the problem itself, with the same bounds; of the closure with a diagram of one edge, of at most
@@ -41,8 +42,15 @@ mod texts;
 mod types;
 mod words;
 
-pub use counting::MAX_ROUNDS;
+pub use bounds::{count_of, has_patterns, upper_chain};
+pub use counting::{MAX_ROUNDS, few_of};
+pub use lines::{is_final, push_claim, push_way, within};
+pub use measures::{
+    doublings, greatest_degree, longest_labels, longest_steps, shortest_labels, shortest_steps,
+};
+pub use never::{CYCLE_NODES, GADGET_STEPS, grows_little};
 pub use settling::settle;
+pub use texts::{has_given_text, has_text};
 pub use types::{Claim, Class, Coloured, ColouredWay, Settled, Shown, Way};
 pub use words::{MAX_TIMES, SettleWord, settle_help, settle_word};
 

@@ -15,8 +15,8 @@ use re_labels::{Names, NoMemory, Side};
 use re_problem::push_label;
 use std::alloc::Global;
 
-// The claim of more than the first number of rounds and at most the second.
-fn within(more: u8, most: u8) -> Claim
+/// The claim of more than the first number of rounds and at most the second.
+pub fn within(more: u8, most: u8) -> Claim
     ensures { result ≡ within more most }
 {
     if most as usize == more as usize + 1 {
@@ -39,8 +39,8 @@ fn claim_of(settled: Settled) -> Claim
     }
 }
 
-// Whether the claim leaves no question.
-fn is_final(claim: Claim) -> bool
+/// Whether the claim leaves no question.
+pub fn is_final(claim: Claim) -> bool
     ensures { result ≡ is_final claim }
 {
     matches!(claim, Claim::Exactly(_) | Claim::Never)
@@ -75,8 +75,8 @@ fn push_rounds(
     push_graph(text, passive, rounds)
 }
 
-// Appends a claim of one number.
-fn push_claim(text: &mut Vec<u8>, passive: u8, claim: Claim) -> Result<(), NoMemory>
+/// Appends a claim on a problem whose passive nodes have this degree.
+pub fn push_claim(text: &mut Vec<u8>, passive: u8, claim: Claim) -> Result<(), NoMemory>
     ensures { OnOk result (text.new.items ≡ text.old.items ++ claim_text passive claim) }
 {
     match claim {
@@ -199,8 +199,8 @@ fn push_rest(text: &mut Vec<u8>, names: &Names, way: Way) -> Result<(), NoMemory
     }
 }
 
-// Appends the line of these words.
-fn push_way(text: &mut Vec<u8>, names: &Names, way: Way) -> Result<(), NoMemory>
+/// Appends the line of these words, on a problem whose labels have these names.
+pub fn push_way(text: &mut Vec<u8>, names: &Names, way: Way) -> Result<(), NoMemory>
     ensures { OnOk result (text.new.items ≡ text.old.items ++ way_line names.now way) }
 {
     let numbers = way_numbers(way);
@@ -289,6 +289,10 @@ fn push_coloured_words(text: &mut Vec<u8>, way: ColouredWay) -> Result<(), NoMem
 {
     match way {
         ColouredWay::Rounds(most) => push_counted(text, "explore rounds ", most),
+        ColouredWay::Shortest(steps, labels) => {
+            push_counted(text, "explore shortest ", steps)?;
+            push_counted(text, " ", labels)
+        }
     }
 }
 

@@ -1,5 +1,5 @@
 //! How far the searches go, and how large the problems are from which they begin.
-ghost use Rattle.re_settle.specs.Measures.{doublings, greatest_degree, longest_labels, longest_steps, shortest_labels, shortest_steps};
+ghost use Rattle.re_settle.specs.Measures.{coloured_steps, doublings, greatest_degree, longest_labels, longest_steps, shortest_labels, shortest_steps};
 ghost use Rattle.std.specs.Prelude.{◌≡◌, ◌≤◌};
 
 use re_problem::Problem;
@@ -18,7 +18,7 @@ pub(crate) fn is_small(problem: &Problem, most: usize, times: u8) -> bool {
 }
 
 /// How often the number is doubled from 1 on.
-pub(crate) fn doublings(times: u8) -> u8
+pub fn doublings(times: u8) -> u8
     ensures value { result ≡ doublings times }
     ensures few { result ≤ 6 }
 {
@@ -40,7 +40,7 @@ pub(crate) fn doublings(times: u8) -> u8
 }
 
 /// The greater one of the two degrees.
-pub(crate) fn greatest_degree(problem: &Problem) -> u8
+pub fn greatest_degree(problem: &Problem) -> u8
     ensures { result ≡ greatest_degree problem.now }
 {
     let active = problem.active().degree();
@@ -49,7 +49,7 @@ pub(crate) fn greatest_degree(problem: &Problem) -> u8
 }
 
 /// How many steps `longest` takes at most.
-pub(crate) fn longest_steps(doublings: u8) -> u8
+pub fn longest_steps(doublings: u8) -> u8
     requires { doublings ≤ 6 }
     ensures { result ≡ longest_steps doublings }
 {
@@ -57,7 +57,7 @@ pub(crate) fn longest_steps(doublings: u8) -> u8
 }
 
 /// How many labels the problems have that `longest` looks at.
-pub(crate) fn longest_labels(degree: u8, doublings: u8) -> u8
+pub fn longest_labels(degree: u8, doublings: u8) -> u8
     requires { doublings ≤ 6 }
     ensures { result ≡ longest_labels degree doublings }
 {
@@ -73,7 +73,7 @@ pub(crate) fn longest_labels(degree: u8, doublings: u8) -> u8
 }
 
 /// How many steps `shortest` takes at most.
-pub(crate) fn shortest_steps(doublings: u8) -> u8
+pub fn shortest_steps(doublings: u8) -> u8
     requires { doublings ≤ 6 }
     ensures { result ≡ shortest_steps doublings }
 {
@@ -81,7 +81,7 @@ pub(crate) fn shortest_steps(doublings: u8) -> u8
 }
 
 /// How many labels the problems have that `shortest` looks at.
-pub(crate) fn shortest_labels(degree: u8, doublings: u8) -> u8
+pub fn shortest_labels(degree: u8, doublings: u8) -> u8
     requires { doublings ≤ 6 }
     ensures { result ≡ shortest_labels degree doublings }
 {
@@ -92,4 +92,12 @@ pub(crate) fn shortest_labels(degree: u8, doublings: u8) -> u8
     } else {
         4 + doublings
     }
+}
+
+/// How many steps `shortest` takes at most given few colours.
+pub(crate) fn coloured_steps(doublings: u8) -> u8
+    requires { doublings ≤ 6 }
+    ensures { result ≡ coloured_steps doublings }
+{
+    8 + 8 * doublings
 }

@@ -33,7 +33,7 @@ const MAX_CLOSED: u8 = 16;
 /// Up to how many configurations it has.
 const CLOSED_SIZE: usize = 64;
 
-/// Up to how many configurations a problem has whose closure comes before dearer ways, and in which diagrams are tried.
+/// Up to how many configurations a problem has whose closure and relaxations come before dearer ways, and in which diagrams are tried.
 const NEAR_SIZE: usize = 32;
 
 /// Up to how many configurations the first derived problems have of a problem that may come back by merges.
@@ -43,7 +43,7 @@ const CYCLE_SIZE: usize = 40;
 const CYCLE_STEPS: usize = 4;
 
 /// Of how many problems it is asked whether they come back.
-const CYCLE_NODES: u32 = 300;
+pub const CYCLE_NODES: u32 = 300;
 
 /// How many relaxations are looked at before dearer ways.
 const NEAR_RELAXED: u32 = 16;
@@ -52,7 +52,7 @@ const NEAR_RELAXED: u32 = 16;
 const FAR_RELAXED: u32 = 200;
 
 /// How many steps gadgets are joined in, and no more than `cover` takes.
-const GADGET_STEPS: usize = 1_000_000;
+pub const GADGET_STEPS: usize = 1_000_000;
 
 // A fixed point of at most 4 steps without merges.
 fn fixed_way(alloc: Global, problem: &Problem, times: u8) -> Result<Option<Way>, NoMemory>
@@ -355,8 +355,8 @@ pub(crate) fn cover_way(
     }
 }
 
-// Whether the first derived problems are small. Nothing rests on it.
-fn grows_little(alloc: Global, problem: &Problem, times: u8) -> Result<bool, NoMemory> {
+/// Whether the first derived problems are small, so that it is asked whether they come back. Nothing rests on it.
+pub fn grows_little(alloc: Global, problem: &Problem, times: u8) -> Result<bool, NoMemory> {
     let mut current = problem.copy()?;
     for _step in 0..CYCLE_STEPS {
         match derive(alloc, &current) {
@@ -436,10 +436,11 @@ pub(crate) fn near_way(
     if let Some(way) = fixed_way(alloc, problem, times)? {
         return Ok(Some(way));
     }
-    if is_small(problem, NEAR_SIZE, times) {
-        if let Some(way) = closure_way(alloc, problem, chain, 0, times)? {
-            return Ok(Some(way));
-        }
+    if !is_small(problem, NEAR_SIZE, times) {
+        return Ok(None);
+    }
+    if let Some(way) = closure_way(alloc, problem, chain, 0, times)? {
+        return Ok(Some(way));
     }
     let nodes = NEAR_RELAXED * u32::from(times);
     relaxed_way(alloc, problem, chain, nodes, times)

@@ -116,7 +116,7 @@ fn covered(
     ensures { IfOk result (IsSettled times problem.now) }
 {
     let _names = problem.names();
-    if let Some(coloured) = coloured_way(alloc, problem)? {
+    if let Some(coloured) = coloured_way(alloc, problem, times)? {
         return Ok(Settled::NoSolution(way, Some(coloured)));
     }
     match far_way(alloc, problem, chain, times)? {

@@ -1,17 +1,36 @@
 //! Whether what is found can be written out.
 ghost use Rattle.re_settle.specs.Ways.{HasText};
+ghost use Rattle.re_two_texts.specs.GivenTexts.{IsGivenText, given_text};
 ghost use Rattle.std.specs.Prelude.{◌≡◌, IfOk, true};
 
 use re_cert::Certificate;
 use re_cert_text::print_certificate;
+use re_frame::Answer;
 use re_io::MAX_BYTES;
 use re_labels::NoMemory;
+use re_problem::Problem;
+use re_two_texts::print_given;
 use std::alloc::Global;
 
 /// Whether the text of the certificate is no longer than one that is read: then it is read as the certificate.
-pub(crate) fn has_text(alloc: Global, certificate: &Certificate) -> Result<bool, NoMemory>
+pub fn has_text(alloc: Global, certificate: &Certificate) -> Result<bool, NoMemory>
     ensures { IfOk result (λ has. has ≡ true → HasText certificate.now) }
 {
     let text = print_certificate(alloc, certificate)?;
     Ok(text.len() <= MAX_BYTES)
+}
+
+/// The same of the certificate and an input problem behind it: then the text is read as both.
+pub fn has_given_text(
+    alloc: Global,
+    certificate: &Certificate,
+    input: &Problem,
+) -> Result<bool, NoMemory>
+    ensures { IfOk result (λ has. has ≡ true → IsGivenText certificate.now input.now (given_text certificate.now input.now)) }
+{
+    let output = print_given(alloc, certificate, input)?;
+    match output.answer {
+        Answer::Done => Ok(true),
+        _ => Ok(false),
+    }
 }

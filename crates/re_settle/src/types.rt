@@ -27,8 +27,8 @@ pub enum Way {
     Cycle(u8, u8, u32),
     /// `explore relaxed N`: a fixed point behind a relaxation, of at most N that are looked at.
     Relaxed(u32),
-    /// `explore rounds K`: how many rounds it takes, where these are at most K, or more than how many, as far as steps go and one is told ahead of
-    /// a step that passes a limit.
+    /// `explore rounds K`: how many rounds it takes, where these are at most K, or more than how many, as far as steps go and the
+    /// problem before a step that passes a limit tells.
     Rounds(u8),
     /// `explore longest K L`: a lower bound of at most K steps, each to a problem of at most L labels.
     Longest(u8, u8),
@@ -41,6 +41,8 @@ pub enum Way {
 pub enum ColouredWay {
     /// `explore rounds K`: at most K rounds.
     Rounds(u8),
+    /// `explore shortest K L`: an upper bound of at most K steps, each to a problem of at most L labels.
+    Shortest(u8, u8),
 }
 
 /// Words that show that some number of rounds is enough given a proper colouring with so many colours, of active nodes or of passive ones, which are

@@ -56,5 +56,5 @@ pub fn settle_word(words: &[String]) -> Option<SettleWord>
 pub fn settle_help() -> &'static str
     ensures { result.now ≡ settle_help }
 {
-    "settle, settle N: reads a problem, gives how many rounds it takes, as far as that is found, and the words that show it\n"
+    "settle, settle N: reads a problem, or one with a line == given and an input problem, gives how many rounds it takes, as far as that is found, and the words that show it\n"
 }

@@ -13,5 +13,5 @@ returns-in-Some-Exactly c =
     let colouring = subst (λ found. IfSome found (IsColouringOf c.args.problem.now c.args.side colours)) c.in-Some.is c.in_ok-input.ensures in
     let found = subst (λ found. IfSome found (IsCounted (unnamed c.in_ok-copy.field-0) (Some (unnamed c.in-Some.input)) 8)) c.in-Some-Exactly.is c.in_ok-count_within.ensures.counted in
     let exactly = subst (IsCounted (unnamed c.in_ok-copy.field-0) (Some (unnamed c.in-Some.input)) 8) c.in-Some-Exactly.field-0-is found in
-    counted_coloured c.args.problem.now c.in-Some.input c.args.side colours c.in-Some-Exactly.field-0-0 c.names-names.ensures.problem.problem c.colour_count-colours.ensures colouring
+    counted_coloured c.args.times c.args.problem.now c.in-Some.input c.args.side colours c.in-Some-Exactly.field-0-0 c.names-names.ensures.problem.problem c.colour_count-colours.ensures colouring
     (subst (λ (p : NamedProblem). IsCounted (unnamed p) (Some (unnamed c.in-Some.input)) 8 (Exactly c.in-Some-Exactly.field-0-0)) c.in_ok-copy.ensures exactly)

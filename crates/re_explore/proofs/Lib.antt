@@ -1,2 +1,4 @@
+mod GivenWorth
 pub mod Said
 pub mod TextsWorth
+mod Undone

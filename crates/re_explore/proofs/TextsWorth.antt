@@ -1,6 +1,6 @@
 -- What the text of an answer Done is worth, by what the command may answer.
-use Rattle.std.proofs.Common.{◌≡◌, ◌<◌, ◌≤◌, ◌+◌, ℕ, zero, suc, Bool, true, false, List, [], ◌∷◌, ◌++◌, append_assoc, length, refl, sym, ap, ◌∙◌, subst, Option, Some, None, inl, inr, arith}
-use Rattle.std.specs.Prelude.{Contains, if◌then◌else◌, option_map}
+use Rattle.std.proofs.Common.{◌≡◌, ◌≤◌, ◌+◌, ℕ, zero, suc, Bool, true, false, List, [], ◌∷◌, ◌++◌, append_assoc, length, refl, sym, ap, ◌∙◌, subst, Option, Some, None, inl, inr, arith}
+use Rattle.std.specs.Prelude.{Contains, codes, if◌then◌else◌, option_map}
 use Rattle.std.proofs.lemmas.List.Elements.{Contains-append_right}
 use Rattle.re_labels.proofs.Membership.{AllByRecursion-contains, Contains-here, Contains-map}
 use Rattle.std.proofs.lemmas.Bool.{cases_lt}
@@ -37,17 +37,17 @@ use Rattle.re_io.specs.declared.read.TheConstants.{MAX_BYTES}
 use Rattle.re_cert.specs.declared.certificate.TheConstants.{MAX_STEPS}
 use Rattle.re_relaxed.specs.Words.{MayGive as MayGiveRelaxed}
 use Rattle.re_relaxed.specs.declared.words.RelaxedWord.{RelaxedWord}
+use Rattle.re_search_words.specs.GivenAnswers.{MayGiveBy, MayGiveText}
 use Rattle.re_search_words.specs.MayGive.{IsFound, MayFind, MayFindBehind, MayGive, MayGiveAt, MayGiveRead, MayGiveSound, MayShorten, word_chain}
 use Rattle.re_search_words.specs.declared.words.SearchWord.{SearchWord}
 use Rattle.re_search_words.specs.declared.words.SearchWord.TheVariants.{Cycle, Longest, Shortest}
+use Rattle.re_two_texts.specs.TwoTexts.{has_line}
+use Rattle.re_explore.proofs.GivenWorth.{given_worth}
+use Rattle.re_explore.proofs.Undone.{undone}
 use Rattle.re_explore.specs.Commands.{IsOutcome}
-use Rattle.re_explore.specs.Worth.{IsAccepted, SearchWorth, TextWorth}
+use Rattle.re_explore.specs.Worth.{IsAccepted, SearchWorth, SearchWorthBy, TextWorth}
 use Rattle.re_explore.specs.declared.command.Command.{Command}
 use Rattle.re_explore.specs.declared.command.Command.TheVariants.{Bridges, Chains, Closes, Describes, Explains, Givens, Graphs, Help, Inputs, Relaxes, Searches, Settles}
-
--- an outcome that isn't Done
-undone : {A : Type 0} (outcome given : Outcome) → outcome ≡ given → (given.status ≡ Done → ⊥) → outcome.status ≡ Done → A
-undone outcome given is other finished = absurd (other (sym (ap (λ (o : Outcome). o.status) is) ∙ finished))
 
 -- ---- inputs that aren't too long
 pub within : (may : List ℕ → Outcome → Type 0) (bytes : List ℕ) (outcome : Outcome) → MayAnswer may bytes outcome → outcome.status ≡ Done → may bytes outcome
@@ -109,6 +109,15 @@ read_worth None word chain outcome may finished = sound_worth (steps_fault chain
 search_worth : (word : SearchWord) (bytes : List ℕ) (outcome : Outcome) → MayGive word bytes outcome → outcome.status ≡ Done → SearchWorth word (word_chain word bytes) outcome.text
 unfolding MayGive
 search_worth word bytes outcome may finished = read_worth (chain_fault bytes) word (word_chain word bytes) outcome may finished
+
+-- with an input problem, too
+search_text_worth : (word : SearchWord) (bytes : List ℕ) (outcome : Outcome) → MayGiveText word bytes outcome → outcome.status ≡ Done → SearchWorthBy (has_line (codes "given") bytes) word bytes outcome.text
+unfolding MayGiveText
+search_text_worth word bytes outcome may finished = go (has_line (codes "given") bytes) may
+  where
+    go : (b : Bool) → MayGiveBy b word bytes outcome → SearchWorthBy b word bytes outcome.text
+    go true given = given_worth word bytes outcome given finished
+    go false given = search_worth word bytes outcome given finished
 
 -- ---- the word `closure`
 -- a bound that goes on from the chain with a step more goes on from the chain
@@ -248,7 +257,7 @@ relaxed_worth word bytes outcome may finished = search_worth (Cycle MAX_STEPS 0 
 -- ---- all commands
 pub worth_of : (command : Option Command) (bytes : List ℕ) (outcome : Outcome) → IsOutcome command bytes outcome → outcome.status ≡ Done → TextWorth command bytes outcome.text
 worth_of (Some (Chains word)) bytes outcome is finished = (within _ bytes outcome is finished).worth finished
-worth_of (Some (Searches word)) bytes outcome is finished = search_worth word bytes outcome (within _ bytes outcome is finished) finished
+worth_of (Some (Searches word)) bytes outcome is finished = search_text_worth word bytes outcome (within _ bytes outcome is finished) finished
 worth_of (Some (Closes word)) bytes outcome is finished = closure_worth word bytes outcome (within _ bytes outcome is finished) finished
 worth_of (Some (Relaxes word)) bytes outcome is finished = relaxed_worth word bytes outcome (within _ bytes outcome is finished) finished
 worth_of (Some (Bridges word)) bytes outcome is finished = (within _ bytes outcome is finished).worth finished

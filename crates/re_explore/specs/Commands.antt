@@ -15,10 +15,10 @@ use Rattle.re_graph_words.specs.GraphWords.{MayGive as MayGiveGraph}
 use Rattle.re_graph_words.specs.Words.{IsGraphWord, graph_help, graph_word_of}
 use Rattle.re_inputs.specs.InputWords.{IsInputWord, input_help, input_outcome, input_word_of}
 use Rattle.re_relaxed.specs.Words.{MayGive as MayGiveRelaxed, relaxed_help, relaxed_word_of}
-use Rattle.re_search_words.specs.MayGive.{MayGive}
+use Rattle.re_search_words.specs.GivenAnswers.{MayGiveText as MayGiveSearched}
 use Rattle.re_search_words.specs.Words.{IsSearchWord, search_help, search_word_of}
-use Rattle.re_settle.specs.Answers.{MayGive as MayGiveSettled}
 use Rattle.re_settle.specs.Words.{IsSettleWord, settle_help, settle_word_of}
+use Rattle.re_settle_given.specs.Answers.{MaySettle}
 use Rattle.re_why.specs.Explaining.{explaining_outcome, names_why, why_help}
 use Rattle.re_explore.specs.declared.command.Command.{Command}
 use Rattle.re_explore.specs.declared.command.Command.TheVariants.{Bridges, Chains, Closes, Describes, Explains, Givens, Graphs, Help, Inputs, Relaxes, Searches, Settles}
@@ -96,7 +96,7 @@ IsOutcome None bytes outcome = outcome ≡ bad_words
 IsOutcome (Some Help) bytes outcome = outcome ≡ done help_text
 IsOutcome (Some (Chains word)) bytes outcome = MayAnswer (MayGiveChain word) bytes outcome
 IsOutcome (Some Explains) bytes outcome = outcome ≡ within_limit explaining_outcome bytes
-IsOutcome (Some (Searches word)) bytes outcome = MayAnswer (MayGive word) bytes outcome
+IsOutcome (Some (Searches word)) bytes outcome = MayAnswer (MayGiveSearched word) bytes outcome
 IsOutcome (Some (Closes word)) bytes outcome = MayAnswer (MayGiveClosure word) bytes outcome
 IsOutcome (Some (Relaxes word)) bytes outcome = MayAnswer (MayGiveRelaxed word) bytes outcome
 IsOutcome (Some (Bridges word)) bytes outcome = MayAnswer (MayGiveBridge word) bytes outcome
@@ -104,7 +104,7 @@ IsOutcome (Some Describes) bytes outcome = MayAnswer MayDescribe bytes outcome
 IsOutcome (Some (Graphs word)) bytes outcome = MayAnswer (MayGiveGraph word) bytes outcome
 IsOutcome (Some (Givens word)) bytes outcome = MayAnswer (MayGiveGiven word) bytes outcome
 IsOutcome (Some (Inputs word)) bytes outcome = outcome ≡ input_outcome word
-IsOutcome (Some (Settles word)) bytes outcome = MayAnswer (MayGiveSettled word) bytes outcome
+IsOutcome (Some (Settles word)) bytes outcome = MayAnswer (MaySettle word) bytes outcome
 
 -- whether the command reads its input
 abbrev pub is_reading : Option Command → Bool

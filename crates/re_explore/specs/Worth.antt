@@ -1,5 +1,5 @@
 -- What the text of an answer Done is worth that is a certificate or a problem.
-use Rattle.std.specs.Prelude.{◌≡◌, ◌+◌, ℕ, List, length, Option, None, Some}
+use Rattle.std.specs.Prelude.{◌≡◌, ◌+◌, ℕ, Bool, true, false, List, codes, length, Option, None, Some}
 use Rattle.re_bridge_words.specs.Answers.{WordWorth as BridgeWorth}
 use Rattle.re_cert.specs.Bounds.{Bound}
 use Rattle.re_cert.specs.declared.certificate.Kind.{Kind}
@@ -13,10 +13,17 @@ use Rattle.re_closure.specs.ClosureWords.{closure_chain}
 use Rattle.re_extend.specs.Extensions.{GoesOn}
 use Rattle.re_frame.specs.Check.{check_outcome, verdict_line}
 use Rattle.re_frame.specs.Outcomes.{done}
+use Rattle.re_given_words.specs.Extensions.{GoesOnGiven}
+use Rattle.re_given_words.specs.Verdicts.{accepted_line, bound_outcome}
+use Rattle.re_given_words.specs.declared.words.BoundWord.TheVariants.{Given}
 use Rattle.re_labels.specs.declared.TheConstants.{MAX_LABELS}
+use Rattle.re_problem.specs.NamedProblems.{NamedProblem}
+use Rattle.re_search_words.specs.GivenAnswers.{given_chain}
 use Rattle.re_search_words.specs.MayGive.{word_chain}
 use Rattle.re_search_words.specs.declared.words.SearchWord.{SearchWord}
 use Rattle.re_search_words.specs.declared.words.SearchWord.TheVariants.{Cycle, Longest, Shortest}
+use Rattle.re_two_texts.specs.GivenTexts.{IsGivenText}
+use Rattle.re_two_texts.specs.TwoTexts.{back_problem, has_line}
 use Rattle.re_explore.specs.declared.command.Command.{Command}
 use Rattle.re_explore.specs.declared.command.Command.TheVariants.{Bridges, Chains, Closes, Describes, Explains, Givens, Graphs, Help, Inputs, Relaxes, Searches, Settles}
 
@@ -34,10 +41,29 @@ SearchWorth (Longest steps labels) chain text = IsAccepted Lower steps labels ch
 SearchWorth (Shortest steps labels) chain text = IsAccepted Upper steps labels chain text
 SearchWorth (Cycle steps merges nodes) chain text = IsAccepted Fixed steps MAX_LABELS chain text
 
+-- the text is read as a bound of this kind and an input problem; the bound goes on from the chain given this input problem, with at most so many more steps,
+-- each to a problem of at most so many labels; and `given` answers to the text that it is accepted
+pub record IsAcceptedGiven (input : NamedProblem) (kind : Kind) (most labels : ℕ) (chain : Bound) (text : List ℕ) : Type 0 where
+  pub bound : Bound
+  pub text_of : IsGivenText bound input text
+  pub goes_on : GoesOnGiven input kind most labels chain bound
+  pub judged : bound_outcome Given text ≡ done (accepted_line kind (length bound.steps))
+
+-- what a search finds given an input problem is accepted given it
+abbrev pub SearchWorthGiven : SearchWord → NamedProblem → Bound → List ℕ → Type 0
+SearchWorthGiven (Longest steps labels) input chain text = IsAcceptedGiven input Lower steps labels chain text
+SearchWorthGiven (Shortest steps labels) input chain text = IsAcceptedGiven input Upper steps labels chain text
+SearchWorthGiven (Cycle steps merges nodes) input chain text = IsAcceptedGiven input Fixed steps MAX_LABELS chain text
+
+-- what the text is worth that a search gives to bytes with a line `== given`, and to others
+abbrev pub SearchWorthBy : Bool → SearchWord → List ℕ → List ℕ → Type 0
+SearchWorthBy true word bytes text = SearchWorthGiven word (back_problem (codes "given") bytes) (given_chain word bytes) text
+SearchWorthBy false word bytes text = SearchWorth word (word_chain word bytes) text
+
 -- what the text is worth that a command gives to these bytes with Done
 abbrev pub TextWorth : Option Command → List ℕ → List ℕ → Type 0
 TextWorth (Some (Chains word)) bytes text = WordWorth word bytes text
-TextWorth (Some (Searches word)) bytes text = SearchWorth word (word_chain word bytes) text
+TextWorth (Some (Searches word)) bytes text = SearchWorthBy (has_line (codes "given") bytes) word bytes text
 TextWorth (Some (Closes word)) bytes text = IsAccepted Fixed (word.steps + 3) MAX_LABELS (closure_chain bytes) text
 TextWorth (Some (Relaxes word)) bytes text = IsAccepted Fixed MAX_STEPS MAX_LABELS (text_chain bytes) text
 TextWorth (Some (Bridges word)) bytes text = BridgeWorth word bytes text

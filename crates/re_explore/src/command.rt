@@ -36,7 +36,7 @@ pub(crate) enum Command {
     Bridges(BridgeWord),
     /// A report on a certificate.
     Describes,
-    /// How many rounds a problem takes.
+    /// How many rounds a problem takes, alone or given an input problem.
     Settles(SettleWord),
     /// A problem on finite graphs.
     Graphs(GraphWord),

@@ -13,6 +13,7 @@ use re_describe::Describe;
 use re_frame::{Output, Status, Stop, answer_input, find_input, put_output};
 use re_inputs::input_output;
 use re_io::{MAX_BYTES, Sink, Source};
+use re_settle_given::SettleText;
 use re_why::Why;
 use std::alloc::Global;
 
@@ -42,7 +43,7 @@ fn output_from<S: Source>(alloc: Global, words: &[String], source: &mut S) -> Re
         Some(Command::Graphs(word)) => find_input(alloc, &word, source),
         Some(Command::Givens(word)) => find_input(alloc, &word, source),
         Some(Command::Inputs(word)) => Ok(input_output(alloc, word)?),
-        Some(Command::Settles(word)) => find_input(alloc, &word, source),
+        Some(Command::Settles(word)) => find_input(alloc, &SettleText { word }, source),
     }
 }
 
@@ -72,7 +73,8 @@ pub fn run<S: Source, K: Sink>(
     ensures memory_nothing_written { result ≡ Status.NoMemory → Keeps (K.written sink.old) (K.written sink.new) }
 
     // What is written with Done by the words that make certificates: it is read again as the certificate that was made, which is a sound
-    // chain or, where it was searched for, one that goes on from the given chain and that `check` accepts.
+    // chain or, where it was searched for, one that goes on from the given chain and that `check` accepts, or that `given` accepts behind a
+    // line `== given`.
     ensures text_worth { result ≡ Status.Done → (bytes : List ℕ) → IsInput (map string_bytes words.now) (S.left source.old) bytes →
         (text : List ℕ) × Appends (K.written sink.old) (K.written sink.new) text × TextWorth (command_of (map string_bytes words.now)) bytes text }
 

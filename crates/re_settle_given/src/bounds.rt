@@ -1,0 +1,123 @@
+//! Lower and upper bounds given an input problem. Each way that is tried tells the number of rounds that it shows.
+ghost use Rattle.re_chain_texts.specs.ChainTexts.{problem_chain};
+ghost use Rattle.re_given.specs.Inputs.{IsInput};
+ghost use Rattle.re_problem.specs.NamedProblems.{unnamed};
+ghost use Rattle.re_settle_given.specs.Ways.{IsKnownGiven, IsTriedGiven};
+ghost use Rattle.std.specs.Prelude.{◌≡◌, IfOk, IfSome};
+
+use re_cert::Certificate;
+use re_given_words::is_accepted;
+use re_labels::NoMemory;
+use re_longest::{Shortest, find_longest_given, find_shortest_given};
+use re_problem::Problem;
+use re_settle::{
+    Claim, Shown, Way, count_of, doublings, greatest_degree, has_given_text, has_patterns,
+    longest_labels, longest_steps, shortest_labels, shortest_steps, upper_chain,
+};
+use std::alloc::Global;
+
+/// The longest lower bound that is found with few steps, each to few labels, where `given` accepts the problem as one without steps.
+pub(crate) fn longest_way(
+    alloc: Global,
+    problem: &Problem,
+    input: &Problem,
+    chain: &Certificate,
+    times: u8,
+) -> Result<Option<Shown>, NoMemory>
+    requires chain { chain.now ≡ problem_chain problem.now }
+    requires input { IsInput (unnamed problem.now) (unnamed input.now) }
+    ensures { IfOk result (λ found. IfSome found (λ shown. IsKnownGiven times problem.now input.now (Claim.MoreThan shown.rounds) shown.way)) }
+{
+    if !is_accepted(alloc, chain, input)? {
+        return Ok(None);
+    }
+    let doublings = doublings(times);
+    let steps = longest_steps(doublings);
+    let labels = longest_labels(greatest_degree(problem), doublings);
+    let certificate = find_longest_given(alloc, chain, input, steps, labels)?;
+    let has = has_given_text(alloc, &certificate, input)?;
+    if !has {
+        return Ok(None);
+    }
+    Ok(Some(Shown {
+        rounds: count_of(&certificate),
+        way: Way::Longest(steps, labels),
+    }))
+}
+
+/// The one of more rounds, and the second of two of as many.
+pub(crate) fn longer(
+    problem: &Problem,
+    input: &Problem,
+    first: Shown,
+    second: Option<Shown>,
+    times: u8,
+) -> Shown
+    requires first { IsKnownGiven times problem.now input.now (Claim.MoreThan first.rounds) first.way }
+    requires second { IfSome second (λ shown. IsKnownGiven times problem.now input.now (Claim.MoreThan shown.rounds) shown.way) }
+    ensures { IsKnownGiven times problem.now input.now (Claim.MoreThan result.rounds) result.way }
+{
+    let _problem = problem;
+    let _input = input;
+    let _times = times;
+    match second {
+        Some(second) => {
+            if second.rounds < first.rounds {
+                first
+            } else {
+                second
+            }
+        }
+        None => first,
+    }
+}
+
+// The shortest upper bound that is found with at most so many steps, each to at most so many labels, if any.
+fn shortest_way(
+    alloc: Global,
+    problem: &Problem,
+    input: &Problem,
+    steps: u8,
+    labels: u8,
+    times: u8,
+) -> Result<Option<Shown>, NoMemory>
+    requires tried { IsTriedGiven times problem.now (Way.Shortest steps labels) }
+    requires input { IsInput (unnamed problem.now) (unnamed input.now) }
+    ensures { IfOk result (λ found. IfSome found (λ shown. IsKnownGiven times problem.now input.now (Claim.AtMost shown.rounds) shown.way)) }
+{
+    let _times = times;
+    let chain = upper_chain(alloc, problem.copy()?);
+    let Shortest::Found(certificate) = find_shortest_given(alloc, &chain, input, steps, labels)?
+    else {
+        return Ok(None);
+    };
+    let has = has_given_text(alloc, &certificate, input)?;
+    if !has {
+        return Ok(None);
+    }
+    Ok(Some(Shown {
+        rounds: count_of(&certificate),
+        way: Way::Shortest(steps, labels),
+    }))
+}
+
+/// The shortest upper bound that is found, if any.
+pub(crate) fn short_way(
+    alloc: Global,
+    problem: &Problem,
+    input: &Problem,
+    times: u8,
+) -> Result<Option<Shown>, NoMemory>
+    requires { IsInput (unnamed problem.now) (unnamed input.now) }
+    ensures { IfOk result (λ found. IfSome found (λ shown. IsKnownGiven times problem.now input.now (Claim.AtMost shown.rounds) shown.way)) }
+{
+    if has_patterns(problem, times) {
+        if let Some(shown) = shortest_way(alloc, problem, input, 6, 20, times)? {
+            return Ok(Some(shown));
+        }
+    }
+    let doublings = doublings(times);
+    let steps = shortest_steps(doublings);
+    let labels = shortest_labels(greatest_degree(problem), doublings);
+    shortest_way(alloc, problem, input, steps, labels, times)
+}

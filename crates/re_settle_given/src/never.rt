@@ -1,0 +1,154 @@
+//! Fixed points and graphs. Each function tries one way to show that no number of rounds solves a problem given an input problem.
+ghost use Rattle.re_chain_texts.specs.ChainTexts.{problem_chain};
+ghost use Rattle.re_given.specs.Inputs.{IsInput};
+ghost use Rattle.re_given_words.specs.Extensions.{IsTaken};
+ghost use Rattle.re_problem.specs.NamedProblems.{unnamed};
+ghost use Rattle.re_settle.specs.Ways.{HasText};
+ghost use Rattle.re_settle_given.specs.Ways.{HasGivenText, IsKnownGiven};
+ghost use Rattle.std.specs.Prelude.{◌≡◌, ◌≤◌, IfOk, IfSome, true};
+
+use re_cert::Certificate;
+use re_closure::{Closing, ClosureFault, find_closure};
+use re_cycle::{Cycle, find_cycle_given};
+use re_gadgets::{MAX_STEPS, find_gadgets_given};
+use re_given_words::is_accepted;
+use re_graph::find_cover_given;
+use re_labels::NoMemory;
+use re_problem::Problem;
+use re_settle::{CYCLE_NODES, Claim, GADGET_STEPS, Way, grows_little, has_given_text, has_text};
+use std::alloc::Global;
+
+// Whether `given` accepts the bound, and it has a text, alone and with the input problem.
+fn closes_given(alloc: Global, bound: &Certificate, input: &Problem) -> Result<bool, NoMemory>
+    ensures text { IfOk result (λ closes. closes ≡ true → HasText bound.now) }
+    ensures taken { IfOk result (λ closes. closes ≡ true → IsTaken input.now bound.now) }
+    ensures both { IfOk result (λ closes. closes ≡ true → HasGivenText bound.now input.now) }
+{
+    let has = has_text(alloc, bound)?;
+    if !has {
+        return Ok(false);
+    }
+    let taken = is_accepted(alloc, bound, input)?;
+    if !taken {
+        return Ok(false);
+    }
+    has_given_text(alloc, bound, input)
+}
+
+// The fixed point of the closure of the problem, where `given` accepts it.
+fn closure_way(
+    alloc: Global,
+    problem: &Problem,
+    input: &Problem,
+    chain: &Certificate,
+    times: u8,
+) -> Result<Option<Way>, NoMemory>
+    requires chain { chain.now ≡ problem_chain problem.now }
+    ensures { IfOk result (λ found. IfSome found (IsKnownGiven times problem.now input.now Claim.Never)) }
+{
+    let _problem = problem;
+    let _names = input.names();
+    let _times = times;
+    match find_closure(alloc, chain) {
+        Ok(Closing::Found(certificate)) => {
+            let closes = closes_given(alloc, &certificate, input)?;
+            if closes {
+                Ok(Some(Way::Closure(0)))
+            } else {
+                Ok(None)
+            }
+        }
+        Ok(Closing::Solvable(_)) | Ok(Closing::SolvableClosure(_)) => Ok(None),
+        Err(ClosureFault::Limit(_)) => Ok(None),
+        Err(ClosureFault::NoMemory) => Err(NoMemory),
+    }
+}
+
+// A fixed point of at most 8 steps with at most 1 merge in each.
+fn cycle_way(
+    alloc: Global,
+    problem: &Problem,
+    input: &Problem,
+    chain: &Certificate,
+    times: u8,
+) -> Result<Option<Way>, NoMemory>
+    requires chain { chain.now ≡ problem_chain problem.now }
+    requires times { times ≤ 64 }
+    ensures { IfOk result (λ found. IfSome found (IsKnownGiven times problem.now input.now Claim.Never)) }
+{
+    if !grows_little(alloc, problem, times)? {
+        return Ok(None);
+    }
+    let nodes = CYCLE_NODES * u32::from(times);
+    let Cycle::Found(certificate) = find_cycle_given(alloc, chain, input, 8, 1, nodes)? else {
+        return Ok(None);
+    };
+    let has = has_given_text(alloc, &certificate, input)?;
+    if has {
+        Ok(Some(Way::Cycle(8, 1, nodes)))
+    } else {
+        Ok(None)
+    }
+}
+
+// A graph that gadgets make. The word that finds it first lists all graphs of at most 8 active nodes.
+fn gadget_way(
+    alloc: Global,
+    problem: &Problem,
+    input: &Problem,
+    times: u8,
+) -> Result<Option<Way>, NoMemory>
+    requires { IsInput (unnamed problem.now) (unnamed input.now) }
+    ensures { IfOk result (λ found. IfSome found (IsKnownGiven times problem.now input.now Claim.Never)) }
+{
+    let steps = GADGET_STEPS.saturating_mul(usize::from(times));
+    let steps = steps.min(MAX_STEPS);
+    match find_gadgets_given(alloc, problem, input, 64, steps)?.cover {
+        Some(cover) => {
+            if cover.graph.nodes() <= 8 {
+                Ok(Some(Way::Cover(8)))
+            } else {
+                Ok(Some(Way::Cover(64)))
+            }
+        }
+        None => Ok(None),
+    }
+}
+
+// A graph on which the problem has no solution and the input problem has one: of at most 4 active nodes, or one that gadgets make.
+fn cover_way(
+    alloc: Global,
+    problem: &Problem,
+    input: &Problem,
+    times: u8,
+) -> Result<Option<Way>, NoMemory>
+    requires { IsInput (unnamed problem.now) (unnamed input.now) }
+    ensures { IfOk result (λ found. IfSome found (IsKnownGiven times problem.now input.now Claim.Never)) }
+{
+    match find_cover_given(alloc, problem, input, 4)?.cover {
+        Some(_) => Ok(Some(Way::Cover(4))),
+        None => gadget_way(alloc, problem, input, times),
+    }
+}
+
+/// The first words that show that no number of rounds solves the problem, whose chain is given too, given the input problem.
+pub(crate) fn never_way(
+    alloc: Global,
+    problem: &Problem,
+    input: &Problem,
+    chain: &Certificate,
+    times: u8,
+) -> Result<Option<Way>, NoMemory>
+    requires chain { chain.now ≡ problem_chain problem.now }
+    requires input { IsInput (unnamed problem.now) (unnamed input.now) }
+    requires times { times ≤ 64 }
+    ensures { IfOk result (λ found. IfSome found (IsKnownGiven times problem.now input.now Claim.Never)) }
+{
+    if let Some(way) = closure_way(alloc, problem, input, chain, times)? {
+        return Ok(Some(way));
+    }
+    if let Some(way) = cycle_way(alloc, problem, input, chain, times)? {
+        return Ok(Some(way));
+    }
+    cover_way(alloc, problem, input, times)
+}

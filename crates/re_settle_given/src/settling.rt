@@ -1,0 +1,151 @@
+//! What is known of a problem given an input problem.
+ghost use Rattle.re_chain_texts.specs.ChainTexts.{problem_chain};
+ghost use Rattle.re_given.specs.Inputs.{IsInput};
+ghost use Rattle.re_given_words.specs.Counting.{walk_after};
+ghost use Rattle.re_problem.specs.NamedProblems.{unnamed};
+ghost use Rattle.re_settle_given.specs.Ways.{IsKnownGiven, IsSettledGiven};
+ghost use Rattle.re_walks.specs.Walking.{cut};
+ghost use Rattle.std.specs.Prelude.{◌≡◌, ◌≤◌, IfOk, IfSome, None};
+
+use crate::bounds::{longer, longest_way, short_way};
+use crate::counting::{counted, counted_at_once, most_way};
+use crate::never::never_way;
+use crate::types::SettledGiven;
+use re_cert::Certificate;
+use re_chain_texts::problem_chain;
+use re_given_words::Counted;
+use re_labels::NoMemory;
+use re_problem::Problem;
+use re_settle::{Claim, MAX_ROUNDS, Shown, Way};
+use std::alloc::Global;
+
+// Two bounds, where so many rounds are too few.
+fn bounded(
+    alloc: Global,
+    problem: &Problem,
+    input: &Problem,
+    chain: &Certificate,
+    few: Shown,
+    times: u8,
+) -> Result<SettledGiven, NoMemory>
+    requires chain { chain.now ≡ problem_chain problem.now }
+    requires input { IsInput (unnamed problem.now) (unnamed input.now) }
+    requires few { IsKnownGiven times problem.now input.now (Claim.MoreThan few.rounds) few.way }
+    ensures { IfOk result (IsSettledGiven times problem.now input.now) }
+{
+    let longest = longest_way(alloc, problem, input, chain, times)?;
+    let lower = longer(problem, input, few, longest, times);
+    let upper = short_way(alloc, problem, input, times)?;
+    Ok(SettledGiven::Within(lower, upper))
+}
+
+// What is known where so many rounds are too few, and it isn't counted how many are enough.
+fn searched(
+    alloc: Global,
+    problem: &Problem,
+    input: &Problem,
+    chain: &Certificate,
+    few: Shown,
+    times: u8,
+) -> Result<SettledGiven, NoMemory>
+    requires chain { chain.now ≡ problem_chain problem.now }
+    requires input { IsInput (unnamed problem.now) (unnamed input.now) }
+    requires few { IsKnownGiven times problem.now input.now (Claim.MoreThan few.rounds) few.way }
+    requires times { times ≤ 64 }
+    ensures { IfOk result (IsSettledGiven times problem.now input.now) }
+{
+    match never_way(alloc, problem, input, chain, times)? {
+        Some(way) => Ok(SettledGiven::Never(way)),
+        None => bounded(alloc, problem, input, chain, few, times),
+    }
+}
+
+// A number of rounds that `rounds` counts up to the most.
+fn by_rounds(rounds: u8, most: u8) -> Shown
+    ensures rounds { result.rounds ≡ rounds }
+    ensures way { result.way ≡ Way.Rounds most }
+{
+    Shown {
+        rounds,
+        way: Way::Rounds(most),
+    }
+}
+
+// What is known where 0 rounds are too few.
+fn behind_zero(
+    alloc: Global,
+    problem: &Problem,
+    input: &Problem,
+    chain: &Certificate,
+    few: Shown,
+    times: u8,
+) -> Result<SettledGiven, NoMemory>
+    requires chain { chain.now ≡ problem_chain problem.now }
+    requires input { IsInput (unnamed problem.now) (unnamed input.now) }
+    requires few { IsKnownGiven times problem.now input.now (Claim.MoreThan few.rounds) few.way }
+    requires times { times ≤ 64 }
+    ensures { IfOk result (IsSettledGiven times problem.now input.now) }
+{
+    let _names = problem.names();
+    match counted(alloc, problem, input, MAX_ROUNDS)? {
+        Some(Counted::Exactly(rounds)) => {
+            Ok(SettledGiven::Exactly(by_rounds(rounds, MAX_ROUNDS)))
+        }
+        found => {
+            let most = most_way(alloc, problem, input, found, few, times)?;
+            searched(alloc, problem, input, chain, most, times)
+        }
+    }
+}
+
+// What is known where it can't be told whether 0 rounds are enough.
+fn untold(
+    alloc: Global,
+    problem: &Problem,
+    input: &Problem,
+    chain: &Certificate,
+    times: u8,
+) -> Result<Option<SettledGiven>, NoMemory>
+    requires chain { chain.now ≡ problem_chain problem.now }
+    requires input { IsInput (unnamed problem.now) (unnamed input.now) }
+    requires times { times ≤ 64 }
+    ensures { IfOk result (λ found. IfSome found (IsSettledGiven times problem.now input.now)) }
+{
+    if let Some(way) = never_way(alloc, problem, input, chain, times)? {
+        return Ok(Some(SettledGiven::Never(way)));
+    }
+    match short_way(alloc, problem, input, times)? {
+        Some(most) => Ok(Some(SettledGiven::AtMost(most))),
+        None => Ok(None),
+    }
+}
+
+/// What the searches of this crate find out of how many rounds the problem takes given the input problem, and the words that show it, where their
+/// bounds are taken so many times. It is true, and the words that are named show it, each with a text that is read. None is only where the
+/// tries of `re_given_words` don't suffice to tell whether 0 rounds are enough, and nothing else is found. The crate's page says what is tried
+/// in which order; the cost is that of these searches.
+pub fn settle_given(
+    alloc: Global,
+    problem: &Problem,
+    input: &Problem,
+    times: u8,
+) -> Result<Option<SettledGiven>, NoMemory>
+    requires input { IsInput (unnamed problem.now) (unnamed input.now) }
+    requires times { times ≤ 64 }
+    ensures settled { IfOk result (λ found. IfSome found (IsSettledGiven times problem.now input.now)) }
+    ensures none { IfOk result (λ found. found ≡ None → walk_after (unnamed problem.now) (unnamed input.now) 0 ≡ cut) }
+{
+    let _names = problem.names();
+    let chain = problem_chain(alloc, problem.copy()?);
+    match counted_at_once(alloc, problem, input)? {
+        Counted::Exactly(rounds) => {
+            Ok(Some(SettledGiven::Exactly(by_rounds(rounds, MAX_ROUNDS))))
+        }
+        Counted::MoreThan(rounds) => {
+            let few = by_rounds(rounds, 0);
+            Ok(Some(behind_zero(alloc, problem, input, &chain, few, times)?))
+        }
+        Counted::Tried(_) => untold(alloc, problem, input, &chain, times),
+        Counted::Passed(..) | Counted::Stopped(..) => unreachable!(),
+    }
+}

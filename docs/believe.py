@@ -116,17 +116,25 @@ GROUPS = [
     ),
     (
         "What `explore` gives",
-        "what `GoesOn` and `IsTextOf` add, which say what the text of a chain or of a bound that was found is worth, beside the outcome of `check`.",
-        [("re_extend", "Extensions.GoesOn", None), ("re_chain_texts", "OverChains.IsTextOf", None)],
-        [],
+        "what `GoesOn` and `IsTextOf` add, and given an input problem `GoesOnGiven` and `IsGivenText`, which say what the text of a chain or of a bound "
+        "that was found is worth, beside the outcomes of `check` and `given`.",
+        [
+            ("re_extend", "Extensions.GoesOn", None),
+            ("re_chain_texts", "OverChains.IsTextOf", None),
+            ("re_given_words", "Extensions.GoesOnGiven", None),
+            ("re_two_texts", "GivenTexts.IsGivenText", None),
+        ],
+        ["IsTaken"],
     ),
     (
         "What `explore` says",
-        "what the claim of `settle`, its class and the meaning of the answers of `rounds`, `given`, `fit` and `solve` add. Nobody has to believe what shows a claim; "
+        "what the claim of `settle`, alone or given an input problem, its class and the meaning of the answers of `rounds`, `given`, `fit` and `solve` add. Nobody has to believe what shows a claim; "
         "which steps are kept behind a refusal, the line says.",
         [
             ("re_settle", "Claims.Holds", None),
             ("re_settle", "Claims.claim_of", None),
+            ("re_settle_given", "Claims.HoldsGiven", None),
+            ("re_settle_given", "Claims.claim_given", None),
             ("re_settle", "Classes.HoldsLocal", None),
             ("re_settle", "Classes.ClassHolds", None),
             ("re_settle", "Classes.class_of", None),

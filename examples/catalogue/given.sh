@@ -4,9 +4,9 @@
 #     examples/catalogue/given.sh RE EXPLORE TABLE GIVEN [OPTION OF PARALLEL]..
 #
 # TABLE is one that settle.sh made. GIVEN becomes one line for each of its problems, in the same order, with tabs between: its number, and
-# what is known given `both`, `sides`, `edges` and `colouring` with 4 colours: `exactly k` or `more than k` in hops, `never`, or `?`.
-# `never` is what `explore given` accepts of the fixed point that the table's words find. The others are the answers of `explore rounds`, up
-# to the number of hops that solve the problem alone, or else up to 4. What 0 hops solve alone they solve given anything.
+# what is known given `both`, `sides`, `edges` and `colouring` with 4 colours, in hops: what `explore settle` answers, `never` for what is
+# not solvable in any number of rounds, or `?`; or `never` where `explore given` accepts the fixed point that the table's words find, which
+# comes first. What 0 hops solve alone they solve given anything.
 # `-`: there is no such input problem, as sides where passive nodes have another degree than 2.
 #
 # Parts, a run that was broken off, and other machines: as for settle.sh, in the folder GIVEN.parts.
@@ -17,7 +17,7 @@ tab=$(printf '\t')
 # The problem in the folder with the input problem behind it, or its fixed point with it.
 with_input() { cat "$folder/$1"; echo '== given'; cat "$folder/input"; }
 
-# What is known of it given the input problem with this name, where so many hops at most are asked for.
+# What is known of it given the input problem with this name.
 known() {
     # shellcheck disable=SC2086
     if ! "$explore" input $1 > "$folder/input"; then
@@ -25,8 +25,8 @@ known() {
     elif [ -s "$folder/fixed" ] && with_input fixed | "$explore" given > "$folder/answer"; then
         printf '\tnever'
     else
-        with_input problem | "$explore" rounds "$2" > "$folder/answer" || true
-        printf '\t%s' "$(sed -n '1s/,.*//; 1s/^limit:.*/?/; 1p' "$folder/answer")"
+        with_input problem | "$explore" settle > "$folder/answer" || true
+        printf '\t%s' "$(sed -n '1s/ ([^)]*)//g; 1s/ given that input$//; 1s/^not solvable.*/never/; 1s/^limit:.*/?/; 1p' "$folder/answer")"
     fi
 }
 
@@ -34,16 +34,13 @@ known() {
 line() {
     problem_text "$2" > "$folder/problem"
     : > "$folder/fixed"
-    most=4
     case $3 in
     'exactly 0'*) printf '%s\texactly 0\texactly 0\texactly 0\texactly 0\n' "$1"; return;;
-    exactly*) most=${3#exactly } most=${most%% *};;
     not*) case $4 in 'explore cover'*) ;; *) run_words "$4" < "$folder/problem" > "$folder/fixed";; esac;;
     esac
     active=${2%% *} passive=${2##* }
     degrees="${#active} ${#passive}"
-    printf '%s%s%s%s%s\n' "$1" "$(known "both $degrees" "$most")" "$(known "sides $degrees" "$most")" "$(known "edges $degrees" "$most")" \
-        "$(known "colouring $degrees 4" "$most")"
+    printf '%s%s%s%s%s\n' "$1" "$(known "both $degrees")" "$(known "sides $degrees")" "$(known "edges $degrees")" "$(known "colouring $degrees 4")"
 }
 
 if [ "${1:-}" = --part ]; then

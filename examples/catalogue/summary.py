@@ -39,7 +39,7 @@ nodes that know nothing but port numbers, on trees; the class is for nodes with 
 What is solved in k hops may use the orientation of each edge that its ports give; from unique identifiers one comes in a round.
 
 Given an input problem (`both`, an orientation by which edges lead into each active node and out of it; two `sides`; a colouring of the `edges`; a
-proper `colouring` with 4 colours), `explore rounds` and `explore given` answer, up to the hops that are enough alone, else up to 4.
+proper `colouring` with 4 colours), `explore settle` answers, or `explore given` of the fixed point that is known of the problem alone.
 """
 
 
@@ -109,7 +109,7 @@ def is_constant(problem):
 
 def known_of(answer):
     """What is known given an input problem, in the words of the page; what stays open is one kind."""
-    return "open" if answer.startswith(("more", "?")) else answer.removeprefix("exactly ")
+    return "open" if answer.startswith(("more", "at most", "?")) else answer.removeprefix("exactly ")
 
 
 def given_part(path, lines):

@@ -1,5 +1,5 @@
 #!/bin/sh
-# Draws 200 lines of the tables by a fixed rule, runs the words that they name, and has `re check` or `explore solve` judge what these give.
+# Draws 200 lines of the tables by a fixed rule, runs the words that they name, and has `re check` or `explore solve` judge what these give, where it is no number of rounds.
 #
 #     examples/catalogue/check.sh RE EXPLORE [TABLE..]
 #
@@ -26,6 +26,7 @@ done | awk -F '\t' '{ printf "%d\t%s\n", ($1 * 7919 + 31 * NR) % 10007, $0 }' | 
 wanted() {
     case $2 in
     're zero') echo yes;;
+    'explore rounds '*) echo "$1" | sed 's/ .[0-9]* rounds of the graph)//; s/,.*//';;
     're upper '* | 'explore shortest '*) echo "accepted: solvable in $(echo "$1" | sed 's/^exactly //; s/.*at most //; s/ .*//') rounds";;
     're lower '* | 'explore longest '*)
         case $1 in
@@ -41,6 +42,7 @@ wanted() {
 judged() {
     case $2 in
     're zero') run_words "$2" < "$1" | sed 's/^yes: .*/yes/';;
+    'explore rounds '*) run_words "$2" < "$1" | sed 's/,.*//';;
     'explore cover '*) run_words "$2" < "$1" | "$explore" solve;;
     *) run_words "$2" < "$1" | "$re" check;;
     esac

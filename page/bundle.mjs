@@ -29,13 +29,15 @@ function modulesBelow(root) {
     return order;
 }
 
-// One script, without lines of import, export and comments. A script has one room for names, so they have to differ: it is read once to see that.
+// One script, without lines of import, export and comments, and without what stands before a line. A script has one room for names, so they
+// have to differ: it is read once to see that.
 function scriptOf(root) {
     const parts = modulesBelow(root).map(name => `// ---- ${name}\n` +
             source(name)
                 .replace(/^\s*\/\/.*\n/gm, '')
                 .replace(/^import [^;]*;\n/gm, '')
-                .replace(/^export (?=const|let|function|async|class)/gm, ''));
+                .replace(/^export (?=const|let|function|async|class)/gm, '')
+                .replace(/^ +/gm, ''));
     const script = parts.join('\n');
     new Script(`'use strict'; async () => {{${script}\n}}`, {filename: `the modules below ${root}, as one script`});
     return script;

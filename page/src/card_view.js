@@ -256,7 +256,7 @@ export class CardView {
         this.node.classList.toggle('failing', Boolean(verdict));
         if (!verdict) return null;
         const more = element('div', {});
-        replace(this.fault, element('strong', {}, verdict.line), ` ${clauseFault(verdict)}.`, more);
+        replace(this.fault, element('strong', {}, verdict.line), ` · ${clauseFault(verdict)}.`, more);
         return more;
     }
 

@@ -77,7 +77,7 @@ export class Claim {
         const model = modelOf(line);
         replace($('#verdict'), element('span.line', {id: 'verdict-line'}, lineText(line)),
             hint(` ${model ? `${model} · ` : ''}${kind === 'fixed' ? 'fixed point' : `${kind} bound`}, ${about}`),
-            fault ? code(` “${certificate.split('\n')[fault - 1]}”`) : null, refused ? hint(` ${clauseFault(verdict)}`) : null);
+            fault ? code(` “${certificate.split('\n')[fault - 1]}”`) : null, refused ? hint(` · ${clauseFault(verdict)}`) : null);
     }
 
     // Where the first problem was changed before the first step: how the certificate's problem is related to it.

@@ -38,8 +38,11 @@ export function openWideDialog(title, ...content) {
     return dialog;
 }
 
-export const openHelpDialog = () => openWideDialog(
-    'Help', element('div', {tabIndex: -1, autofocus: true, role: 'group', 'aria-label': 'help'}, $('#help').content.cloneNode(true)));
+export function openHelpDialog() {
+    const help = element('div', {tabIndex: -1, autofocus: true, role: 'group', 'aria-label': 'help'}, $('#help').content.cloneNode(true));
+    // It begins at its beginning.
+    openWideDialog('Help', help).scrollTop = 0;
+}
 
 // `key` is what the window is opened for: what was typed in it is kept for it.
 export function openNoteDialog(note, onKeep, key) {

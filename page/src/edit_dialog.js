@@ -7,7 +7,8 @@ import {chainBefore, startBridge} from './bridges.js';
 import {stagesOf} from './chains.js';
 import {describe, sideText} from './problems.js';
 import {faultLine, mapInput, pairLines} from './certificates.js';
-import {filledLines, itemsOf, labelsIn, setText, sortedSet} from './texts.js';
+import {NumberedArea} from './numbered_area.js';
+import {filledLines, filledRows, itemsOf, labelsIn, setText, sortedSet} from './texts.js';
 import {writtenText} from './judge.js';
 
 const MODES = {
@@ -62,11 +63,11 @@ export async function openEditDialog(bench, card, view) {
 class EditDialog {
     constructor(bench, card, view) {
         Object.assign(this, {bench, card, view, mode: 'relax', isTouched: false, problem: view.facts.problem});
-        this.map = element('textarea', {
-            rows: 8,
-            spellcheck: false,
-            'aria-label': 'map',
-            oninput: () => {
+        this.map = new NumberedArea({
+            label: 'map',
+            fewest: 8,
+            most: 8,
+            onInput: () => {
                 this.isTouched = true;
                 this.judge();
             }
@@ -84,7 +85,7 @@ class EditDialog {
         this.dialog = openWideDialog(`Edit problem ${view.number.textContent}`,
             element('div.columns', {}, this.editor.node,
                 element('div.map', {}, element('div.group', {role: 'radiogroup', 'aria-label': 'kind of edit'}, this.radios()),
-                    hint(this.help), this.map)),
+                    hint(this.help), this.map.node)),
             this.state, element('footer', {}, this.apply, this.find));
     }
 
@@ -103,7 +104,9 @@ class EditDialog {
         this.suggest();
     }
 
-    get lines() { return filledLines(this.map.value); }
+    // {text, line}, the line of the area at which it stands.
+    get rows() { return filledRows(this.map.value); }
+    get lines() { return this.rows.map(({text}) => text); }
 
     suggest() {
         replace(this.help, MODES[this.mode].help);
@@ -113,15 +116,17 @@ class EditDialog {
     }
 
     async judge() {
-        const turn = this.turn = {}, {mode, editor, lines} = this;
+        const turn = this.turn = {}, {mode, editor, rows, lines} = this, {degree} = this.problem.active;
         this.apply.disabled = true;
         this.find.hidden = mode !== 'relax';
+        this.map.number();
         if (!editor.problem) {
             replace(this.state, hint('The new problem has a fault.'));
             return;
         }
-        if (!readMap(mode, lines, this.problem.active.degree)) {
-            replace(this.state, faulty('The map has a line of another form.'));
+        const wrong = rows.find(({text}) => !readMap(mode, [text], degree));
+        if (wrong) {
+            this.complain(wrong.line, 'it has another form.');
             return;
         }
         if (mode !== 'relax') {
@@ -132,10 +137,17 @@ class EditDialog {
         const text = mapInput(this.card.problem, editor.problem, lines);
         const answer = await this.bench.engine.ask('re', ['relax'], text, {quiet: true}).catch(error => ({text: error.message}));
         if (turn !== this.turn) return;
-        const isYes = answer.text.trim() === 'yes', line = faultLine(answer.text), offset = text.split('\n').indexOf('== map') + 1;
-        const said = line ? `map line ${line - offset}: ${answer.text.trim().replace(/.*: /, '')}` : answer.text.trim();
-        replace(this.state, isYes ? element('span.good', {}, 're relax: yes') : faulty(`re relax: ${said}`));
+        const said = answer.text.trim(), isYes = said === 'yes', offset = text.split('\n').indexOf('== map') + 1,
+              row = rows[faultLine(said) - offset - 1];
+        if (row) this.complain(row.line, `re relax: ${said.replace(/.*: /, '')}`);
+        else replace(this.state, isYes ? element('span.good', {}, 're relax: yes') : faulty(`re relax: ${said}`));
         this.apply.disabled = !isYes;
+    }
+
+    // A fault at a line of the map.
+    complain(line, said) {
+        this.map.number(line);
+        replace(this.state, faulty(`map line ${line}: ${said}`));
     }
 
     async findMap() {

@@ -68,8 +68,8 @@ export class Given {
         this.count.setAttribute('aria-label', counts.label);
         this.countBox.lastChild.textContent = counts.label;
         Object.assign(this.number, {label: `number of ${counts.label}`});
-        this.number.bound(problem.passive.degree, counts.most);
-        if (isOther) this.number.value = count;
+        this.number.bound(counts.least(problem), counts.most);
+        if (isOther) this.number.value = count ?? this.number.least;
     }
 
     // ---- What the user chooses.
@@ -104,8 +104,8 @@ export class Given {
             this.openProblem();
             return;
         }
-        const {problem} = this.workbench.facts.of(first.problem), start = Math.max(counts?.start, problem.passive.degree);
-        const count = counts ? first.given?.kind === kind ? this.number.value : start : 0;
+        const {problem} = this.workbench.facts.of(first.problem);
+        const count = !counts ? 0 : first.given?.kind === kind ? this.number.value : Math.max(counts.start, counts.least(problem));
         const command = inputCommand(this.workbench.words, kind, problem, count);
         const {status, text} = await this.workbench.engine.ask(command.program, command.words, '', {quiet: true})
                                    .catch(error => ({status: 1, text: error.message}));
@@ -219,7 +219,7 @@ export class Given {
     // What an input is called.
     nameOf({kind, count}) {
         const {says, counts} = INPUT_KINDS.find(other => other.kind === kind) || {says: 'a problem'};
-        return `${says.replace('…', '')}${counts ? `, ${count} ${counts.label}` : ''}`;
+        return `${says.replace('…', '')}${counts && count ? `, ${count} ${counts.label}` : ''}`;
     }
 
     // What is given at a card, or null: behind an odd number of steps the input problem has its sides exchanged.

@@ -1,10 +1,11 @@
 // Input problems: what the nodes are given, as a solution of another problem of the same degrees. The texts come from the programs.
 
-// Their names are those of `explore input`.
+// Their names are those of `explore input`. Of colours there are at least as many as `least` says for a problem's degrees, and at first
+// `start`, if these are more.
 export const INPUT_KINDS = [
     {kind: 'nothing', says: 'nothing'},
-    {kind: 'colouring', says: 'a colouring', counts: {label: 'colours', most: 16, start: 4}},
-    {kind: 'edges', says: 'an edge colouring'},
+    {kind: 'colouring', says: 'a colouring', counts: {label: 'colours', most: 16, start: 4, least: ({passive}) => passive.degree}},
+    {kind: 'edges', says: 'an edge colouring', counts: {label: 'colours', most: 16, start: 0, least: ({active}) => active.degree}},
     {kind: 'sides', says: 'the two sides'},
     {kind: 'orientation', says: 'an orientation'},
     {kind: 'both', says: 'an orientation, in and out at each node'},

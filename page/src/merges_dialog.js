@@ -28,7 +28,7 @@ class MergesDialog {
         this.ahead = element('input', {type: 'checkbox', checked: labels.length <= 12});
         this.stopButton = button('Stop', () => this.stop());
         this.dialog = openWideDialog(`Merges of two labels of problem ${view.number.textContent}`,
-            element('div.group', {}, button('Try all', () => this.tryAll(), {class: 'primary'}),
+            element('div.group', {}, button('Try all', () => this.tryAll(), {class: 'primary', autofocus: true}),
                 element('label', {}, this.ahead, 'and a step behind each')),
             this.state,
             element('div.tried', {tabIndex: 0, role: 'group', 'aria-label': 'merges that were tried'}, element('table', {}, this.table)));

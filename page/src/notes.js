@@ -3,7 +3,7 @@
 //   'hint', 'fault' {text};
 //   'answer' {what, line, more}: what a command answered;
 //   'text' {what, text}: a text to copy;
-//   'settled' {text, what, more}: what `settle` printed, with a button for each thing that shows it, and its time;
+//   'settled' {text, what, more, input}: what `settle` printed, with a button for each thing that shows it, its time, and what was given;
 //   'graph' {what, line, text}: a graph without a solution;
 //   'found' {what, id}: cards that were found while the user was elsewhere.
 import {button, copy, element, faulty, hint, replace} from './dom.js';
@@ -69,4 +69,4 @@ const NODES = {
 
 // A note in its form, out of what was kept.
 export const isNote = note => typeof note === 'object' && note !== null && Object.hasOwn(NODES, note.kind) &&
-    ['what', 'line', 'text', 'more'].every(key => note[key] === undefined || typeof note[key] === 'string');
+    ['what', 'line', 'text', 'more', 'input'].every(key => note[key] === undefined || typeof note[key] === 'string');

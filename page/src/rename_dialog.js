@@ -65,7 +65,7 @@ export function openRenameDialog(bench, card, view) {
     const dialog = openDialog('Rename labels',
         element('div.group', {},
             button('Name by sets', () => fill(namesBySets(labels, path)), {title: 'each label is named by what it stands for'}),
-            button('A, B, C…', () => fill(lettersFor(labels)))),
+            button('By letters A, B, C…', () => fill(lettersFor(labels)))),
         element('form.renames', {onsubmit: submit}, rows, element('button', {type: 'submit', hidden: true})), state,
         element('footer', {}, apply));
     keepDraft(dialog, `rename ${card.id} ${card.problem}`);

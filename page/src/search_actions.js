@@ -119,9 +119,11 @@ const REASONS = {
 export function searchesGiven({words}, name) {
     const asking =
         SEARCHES.filter(search => (!search.word || words.has(search.word)) && words.has(`${search.name} given`)).map(search => search.name);
-    const names = asking.length > 1 ? `${asking.slice(0, -1).join(', ')} and ${asking.at(-1)} ask` : `${asking[0]} asks`;
-    return asking.length ? `Of these searches ${names} with what is given (${name}); the others ask for bounds that hold without it.`
-                         : `None of these searches asks with what is given (${name}): they ask for bounds that hold without it.`;
+    const names = asking.length > 1 ? `${asking.slice(0, -1).join(', ')} and ${asking.at(-1)} ask` : `${asking[0]} asks`,
+          settle = words.has('settle given') ? ', as Settle does' : '';
+    return asking.length
+        ? `Of these searches ${names} with what is given (${name})${settle}; the others ask for bounds that hold without it.`
+        : `None of these searches asks with what is given (${name}): they ask for bounds that hold without it.`;
 }
 
 export function searchActions(bench, card, view) {

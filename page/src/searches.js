@@ -217,13 +217,13 @@ export class Searches {
             const chain = await writtenChain(facts, path, kind), text = input ? givenInput(chain, input.problem) : chain;
             const found = await find(task, text, words => `${words.join(' ')}${behind}`);
             return found &&
-                {...found, cards: await this.cardsOf(found.certificate, {title: found.what, skipped: stagesOf(path).length - 1})};
+                {...found, input, cards: await this.cardsOf(found.certificate, {title: found.what, skipped: stagesOf(path).length - 1})};
         });
     }
 
     // ---- What all of them share.
 
-    // Runs a search that answers {what, cards, certificate}, or null; the cards are added.
+    // Runs a search that answers {what, cards, certificate}, or null; the cards are added. Beside them `input` is what was given to the chain.
     async inTask(card, view, what, search) {
         const {workbench} = this, here = workbench.cards.current, title = `${what} from problem ${view.number.textContent}`;
         const found = await runTask(workbench.engine, title, search).catch(error => {
@@ -233,16 +233,19 @@ export class Searches {
             return null;
         });
         if (!found) return;
-        if (found.given) this.give(card, found.given);
+        if (found.input) this.give(card, found.input);
         if (found.cards.length) await workbench.found(card, here, found.what, ...found.cards);
         else if (!await this.close(card, found.certificate)) await this.noteNoStep(view, found.what, found.certificate);
     }
 
-    // What a card's problem is given, given to its chain.
-    give(card, given) {
-        const {cards, given: field} = this.workbench, isExchanged = this.stepsAbove(card) % 2 === 1;
-        field.keep(cards.path(card.id)[0], isExchanged ? {kind: 'problem', problem: exchanged(given.problem)} : given);
+    // What was given when it was asked is given to the chain of the card, where that has another input by now.
+    give(card, input) {
+        const {cards, given} = this.workbench, [first] = cards.path(card.id);
+        if (first && first.given?.problem !== input.problem) given.keep(first, input);
     }
+
+    // What is given to a card's problem as an input of its chain: behind an odd number of steps the sides are exchanged.
+    inputOfChain(card, input) { return this.stepsAbove(card) % 2 ? {kind: 'problem', problem: exchanged(input.problem)} : input; }
 
     // A search that is stopped keeps the best that it has.
     kept(error, best) {

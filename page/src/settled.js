@@ -23,17 +23,19 @@ export const nameLabels = commands => commands.some(({words, diagram}) => diagra
 // A label as a shell asks for it, in quotes or not.
 const unquoted = word => word.replace(/^'(.*)'$/, '$1');
 
-// Commands as `re lower 2 0`, `explore merge 'A' 'B' | explore closure`, `explore rounds 8 given 4 colours` or `explore closure with diagram
-// A C`: [{program, words, colours, diagram}], the colours those of a proper colouring that is given, and the diagram an edge `A C`, if any;
-// null where one is of none of these programs, or has words that are no numbers and no labels.
+// Commands as `re lower 2 0`, `explore merge 'A' 'B' | explore closure`, `explore rounds 8 given 4 colours`, `.. given 5 edge colours` or
+// `explore closure with diagram A C`: [{program, words, colours, isOfEdges, diagram}], the colours those of a proper colouring that is given,
+// one of the edges where `isOfEdges`, and the diagram an edge `A C`, if any; null where one is of none of these programs, or has words that
+// are no numbers and no labels.
 export function commandsIn(text, programs) {
     const commands = text.split('|').map(part => {
-        const [, command, colours, edge] = /^(.*?)(?: given (\d+) colours| with diagram (\S+ \S+))?$/.exec(part.trim()),
-                                   [program, ...words] = command.split(/\s+/).map(unquoted);
+        const [, command, colours, ofEdges, edge] = /^(.*?)(?: given (\d+) (edge )?colours| with diagram (\S+ \S+))?$/.exec(part.trim()),
+                                            [program, ...words] = command.split(/\s+/).map(unquoted);
         return {
             program,
             words,
             ...(colours && {colours: Number(colours)}),
+            ...(ofEdges && {isOfEdges: true}),
             ...(edge && {diagram: edge.split(' ').map(unquoted).join(' ')})
         };
     });

@@ -16,25 +16,33 @@ export class Settling {
     // The problems of which more is asked at the moment.
     constructor(workbench) { Object.assign(this, {workbench, running: new Set()}); }
 
+    // What `settle` reads behind the problem of a card: {name, problem} of what is given there, where the program reads it, else null.
+    inputOf(card) {
+        const {cards, given, words} = this.workbench, path = cards.path(card.id),
+                             problem = words.has('settle given') && given.at(path, card);
+        return problem ? {name: given.nameOf(given.of(path)), problem} : null;
+    }
+
     // `effort` bounds what is tried: with twice as much the answer may say more.
-    async settle(card, view, effort = 1) {
-        const {workbench} = this, words = effort > 1 ? ['settle', String(effort)] : ['settle'], what = words.join(' '),
-              title = `${what} problem ${view.number.textContent}`, known = this.answers(view)[0];
-        const isHere = view.remarks.contains(document.activeElement);
-        this.running.add(view.card.problem);
+    async settle(card, view, effort = 1, input = this.inputOf(card)) {
+        const {workbench} = this, words = effort > 1 ? ['settle', String(effort)] : ['settle'],
+              behind = input ? ` given ${input.name}` : '', what = `${words.join(' ')}${behind}`,
+              title = `${words.join(' ')} problem ${view.number.textContent}${behind}`, known = this.answers(view, input?.problem)[0];
+        const isHere = view.remarks.contains(document.activeElement), runs = this.keyOf(view, input?.problem);
+        this.running.add(runs);
         workbench.notes.show(view);
         if (isHere) view.node.focus({preventScroll: true});
         let time = 0;
         const answer = await runTask(workbench.engine, title, async task => {
             task.state = known ? `so far: ${readSettled(known.text)[0].line}` : '';
-            const said = await task.ask('explore', words, card.problem);
+            const said = await task.ask('explore', words, input ? givenInput(card.problem, input.problem) : card.problem);
             time = performance.now() - task.started;
             return said;
         }).catch(error => {
             view.noteHint(`${title}: ${error instanceof Stopped ? 'stopped.' : error.message}`);
             return null;
         });
-        this.running.delete(view.card.problem);
+        this.running.delete(runs);
         if (!answer || answer.status > 1) {
             workbench.notes.show(view);
             if (answer && isUnknown(answer)) view.noteHint(`${what} isn't available with the programs of this page.`);
@@ -43,41 +51,48 @@ export class Settling {
         }
         for (const {line} of readSettled(answer.text))
             workbench.tries.add(view, line.startsWith('with ') ? `${what}, with identifiers` : what, line, time);
-        workbench.notes.replace(view, note => note.kind === 'settled' && (note.what || 'settle') === what);
-        view.note({kind: 'settled', what, text: answer.text, more: seconds(time)});
+        workbench.notes.replace(
+            view, note => note.kind === 'settled' && (note.what || 'settle') === what && (note.input || '') === (input?.problem || ''));
+        view.note({kind: 'settled', what, text: answer.text, more: seconds(time), ...(input && {input: input.problem})});
     }
 
-    // What was answered on a card, that with the most effort first.
-    answers(view) {
-        const effortOf = ({what = 'settle'}) => Number(what.split(' ')[1] || 1);
+    // Of which problem, and given what, more is asked.
+    keyOf(view, input = '') { return `${view.card.problem}\n${input}`; }
+
+    // What was answered on a card given an input, or without one, that with the most effort first.
+    answers(view, input = '') {
+        const effortOf = ({what = 'settle'}) => Number(/^settle (\d+)/.exec(what)?.[1] || 1);
         return this.workbench.notes.of(view.card)
-            .filter(({kind}) => kind === 'settled')
+            .filter(note => note.kind === 'settled' && (note.input || '') === input)
             .map(note => ({...note, effort: effortOf(note)}))
             .sort((a, b) => b.effort - a.effort);
     }
 
     // What `settle` printed: its claim, with what shows it, and below it each further line, as that on unique identifiers.
-    lines(view, {text, what = 'settle', more}) {
+    lines(view, {text, what = 'settle', more, input}) {
+        const asked = input ? {name: what.slice(what.indexOf(' given ') + 7), problem: input} : null;
         return [
-            ...readSettled(text).map(({line, shownBy}, i) => element('div.settled', {}, i ? null : element('strong', {}, `${what}: `),
-                                         claimNodes(line), ' ', this.buttons(view.card, view, shownBy), i ? null : hint(more))),
-            this.moreEffort(view, what)
+            ...readSettled(text).map(
+                ({line, shownBy}, i) => element('div.settled', {}, i ? null : element('strong', {}, `${what}: `), claimNodes(line), ' ',
+                    this.buttons(view.card, view, shownBy, {input: asked}), i ? null : hint(more))),
+            this.moreEffort(view, what, asked)
         ];
     }
 
     // Behind the answer with the most effort, while it leaves a question: a button that asks with twice as much.
-    moreEffort(view, what) {
-        const [most] = this.answers(view), {running, workbench} = this;
+    moreEffort(view, what, input) {
+        const [most] = this.answers(view, input?.problem), {running, workbench} = this;
         if (most?.what !== what || !workbench.words.has('settle N') || most.effort >= MOST_SETTLE || !leavesQuestion(most.text))
             return null;
-        if (running.has(view.card.problem)) return hint(`settle ${2 * most.effort} runs…`);
-        return button('More effort', () => this.settle(view.card, view, 2 * most.effort),
+        if (running.has(this.keyOf(view, input?.problem))) return hint(`settle ${2 * most.effort} runs…`);
+        return button('More effort', () => this.settle(view.card, view, 2 * most.effort, input),
             {title: `explore settle ${2 * most.effort}: each try with twice the work; what is known so far stays`, class: 'more-effort'});
     }
 
     // A button for each command that shows what is known: it opens the chain, or draws the graph. Where it was found under other names,
-    // [[label, name]], the problem takes these first, if what the command finds hangs on them: it does on the order of the labels.
-    buttons(card, view, shownBy, {names = [], isInOrder = true} = {}) {
+    // [[label, name]], the problem takes these first, if what the command finds hangs on them: it does on the order of the labels. Where it
+    // was found given an `input`, {name, problem}, the first command reads that too.
+    buttons(card, view, shownBy, {names = [], isInOrder = true, input = null} = {}) {
         const {engine, words} = this.workbench, isNamed = names.every(([label, name]) => label === name);
         return element('span.group.by', {}, shownBy.length ? hint('shown by') : null, shownBy.map(text => {
             const commands = commandsIn(text, Object.keys(engine.programs));
@@ -87,8 +102,11 @@ export class Settling {
             if (lacking) return element('span.code', {title: `The program explore of this page has no word ${lacking.words[0]}.`}, text);
             const under = !isNamed && (!isInOrder || nameLabels(commands)) ? names : null,
                   where = under ? `, under the names ${under.map(pair => pair.join(' → ')).join(', ')}` : '';
-            return button(text, () => this.open(card, view, text, commands, under),
-                {title: `run it on this problem${where}, and open what it finds`});
+            const [first, ...others] = commands, behind = input && first.program === 'explore' ? input : null;
+            return button(text,
+                () => this.open(card, view, `${text}${behind ? ` given ${behind.name}` : ''}`,
+                    [{...first, ...(behind && {input: behind.problem})}, ...others], under),
+                {title: `run it on this problem${behind ? ' and what is given' : where}, and open what it finds`});
         }));
     }
 
@@ -99,8 +117,9 @@ export class Settling {
             const named = names ? [await changes.underNames(card, view, names)] : [];
             if (named.includes(null)) return null;
             let answer = {text: [card, ...named].at(-1).problem}, given;
-            for (const {program, words, colours, diagram, input} of commands) {
-                if (colours) given = await this.colouring(task, card, colours);
+            for (const {program, words, colours, isOfEdges, diagram, input} of commands) {
+                if (colours) given = await this.colouring(task, card, isOfEdges ? 'edges' : 'colouring', colours);
+                if (input) given = {kind: 'problem', problem: input};
                 const {text} = answer, behind = input || colours && given.problem;
                 answer = await task.ask(program, words, behind ? givenInput(text, behind) : diagram ? raisedInput(text, [diagram]) : text);
                 if (answer.status !== 0) break;
@@ -118,7 +137,12 @@ export class Settling {
                 return null;
             }
             const found = await searches.cardsOf(answer.text, {title: what, offset: searches.stepsAbove(card)});
-            return {what, certificate: answer.text, cards: found.length ? [...named, ...found] : [], given};
+            return {
+                what,
+                certificate: answer.text,
+                cards: found.length ? [...named, ...found] : [],
+                input: given && searches.inputOfChain(card, given)
+            };
         });
     }
 
@@ -128,13 +152,13 @@ export class Settling {
         return (await engine.ask('re', ['read'], first, {quiet: true})).text === card.problem;
     }
 
-    // A proper colouring as what is given to a card's problem.
-    async colouring(task, card, count) {
+    // A proper colouring, of active nodes or of edges, as what is given to a card's problem.
+    async colouring(task, card, kind, count) {
         const {active, passive} = this.workbench.facts.of(card.problem).problem,
-                       {program, words} = inputCommand(this.workbench.words, 'colouring', {active, passive}, count),
+                       {program, words} = inputCommand(this.workbench.words, kind, {active, passive}, count),
                        {status, text} = await task.ask(program, words);
         if (status !== 0) throw new Error(`${program} ${words.join(' ')}: ${text.trim()}`);
-        return {kind: 'colouring', count, problem: text};
+        return {kind, count, problem: text};
     }
 
     // ---- Graphs without a solution.

@@ -39,6 +39,7 @@ function faultsShown() {
         if (!isShown(node)) continue;
         const name = node.getAttribute('aria-label') || node.labels?.[0]?.textContent || node.textContent;
         if (!name.trim()) say(node, 'no name');
+        else if (node.matches('button:not([data-label])') && !/[a-z]{2}/i.test(name)) say(node, 'a name without a word');
         if (node.tabIndex > 0) say(node, 'its own place in the order');
     }
     for (

@@ -4,17 +4,20 @@ import {spawnSync} from 'child_process';
 import {existsSync, mkdtempSync, readdirSync, readFileSync, rmSync, writeFileSync} from 'fs';
 import {tmpdir} from 'os';
 import {join} from 'path';
+import {Script} from 'vm';
 import {deflateRawSync} from 'zlib';
 import {checked} from './checks.mjs';
 import {sourceIn, unpacked} from '../held.mjs';
 import {catalogueTables, html, namesOfPrograms, pageFolder, wasmOf} from './place.mjs';
 
-const LARGEST_REST = 450000;
+const LARGEST_REST = 450000, LARGEST = 1050000;
 const text = html(), rest = text.length - /id="programs">([^]*?)<\/script>/.exec(text)[1].length,
       built = /This file holds <span class="build">([^]*?)<\/span>/.exec(text)[1];
 
 await checked('its size and what it holds', (checks, context) => {
     checks.check(`at most 0.45 MB beside its programs: ${rest} of ${text.length}`, rest < LARGEST_REST);
+    // Programs that are built without their proofs are larger.
+    checks.check(`at most 1.05 MB: ${text.length}`, text.length <= LARGEST || built.includes('without running its proof'));
     checks.check(`its commit is written into it: ${built}`, /from commit [0-9a-f]{40}\b/.test(built));
     checks.equal('the programs', namesOfPrograms(), ['re', 'explore']);
     for (const name of namesOfPrograms())
@@ -68,9 +71,23 @@ await checked('sources', checks => {
             !/innerHTML|outerHTML|insertAdjacentHTML|document\.write|setHTML|parseFromString|createContextualFragment|\beval\(|new Function|javascript:/
                  .test(source));
         checks.check(`${name}: under 800 lines`, lines.length < 800);
-        if (name.endsWith('.js')) checks.equal(`${name}: functions of at most 60 lines`, longFunctions(lines), []);
+        if (!name.endsWith('.js')) continue;
+        checks.equal(`${name}: functions of at most 60 lines`, longFunctions(lines), []);
+        checks.equal(`${name}: no text goes on behind blanks, since bundle.mjs leaves these out`, textLines(source), []);
     }
 });
+
+// Lines that begin with a blank within a text of several lines: a bracket there is no fault.
+function textLines(source) {
+    const lines = source.replace(/^import [^;]*;\n/gm, '').replace(/^export (?=const|let|function|async|class)/gm, '').split('\n');
+    return lines.filter((line, at) => {
+        if (!line.startsWith(' ') || /^ *\/\//.test(line)) return false;
+        try {
+            new Script(`async () => {${lines.map((other, i) => i === at ? `)${other}` : other).join('\n')}\n}`);
+            return true;
+        } catch { return false; }
+    });
+}
 
 // Top-level functions and methods that are longer, by their first lines.
 function longFunctions(lines) {

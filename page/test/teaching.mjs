@@ -23,22 +23,25 @@ export async function teach(page, answers, forms = []) {
 export const teachMissing = (page, answers) =>
     teach(page, Object.fromEntries(Object.entries(answers).filter(([words]) => !explored.has(words.split(' ')[0]))));
 
-// The next answers to each of these commands, `check` or `explore given`, are held until they are let go, also where the job is stopped
-// meanwhile: they were on their way.
+// The next answers to each of these commands, as `check`, or of the page's own work, as `work packText`, are held until they are let go, also
+// where the job is stopped meanwhile: they were on their way.
 export const hold = (page, commands, times = 1) => page.value(`(() => {
-    const late = new Map(${JSON.stringify(commands)}.map(command => [command, ${times}])), start = engine.start.bind(engine);
-    window.held = [];
-    engine.start = (program, words, input, options) => {
-        const job = start(program, words, input, options), command = [words[0], words.join(' ')].find(name => late.get(name));
+    const late = new Map(${JSON.stringify(commands)}.map(command => [command, ${
+    times}])), start = engine.start.bind(engine), startWork = engine.startWork.bind(engine);
+    window.held ||= [];
+    const holdOne = (job, names) => {
+        const command = names.find(name => late.get(name));
         if (!command) return job;
         late.set(command, late.get(command) - 1);
         return {...job, stop() {}, answer: job.answer.then(answer => new Promise(resolve => held.push(() => resolve(answer))))};
     };
+    engine.start = (program, words, ...rest) => holdOne(start(program, words, ...rest), [words[0], words.join(' ')]);
+    engine.startWork = (work, ...rest) => holdOne(startWork(work, ...rest), ['work ' + work]);
 })()`);
 // So many answers are there, and held.
 export const isHeld = (page, count = 1) => page.until(`held.length >= ${count}`);
-// They come, and what follows of them.
-export async function letGo(page) {
-    await page.value('held.splice(0).forEach(go => go())');
+// They come, or so many of them, and what follows of them.
+export async function letGo(page, count = 99) {
+    await page.value(`held.splice(0, ${count}).forEach(go => go())`);
     await wait(700);
 }

@@ -258,6 +258,8 @@ await about('what settles a problem', () => {
     is('a command', commandsIn('explore cycle 3 1 2000', ['re', 'explore']), [{program: 'explore', words: ['cycle', '3', '1', '2000']}]);
     is('a command with a colouring that is given', commandsIn('explore shortest 12 8 given 4 colours', ['re', 'explore']),
         [{program: 'explore', words: ['shortest', '12', '8'], colours: 4}]);
+    is('with colours of edges', commandsIn('explore rounds 8 given 5 edge colours', ['re', 'explore']),
+        [{program: 'explore', words: ['rounds', '8'], colours: 5, isOfEdges: true}]);
     for (const [a, b] of [['A', 'B'], [`'A'`, `'B'`]])
         is('a pipe', commandsIn(`explore merge ${a} ${b} | explore closure`, ['re', 'explore']),
             [{program: 'explore', words: ['merge', 'A', 'B']}, {program: 'explore', words: ['closure']}]);

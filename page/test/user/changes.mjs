@@ -1,4 +1,5 @@
 // Changes of a problem: merges, arrows, names, relaxations and restrictions.
+import {mapInput} from '../../src/certificates.js';
 import {answer, example, natively, whyOf} from '../place.mjs';
 import {explored, teachMissing} from '../teaching.mjs';
 import {cardsAre, drawn, MIS} from '../user.mjs';
@@ -85,6 +86,26 @@ export const changesSessions = {
         await user.says('refused: step 1, clause L4');
         checks.equal('why', await page.until(`document.querySelector('.card.failing .fault div div')?.textContent`),
             whyOf(await user.certificate()));
+    },
+
+    async 'a fault of a map stands at its line'(user, page, checks) {
+        await user.openProblem(...MIS);
+        await user.act('Edit');
+        const
+            said = `[...document.querySelectorAll('dialog > .state')].at(-1).textContent`,
+            marked =
+                `(area => area.classList.contains('faulty') ? area.style.getPropertyValue('--fault') : '')(document.querySelector('dialog .map .area'))`;
+        await page.until(`${said} === 're relax: yes'`);
+        const fault = answer(['relax'], mapInput(await user.problem(), await user.problem(), ['M M', 'O Z', 'P P']));
+        for (const [map, says, line] of [['M M\n\nO Z\nP P', `map line 3: re relax: ${fault.trim().replace(/.*: /, '')}`, '3'],
+                 ['M M\nO\nP P', 'map line 2: it has another form.', '2'], ['\nM M\nO O\nP P', 're relax: yes', '']]) {
+            await page.fill('dialog .map textarea', map);
+            checks.equal(JSON.stringify(map), await page.until(`${said} === ${JSON.stringify(says)} && ${said}`), says);
+            checks.equal(`${JSON.stringify(map)}: its mark`, await page.value(marked), line);
+            checks.equal(`${JSON.stringify(map)}: a card of it`,
+                await page.value(`document.querySelector('dialog footer .primary').disabled`), line !== '');
+        }
+        await page.key('Escape');
     },
 
     async 'a restriction by hand'(user, page, checks) {

@@ -2,7 +2,7 @@
 // the test in its place.
 import {wait} from '../browser.mjs';
 import {answer, natively} from '../place.mjs';
-import {explored, teach} from '../teaching.mjs';
+import {explored, hold, isHeld, letGo, teach} from '../teaching.mjs';
 import {cardsAre, drawn, MIS} from '../user.mjs';
 
 const quoted = value => JSON.stringify(value);
@@ -95,8 +95,9 @@ export const effortSessions = {
         const hint =
             `[...document.querySelectorAll('.card.last .actions > .hint')].filter(node => node.getClientRects().length).map(node => node.textContent)`;
         const [said] = await page.until(`${hint}.length && ${hint}`);
-        checks.check(
-            said, /^Of these searches rounds, longest, [a-z, ]+ ask with what is given \(a colouring, 4 colours\); the others /.test(said));
+        checks.check(said,
+            /^Of these searches rounds, longest, [a-z, ]+ ask with what is given \(a colouring, 4 colours\)(, as Settle does)?; the others /
+                .test(said));
         await page.value('sent.length = 0');
         await user.search('longest', 1, 10);
         await page.until(cardsAre(3));
@@ -117,6 +118,162 @@ export const effortSessions = {
         checks.check('none reads it',
             (await page.until(`${hint}.length && ${hint}`))[0].startsWith(
                 'None of these searches asks with what is given (a colouring, 4 colours): '));
+    },
+
+    async 'bounds of each kind with what is given'(user, page, checks) {
+        if (!explored.has('given')) return;
+        const colours = answer(['family', 'colouring', '3', '2', '3']), line = `document.querySelector('#given-line .line')?.textContent`;
+        const given = async () => natively('explore', ['given'], `${await user.certificate()}== given\n${colours}`).text.split('\n', 1)[0];
+        const sent = words => page.value(`sent.find(([words]) => words === ${quoted(words)})[1]`);
+        // What the program lacks a word for is answered as for the chain alone, with the input behind it.
+        const teachWord = (name, words, chain) => teach(page,
+            explored.has(`${name} given`) ? {} : {[words]: [0, `${natively('explore', words.split(' '), chain).text}== given\n${colours}`]},
+            [`${name} given`]);
+        const giveColours = async () => {
+            await page.choose('#given-kind', 'a colouring');
+            await page.until('bench.cards.path()[0].given?.count === 4');
+            await page.fill('#given input', '3');
+            await page.until(`bench.cards.path()[0].given.count === 3 && ${line}`);
+        };
+        // An upper bound, of a problem and what is given.
+        await user.openProblem('M O\nP^2', 'M [OP]\nO^2');
+        const upper = await user.problem();
+        await page.choose('#given-kind', 'a problem…');
+        await page.fill('dialog textarea', '[AB]^2', 0);
+        await page.fill('dialog textarea', 'A B', 1);
+        await page.until(`!document.querySelector('dialog footer button').disabled`);
+        await page.click('dialog footer button', 'Use it');
+        const input = await page.until('bench.cards.path()[0].given?.problem');
+        await teach(page, explored.has('shortest given') ? {} : {
+            'shortest 8 10': [0, `${natively('explore', ['shortest', '8', '10'], upper).text}== given\n${input}`]
+        },
+            ['shortest given']);
+        await user.search('shortest', 8, 10);
+        await page.until(`bench.cards.path().length > 1 && ${line}`);
+        checks.check('the chain of kind upper, and what is given',
+            (await sent('shortest 8 10')).startsWith('== certificate 1 upper\n') &&
+                (await sent('shortest 8 10')).endsWith(`== given\n${input}`));
+        const wanted = natively('explore', ['given'], `${await user.certificate()}== given\n${input}`).text.split('\n', 1)[0];
+        checks.check(`an upper bound: ${wanted}`, /^accepted: given that input, solvable in /.test(wanted));
+        checks.equal('its line', await page.until(`${line} === ${quoted(wanted)} && ${line}`), wanted);
+        // A fixed point, behind a step.
+        await user.openProblem('O [IO]^2', 'I O');
+        await user.step(2);
+        await giveColours();
+        await teachWord('cycle', 'cycle 2 0 20000', await user.certificate());
+        await user.search('cycle', 2, 0);
+        await page.until(`bench.cards.path().length > 2 && ${line}?.includes('any number')`);
+        checks.check('what is sent', (await sent('cycle 2 0 20000')).endsWith(`== given\n${colours}`));
+        checks.equal('a fixed point given that input', await page.value(line), await given());
+        checks.check('the card says so',
+            (await page.value(`document.querySelector('.card.last .title').textContent`))
+                .endsWith('cycle 2 0 20000 given a colouring, 3 colours'));
+        // What was given when it was asked is given, also where the user chose something else meanwhile.
+        await user.openProblem('O [IO]^2', 'I O');
+        await giveColours();
+        await teachWord('longest', 'longest 1 10', await user.certificate());
+        await hold(page, ['longest']);
+        await user.search('longest', 1, 10);
+        await isHeld(page);
+        await page.choose('#given-kind', 'nothing');
+        await page.until('!bench.cards.path()[0].given');
+        await letGo(page);
+        await page.until(`bench.cards.path().length === 2 && bench.cards.path()[0].given?.count === 3`);
+        checks.equal('judged with it', await page.until(`${line}?.includes('in 1 or') && ${line}`), await given());
+    },
+
+    async 'settle with what is given'(user, page, checks) {
+        if (!explored.has('given')) return;
+        const first = 'more than 2, at most 5 (1 to 3 rounds of the graph) given that input',
+              bys = ['explore longest 1 10', 'explore shortest 8 10'];
+        await user.openProblem(...MIS);
+        const problem = await user.problem(), colours = answer(['family', 'colouring', '3', '2', '4']),
+              longest = natively('explore', ['longest', '1', '10'], problem).text;
+        await teach(page, {
+            settle: [1, [first, ...bys.map(text => `by: ${text}`), ''].join('\n')],
+            'settle 2': [0, 'not solvable in any number of rounds given that input\nby: explore cover 2\n'],
+            'longest 1 10': [0, `${longest}== given\n${colours}`]
+        },
+            ['settle N', 'settle given']);
+        const asked = words => page.value(`sent.filter(([words]) => words === ${quoted(words)}).map(([, text]) => text)`);
+        await page.choose('#given-kind', 'a colouring');
+        await page.until('bench.cards.path()[0].given');
+        await user.act('Settle');
+        const rows =
+            `[...document.querySelectorAll('.card.last .note:first-child .settled')].map(row => [row.querySelector('strong')?.textContent, row.querySelector('.line').textContent, [...row.querySelectorAll('.by button')].map(button => button.textContent)])`;
+        await page.until(`${notes}[0]`);
+        checks.equal('one line, that of the program', await page.value(rows), [['settle given a colouring, 4 colours: ', first, bys]]);
+        checks.equal('the problem, and what is given', await asked('settle'), [`${problem}== given\n${colours}`]);
+        checks.check('the card says which words ask with it',
+            (await page.until(`document.querySelector('.card.last .actions > .hint').textContent`)).includes(', as Settle does; '));
+        // What shows it is asked with the same input.
+        await page.click('.card.last .note .by button', 'longest');
+        await page.until(cardsAre(2));
+        checks.equal('what shows it', await asked('longest 1 10'), [`${problem}== given\n${colours}`]);
+        checks.equal('what is given stays as it was', await page.value(`bench.cards.path()[0].given.kind`), 'colouring');
+        const line = natively('explore', ['given'], `${await user.certificate()}== given\n${colours}`).text.split('\n', 1)[0];
+        checks.check(`judged: ${line}`, await page.until(`document.querySelector('#given-line .line')?.textContent === ${quoted(line)}`));
+        await page.click('#undo');
+        await page.until(cardsAre(1));
+        await page.click('.card.last .more-effort');
+        await page.until(`${notes}.length === 2`);
+        checks.equal('more of it', [await asked('settle 2'), (await page.value(rows))[0].slice(0, 2)], [
+            [`${problem}== given\n${colours}`],
+            ['settle 2 given a colouring, 4 colours: ', 'not solvable in any number of rounds given that input']
+        ]);
+        checks.check('its model',
+            (await page.value(`${notes}[0]`)).includes('any number of rounds given that input with port numbers and that input'));
+        // Nothing given: another question, with an answer of its own beside these.
+        await page.choose('#given-kind', 'nothing');
+        await page.until('!bench.cards.path()[0].given');
+        await user.act('Settle');
+        await page.until(`${notes}.length === 3`);
+        checks.equal('the problem alone', (await asked('settle'))[1], problem);
+        checks.equal('with more effort of its own',
+            await page.value(`document.querySelector('.card.last .note:first-child .more-effort')?.title.split(':')[0]`),
+            'explore settle 2');
+        checks.check('both are known',
+            (await page.value(notes)).map(text => text.split(':')[0]).join() ===
+                'settle,settle 2 given a colouring, 4 colours,settle given a colouring, 4 colours');
+        checks.equal('what was tried',
+            await page.value(`[...document.querySelectorAll('.card.last .tried td:first-child')].map(cell => cell.textContent).sort()`),
+            ['settle', 'settle 2 given a colouring, 4 colours', 'settle given a colouring, 4 colours']);
+        // Behind a step what is given has its sides exchanged.
+        await page.choose('#given-kind', 'a colouring');
+        await page.until('bench.cards.path()[0].given');
+        await user.step(2);
+        await page.value('sent.length = 0');
+        await user.act('Settle');
+        await page.until(`${notes}.length === 1`);
+        const [active, passive] = colours.trim().split('\n\n');
+        checks.equal('with its sides exchanged', (await asked('settle'))[0], `${await user.problem()}== given\n${passive}\n\n${active}\n`);
+    },
+
+    async 'colours of edges'(user, page, checks) {
+        if (!explored.has('input') || !explored.has('rounds')) return;
+        await teach(page, {
+            settle: [
+                0,
+                'not solvable in any number of rounds\nby: explore cover 2\nwith identifiers: order log* N\nby: explore rounds 8 given 5 edge colours\n'
+            ]
+        });
+        await user.openProblem(...MIS);
+        await user.act('Settle');
+        await page.click('.card.last .note .by button', 'rounds 8 given 5 edge colours');
+        const input = natively('explore', ['input', 'edges', '3', '2', '5']).text,
+              line = natively('explore', ['rounds', '8'], `${await user.problem()}== given\n${input}`).text.trim();
+        checks.check(line, (await page.until(`${notes}.length === 2 && ${notes}[0]`)).includes(line));
+        checks.equal('asked with that input', await page.value(`sent.find(([words]) => words === 'rounds 8')[1]`),
+            `${await user.problem()}== given\n${input}`);
+        // The field has their number.
+        await page.choose('#given-kind', 'an edge colouring');
+        await page.until('bench.cards.path()[0].given?.count === 3');
+        checks.equal('at least as many as the degree', await page.value('bench.cards.path()[0].given.problem'),
+            natively('explore', ['input', 'edges', '3', '2']).text);
+        await page.fill('#given input', '2');
+        await page.until(`document.querySelector('#given input[aria-invalid=true]')`);
+        await page.fill('#given input', '5');
+        checks.equal('five', await page.until(`bench.cards.path()[0].given.count === 5 && bench.cards.path()[0].given.problem`), input);
     },
 
     async 'what is given to a card that has its buttons already'(user, page, checks) {

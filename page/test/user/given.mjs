@@ -103,13 +103,13 @@ const sessions = {
         checks.check('one that is no input', (await page.until(said)).startsWith('explore given: no: not an input: B: '));
         checks.equal('at its line', await page.value(at), ['1', '']);
         await page.fill('dialog textarea', '[IO]^3', 0);
-        await page.fill('dialog textarea', 'I^3 O^2', 1);
+        await page.fill('dialog textarea', '\nI^3 O^2', 1);
         await page.until(`!document.querySelector('dialog footer button').disabled`);
         await page.click('dialog footer button', 'Use it');
         checks.check('wrong degrees',
             (await page.until(`${said}?.includes('degrees') && ${said}`))
                 .startsWith('explore given: no: not an input: degrees: here they are 3 and 5,'));
-        checks.equal('at a line that stands there', await page.value(at), ['', '1']);
+        checks.equal('at a line that stands there', await page.value(at), ['', '2']);
         checks.check('what was given stays', (await page.value('bench.cards.path()[0].given.problem')) === orientation);
     },
 

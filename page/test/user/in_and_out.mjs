@@ -1,6 +1,6 @@
 // Texts that come in from the clipboard and by dropping, and the report that goes out, on the page and on paper.
 import {answer, example, natively} from '../place.mjs';
-import {explored} from '../teaching.mjs';
+import {explored, hold, isHeld, letGo} from '../teaching.mjs';
 import {cardsAre, drawn, MIS} from '../user.mjs';
 
 const fixed = example('sinkless-fixed.txt'), quoted = value => JSON.stringify(value);
@@ -113,6 +113,15 @@ export const inAndOutSessions = {
             await page.value(
                 `['#given-kind', '#given input', '#given-line .line'].every(selector => document.querySelector(selector).getClientRects().length)`));
         await page.ask('Emulation.setEmulatedMedia', {media: ''});
+        // A line that comes behind the report is put into it.
+        await hold(page, ['given']);
+        await page.choose('#given-kind', 'an orientation');
+        await isHeld(page);
+        await page.until(`document.querySelector('.paper pre') && document.querySelector('.paper').textContent.includes('an orientation')`);
+        checks.check('not there yet', !(await page.value(`document.querySelector('.paper').textContent`)).includes('given that input'));
+        await letGo(page);
+        const late = await page.until(`document.querySelector('#given-line .line')?.textContent`);
+        checks.check(`a late line: ${late}`, (await page.value(shown)).includes(late));
         await page.choose('#given-kind', 'nothing');
         await page.until(`!document.querySelector('.paper').textContent.includes('What is given')`);
     },

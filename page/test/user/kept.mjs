@@ -103,6 +103,22 @@ export const keptSessions = {
         checks.equal('the last word', (await page.until(`document.querySelector('#editor .state').textContent && ${texts}`))[0], 'D^3');
     },
 
+    async 'what other programs answered is not kept'(user, page, checks) {
+        await user.openProblem(...MIS);
+        await user.act('Universal rows');
+        await page.until(`document.querySelector('.card.last .note')`);
+        await page.fill('#editor textarea', 'A^3', 0);
+        await wait(700);
+        await kept(page);
+        await page.value(
+            `(async () => { const kept = JSON.parse(await engine.work('unpackSession', sessionStorage.getItem('re-workbench')));
+            bench.keeper.keepAtOnce = () => {};
+            sessionStorage.setItem('re-workbench', JSON.stringify({...kept, build: 'another one'})); })()`);
+        await page.reload();
+        checks.equal('the text in the editor is', (await page.until(`${cardsAre(1)} && ${texts}[0] && ${texts}`))[0], 'A^3');
+        checks.equal('notes are not', await page.value(`document.querySelectorAll('.note').length`), 0);
+    },
+
     async 'light and dark at once'(user, page, checks) {
         const theme = 'document.documentElement.dataset.theme',
               before = await page.value(`matchMedia('(prefers-color-scheme: dark)').matches`);

@@ -1,5 +1,6 @@
 // Answers that come late: what is shown of another chain, or another text, is never said of the one that is shown now.
 import {mapInput} from '../../src/certificates.js';
+import {wait} from '../browser.mjs';
 import {answer, example, natively} from '../place.mjs';
 import {explored, hold, isHeld, letGo} from '../teaching.mjs';
 import {cardsAre, drawn, MIS} from '../user.mjs';
@@ -100,6 +101,18 @@ export const lateSessions = {
             'explore', ['given'], `${await user.certificate()}== given\n${await page.value('bench.cards.path()[0].given.problem')}`)
                            .text.split('\n', 1)[0];
         checks.check(`of the chain that is shown: ${await page.value(said)}`, (await page.value(said)).startsWith(wanted));
+        // Also where the chain that is shown isn't checked yet.
+        await hold(page, ['given']);
+        await page.click('#redo');
+        await page.until(`${line}?.includes('in 2 or fewer')`);
+        await isHeld(page);
+        await hold(page, ['check']);
+        await page.click('#undo');
+        await isHeld(page, 2);
+        await letGo(page, 1);
+        checks.equal('nothing of the other one', await page.value(said), 'asking…');
+        await letGo(page);
+        await page.until(`${said}.includes('in 1 or fewer')`);
         // A kind that is chosen while another one is asked for.
         if (!explored.has('input')) return;
         await hold(page, ['input sides 3 2 0']);
@@ -157,6 +170,120 @@ export const lateSessions = {
         await user.openProblem(...MIS);
         await letGo(page);
         checks.equal('none on a chain of one card', await page.value(`document.querySelectorAll('#offers button').length`), 0);
+        // A relaxation that leads back.
+        const offers = `[...document.querySelectorAll('#offers button')].map(node => node.textContent)`;
+        await user.openProblem('A [AB]', 'B [AB]');
+        await hold(page, ['relax']);
+        await user.step(2);
+        await isHeld(page);
+        await page.click('#undo');
+        await page.until(`${cardsAre(1)} && ${line}`);
+        await letGo(page);
+        checks.equal('nor a relaxation', await page.value(offers), []);
+        await page.click('#redo');
+        await page.until(cardsAre(2));
+        checks.equal('where it leads back', await page.until(`${offers}.length && ${offers}`), ['Relax problem 1 to problem 0: A→A B→B']);
+        await page.click('#offers button', 'Relax');
+        await page.until(cardsAre(3));
+        checks.equal('it is the problem before', await user.problem(), await page.value('bench.cards.path()[0].problem'));
+        await page.click('#offers button', 'close as a fixed point');
+        await user.says('accepted: not solvable in any number of rounds');
+    },
+
+    async 'a check that is stopped by the next one'(user, page, checks) {
+        await user.openProblem(...MIS);
+        await user.says('accepted: not solvable in 0 or fewer rounds');
+        // The next check takes for ever, and the one behind it comes when the test says so.
+        await page.value(
+            `(() => { const start = engine.start.bind(engine); let count = 0; engine.start = (program, words, input, options) => words[0] === 'check' && ++count === 1 ? start('re', ['lower', '9', '3'], ${
+                JSON.stringify(answer(['read'], MIS.join('\n\n')))}, options) : start(program, words, input, options); })()`);
+        await user.act('Step');
+        await page.until(`${cardsAre(2)} && [...engine.running].some(({request}) => request.words?.[0] === 'lower')`);
+        await hold(page, ['check']);
+        await user.act('Step');
+        await page.until(cardsAre(3));
+        await isHeld(page);
+        checks.equal('it says nothing', await page.value(verdict), 'checking…');
+        await letGo(page);
+        await user.says('accepted: not solvable in 2 or fewer rounds');
+    },
+
+    async 'late rows of a step'(user, page, checks) {
+        await user.openProblem('M O\nP^2', 'M [OP]\nO^2');
+        for (const n of [2, 3]) await user.step(n);
+        await user.verdict();
+        const parts =
+            `[...document.querySelectorAll('.card:nth-child(2) .written .parts h4')].map(node => node.textContent.split(' ').slice(1).join(' '))`;
+        await page.value(
+            `document.querySelectorAll('.card')[1].querySelector('.toggle').getAttribute('aria-expanded') === 'true' || document.querySelectorAll('.card')[1].querySelector('.toggle').click()`);
+        await hold(page, ['work stepLines']);
+        await page.click('.card:nth-child(2) .written summary', 'The step');
+        await isHeld(page);
+        // A restriction behind it: the certificate is of kind upper, which has no rows.
+        await user.select((await page.value(`bench.facts.of(bench.cards.path().at(-1).problem).problem.labels`))[0]);
+        await user.actOnSelected('Leave out');
+        await page.until(`${cardsAre(4)} && bench.claim.verdict?.kind === 'upper' && ${parts}.join() === 'lines of the map'`);
+        await letGo(page);
+        checks.equal('those of the certificate that is shown', await page.value(parts), ['lines of the map']);
+    },
+
+    async 'a late session'(user, page, checks) {
+        // In the address, and as the browser keeps it.
+        const cardsIn = {
+            packSession: async () => JSON.parse(await page.value(`engine.work('unpackSession', location.hash.slice(3))`)).cards,
+            packText: async () =>
+                JSON.parse(await page.value(`engine.work('unpackSession', sessionStorage.getItem('re-workbench'))`)).history.now[1]
+        };
+        for (const [work, cards] of Object.entries(cardsIn)) {
+            await page.go();
+            await user.openProblem(...MIS);
+            await user.step(2);
+            await page.until(`!bench.keeper.timer && location.hash.length > 20`);
+            await hold(page, [`work ${work}`]);
+            await page.click('#undo');
+            await isHeld(page);
+            await page.click('#redo');
+            await page.until(`!bench.keeper.timer && sessionStorage.getItem('re-workbench') && location.hash.length > 20`);
+            await wait(700);
+            checks.equal(`${work}: the cards that are shown`, (await cards()).length, 2);
+            await letGo(page);
+            checks.equal(`${work}: still`, (await cards()).length, 2);
+        }
+    },
+
+    async 'a late fault of a diagram'(user, page, checks) {
+        if (!explored.has('closure')) return;
+        await user.openProblem('A^3\nB^2 C', 'A C\nB^2');
+        await hold(page, ['closure']);
+        await page.click('.card.last .menu summary');
+        await page.click('.card.last .menu button', 'Closure with a diagram…');
+        await page.fill('dialog textarea', 'A C\n\nA D');
+        await page.click('dialog button', 'Find');
+        // Faults come at once, as a rule: a window that waits is closed.
+        await page.until(`!document.querySelector('dialog')`);
+        await isHeld(page);
+        await letGo(page);
+        checks.check('the window is there again, with the fault',
+            (await page.until(`document.querySelector('dialog .state .faulty')?.textContent`)).startsWith('line 3: '));
+        checks.equal('and with what was written', await page.value(`document.querySelector('dialog textarea').value`), 'A C\n\nA D');
+        checks.equal('at its line', await page.value(`document.querySelector('dialog .area').style.getPropertyValue('--fault')`), '3');
+        await page.key('Escape');
+    },
+
+    async 'late merges'(user, page, checks) {
+        await user.openProblem(...MIS);
+        await page.value('engine.answers.clear()');
+        await hold(page, ['zero'], 2);
+        await user.act('Try merges');
+        await isHeld(page);
+        await page.click('dialog button', 'Try all');
+        await isHeld(page, 2);
+        await letGo(page, 1);
+        checks.check(
+            'what runs now is shown', /^1 of 3 Stop$/.test(await page.value(`document.querySelector('dialog .state').textContent`)));
+        await letGo(page);
+        await page.until(`document.querySelector('dialog .state').textContent.startsWith('3 merges tried: ')`);
+        await page.key('Escape');
     },
 
     async 'a late report'(user, page, checks) {

@@ -93,12 +93,33 @@ export const smallSessions = {
             checks.check(`${what}: its window fits`,
                 await page.value(
                     `(() => { const box = document.querySelector('dialog').getBoundingClientRect(); return box.left >= 0 && box.right <= innerWidth && document.querySelector('dialog').scrollWidth <= document.querySelector('dialog').clientWidth; })()`));
+            checks.check(`${what}: its name is seen`, await page.value(seen('dialog h2')));
+            checks.equal(`${what}: nothing in it hangs over its side`,
+                await page.value(
+                    `(() => { const dialog = document.querySelector('dialog'), {right} = dialog.getBoundingClientRect(), edge = right - parseFloat(getComputedStyle(dialog).paddingRight);
+                    return [...dialog.querySelectorAll('button:not(.close), input, textarea, select, p')].filter(node => node.getBoundingClientRect().right > edge + 1).map(node => node.outerHTML.slice(0, 60)); })()`),
+                []);
             await page.key('Escape');
             await page.until(`!document.querySelector('dialog')`);
         }
         await page.choose('#gallery', 'two colouring 3');
         await page.until(`bench.cards.path()[0].title === 'two colouring 3' && ${drawn}`);
-        await page.click('.card.last .menu summary');
+        // A long name breaks.
+        const {id, title} = await page.value(`(({id, title}) => ({id, title}))(bench.cards.path()[0])`);
+        await page.value(`bench.cards.amend(${id}, {title: 'x'.repeat(80)})`);
+        await wait(300);
+        checks.equal('a long name', await page.value(overSide), 0);
+        checks.check('it is seen whole',
+            await page.value(
+                `(() => { const title = document.querySelector('.card .title'); return title.getBoundingClientRect().right <= title.closest('.card').getBoundingClientRect().right; })()`));
+        await page.value(`bench.cards.amend(${id}, {title: ${JSON.stringify(title)}})`);
+        // The menu opens also where its name stands right above the foot.
+        const summary = `document.querySelector('.card.last .menu summary').getBoundingClientRect()`;
+        await page.value(`scrollBy(0, ${summary}.bottom - document.querySelector('#claim').getBoundingClientRect().top + 12)`);
+        await wait(300);
+        const at = await page.value(`(({x, y, width, height}) => ({x: x + width / 2, y: y + height / 2}))(${summary})`);
+        for (const type of ['mouseMoved', 'mousePressed', 'mouseReleased']) await page.mouse(type, at);
+        await page.until(`document.querySelector('.card.last .menu').open`);
         await wait(400);
         checks.equal('a chain with a map', await page.value(overSide), 0);
         checks.check('the menu comes into view', await page.value(seen('.card.last .menu button')));

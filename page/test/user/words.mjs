@@ -118,6 +118,14 @@ export const wordsSessions = {
             await user.act('Settle');
             await page.until(`document.querySelector('.card.last .note .line')`);
         }
+        // A bound without a further step.
+        await user.search('lower', 0, 0);
+        await page.until(
+            `[...document.querySelectorAll('.card.last .note strong')].some(node => node.textContent.includes('not solvable'))`);
+        // A line that comes as an answer.
+        await teach(page, {'longest 1 2': [1, 'not solvable in any number of rounds\n']});
+        await user.search('longest', 1, 2);
+        await page.until(`document.querySelector('.card.last .note strong').textContent.startsWith('longest 1 2')`);
         await page.click('#certificate');
         // Each text that says so names the model behind it.
         const bare = await page.value(`(() => { const walker = document.createTreeWalker(document.body, NodeFilter.SHOW_TEXT), bare = [];

@@ -117,6 +117,10 @@ async function inAndOut(checks, {value, until}) {
           input = answer(['family', 'colouring', '3', '2', '4']);
     checks.equal('what is given', line,
         natively('explore', ['given'], `${await value('bench.claim.verdict.certificate')}== given\n${input}`).text.split('\n', 1)[0]);
+    // Settle alone: what is given belongs to what it asks.
+    await value(
+        `(() => { const list = document.querySelector('#given-kind'); list.value = 'nothing'; list.dispatchEvent(new Event('change')); })()`);
+    await until(`!document.querySelector('#given-line .line')`);
     await value(`[...document.querySelectorAll('.card.last .actions button')].find(node => node.textContent === 'Settle').click()`);
     const problem = await value('bench.cards.path().at(-1).problem'),
           [settled] = natively('explore', ['settle'], problem).text.split('\n', 1);

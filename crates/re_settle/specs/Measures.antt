@@ -27,6 +27,6 @@ shortest_steps doublings = 12 + 8 * doublings
 abbrev pub shortest_labels : ℕ → ℕ → ℕ
 shortest_labels degree doublings = if nat_lt degree 4 then 8 + 4 * doublings else if nat_lt degree 5 then 6 + 2 * doublings else 4 + doublings
 
--- how many steps `shortest` takes at most given few colours
+-- how many steps `shortest` takes at most given few colours: as many as `longest`
 abbrev pub coloured_steps : ℕ → ℕ
-coloured_steps doublings = 8 + 8 * doublings
+coloured_steps doublings = longest_steps doublings

@@ -94,10 +94,10 @@ pub fn shortest_labels(degree: u8, doublings: u8) -> u8
     }
 }
 
-/// How many steps `shortest` takes at most given few colours.
+/// How many steps `shortest` takes at most given few colours: as many as `longest`.
 pub(crate) fn coloured_steps(doublings: u8) -> u8
     requires { doublings ≤ 6 }
     ensures { result ≡ coloured_steps doublings }
 {
-    8 + 8 * doublings
+    longest_steps(doublings)
 }

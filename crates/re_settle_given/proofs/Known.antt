@@ -1,5 +1,5 @@
 -- What each of the words shows given an input problem where it finds something.
-use Rattle.std.proofs.Common.{◌≡◌, ℕ, ◌*◌, ◌≤◌, List, [], length, inl, inr, refl, subst, sym, ap, ◌∙◌, arith, Option, None, Some}
+use Rattle.std.proofs.Common.{◌≡◌, ℕ, ◌*◌, ◌≤◌, [], length, inl, inr, refl, subst, sym, ap, ◌∙◌, arith, Option, None, Some}
 use Rattle.std.specs.Prelude.{IfSome, option_map}
 use Rattle.re_cert.specs.Bounds.{Bound}
 use Rattle.re_cert.specs.declared.certificate.Kind.{Kind}
@@ -7,10 +7,8 @@ use Rattle.re_cert.specs.declared.certificate.Kind.TheVariants as kind
 use Rattle.re_chain_parts.specs.Chains.{chain_with}
 use Rattle.re_chain_texts.specs.ChainTexts.{problem_chain}
 use Rattle.re_closure.specs.Closures.{IsClosed}
-use Rattle.re_cover.specs.Graphs.{PortGraph}
 use Rattle.re_fit.specs.InputProblems.{input_fault}
 use Rattle.re_frame.specs.Outcomes.{Outcome}
-use Rattle.re_given.specs.Given.{SolvableGiven}
 use Rattle.re_given.specs.Inputs.{IsInput}
 use Rattle.re_given_bounds.specs.GivenBounds.{MeansGiven}
 use Rattle.re_given_words.proofs.CountingMeans.{count_means}
@@ -22,7 +20,6 @@ use Rattle.re_given_words.specs.Verdicts.{given_outcome, lower_with}
 use Rattle.re_given_words.specs.declared.counting.Counted.{Counted}
 use Rattle.re_given_words.specs.declared.counting.Counted.TheVariants as counted
 use Rattle.re_given_words.specs.declared.words.BoundWord.TheVariants.{Given}
-use Rattle.re_graph.specs.Solving.{AreSolution, IsCover}
 use Rattle.re_labels.specs.declared.TheConstants.{MAX_LABELS}
 use Rattle.re_problem.specs.NamedProblems.{IsNamedProblem, NamedProblem, unnamed}
 use Rattle.re_problem.specs.Problems.{IsProblem, Problem}
@@ -31,7 +28,7 @@ use Rattle.re_settle.specs.declared.types.Claim.{Claim}
 use Rattle.re_settle.specs.declared.types.Claim.TheVariants.{AtMost, MoreThan, Never}
 use Rattle.re_settle.specs.declared.types.Shown.{Shown}
 use Rattle.re_settle.specs.declared.types.Way.{Way}
-use Rattle.re_settle.specs.declared.types.Way.TheVariants.{Closure, Cover, Cycle, Longest, Rounds, Shortest}
+use Rattle.re_settle.specs.declared.types.Way.TheVariants.{Closure, Cycle, Longest, Rounds, Shortest}
 use Rattle.re_settle_given.specs.Answers.{IsUntold}
 use Rattle.re_settle_given.specs.Claims.{HoldsGiven}
 use Rattle.re_settle_given.specs.Ways.{HasGivenText, IsKnownGiven}
@@ -123,12 +120,6 @@ pub cycle_known : (times nodes : ℕ) (problem input : NamedProblem) (chain boun
 cycle_known times nodes problem input chain bound many start goes both =
     let on : GoesOnGiven input kind.Fixed 8 MAX_LABELS (problem_chain problem) bound = subst (λ (c : Bound). GoesOnGiven input kind.Fixed 8 MAX_LABELS c bound) start goes in
     record { shown = record { tried = (refl, refl, many); shows = (refl, (bound, on, both)) }; holds = on.means }
-
--- ---- graphs
-pub cover_known : (times : ℕ) (problem input : NamedProblem) (nodes : ℕ) (graph : PortGraph) (labels : List ℕ) → IsTried times problem (Cover nodes) → IsCover (unnamed problem) graph
-    → AreSolution (unnamed input) graph labels → graph.nodes ≤ nodes → ((T : ℕ) → SolvableGiven (unnamed problem) (unnamed input) T → ⊥) → IsKnownGiven times problem input Never (Cover nodes)
-cover_known times problem input nodes graph labels tried cover given few never =
-    record { shown = record { tried = tried; shows = (refl, (graph, labels, record { cover = cover; given = given; few = few })) }; holds = never }
 
 -- ---- bounds that go on from the problem
 pub longest_known : (times : ℕ) (problem input : NamedProblem) (chain bound : Bound) (steps labels rounds : ℕ) → IsTried times problem (Longest steps labels) → chain ≡ problem_chain problem

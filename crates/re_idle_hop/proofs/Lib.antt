@@ -1,0 +1,3 @@
+pub mod IdleHop
+mod LabelPlaces
+mod Sides

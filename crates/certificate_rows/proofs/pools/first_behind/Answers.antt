@@ -1,6 +1,6 @@
 use Rattle.std.proofs.Common.{◌≡◌, ◌∙◌, ◌<◌, Some, ap, arith, slice_get}
 use Rattle.re_pool.proofs.Reading.{first_held, held_node}
-use Rattle.algorithm_rows.proofs.pools.first_behind.Goals as goal
+use Rattle.certificate_rows.proofs.pools.first_behind.Goals as goal
 
 pub returns-in-Some : goal.returns-in-Some
 returns-in-Some c =

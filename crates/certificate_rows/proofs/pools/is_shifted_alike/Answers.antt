@@ -1,5 +1,5 @@
 use Rattle.std.proofs.Common.{arith}
-use Rattle.algorithm_rows.proofs.pools.is_shifted_alike.Goals as goal
+use Rattle.certificate_rows.proofs.pools.is_shifted_alike.Goals as goal
 
 pub shift-requires-clause-view : goal.shift-requires-clause-view
 shift-requires-clause-view c =

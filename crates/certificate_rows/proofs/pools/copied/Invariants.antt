@@ -1,5 +1,5 @@
 use Rattle.std.proofs.Common.{◌≡◌, take}
-use Rattle.algorithm_rows.proofs.pools.copied.Given as goal
+use Rattle.certificate_rows.proofs.pools.copied.Given as goal
 
 abbrev pub invariant-loop-link : goal.invariant-loop-link
 invariant-loop-link l = l.copy.items ≡ take l.link-index l.link-items

@@ -1,7 +1,7 @@
 use Rattle.std.proofs.Common.{arith, length}
 use Rattle.re_pool.proofs.Links.{held-more}
 use Rattle.re_pool.proofs.Reading.{held_node}
-use Rattle.algorithm_rows.proofs.pools.shape_again.Goals as goal
+use Rattle.certificate_rows.proofs.pools.shape_again.Goals as goal
 
 pub returns-in-Node : goal.returns-in-Node
 returns-in-Node c =

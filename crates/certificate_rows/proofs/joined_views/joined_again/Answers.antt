@@ -5,7 +5,7 @@ use Rattle.re_views.proofs.ShiftCode.{child_at-children, shown}
 use Rattle.re_views.proofs.ShownLemmas.{children-tree}
 use Rattle.re_views.specs.Shown.{tree_of_children}
 use Rattle.re_views.specs.Trees.{IsView, cut}
-use Rattle.algorithm_rows.proofs.joined_views.joined_again.Goals as goal
+use Rattle.certificate_rows.proofs.joined_views.joined_again.Goals as goal
 
 pub branchwise-requires : goal.branchwise-requires
 branchwise-requires c =

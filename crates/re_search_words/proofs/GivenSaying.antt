@@ -30,7 +30,7 @@ module _ (input : NamedProblem) (chain : Bound) (outcome : Outcome) where
   found_says kind steps labels found = says_as outcome _ found.1.one (given_text_says found.0 input true)
 
   find_says : (word : SearchWord) → MayFindGiven word input chain outcome → MaySay outcome.status true
-  find_says (Longest steps labels) may = found_says Lower steps labels may
+  find_says (Longest steps labels) (found, only) = found_says Lower steps labels found
   find_says (Shortest steps labels) may = says_as outcome _ may.one (given_text_says chain input true)
   find_says (Cycle steps merges nodes) (inl may) = says_as outcome _ may.1.one (given_text_says may.0 input true)
   find_says (Cycle steps merges nodes) (inr (inl may)) = counts_say outcome may

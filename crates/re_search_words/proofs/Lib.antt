@@ -2,4 +2,5 @@ mod FoundGiven
 mod GivenSaying
 pub mod Saying
 mod Shortening
+mod ShorterTexts
 mod WordCounts

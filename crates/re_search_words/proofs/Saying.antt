@@ -18,7 +18,7 @@ use Rattle.re_search_words.specs.declared.words.SearchWord.{SearchWord}
 use Rattle.re_search_words.specs.declared.words.SearchWord.TheVariants.{Cycle, Longest, Shortest}
 
 find_says : (word : SearchWord) (chain : Bound) (outcome : Outcome) → MayFind word chain outcome → MaySay outcome.status true
-find_says (Longest steps labels) chain outcome may = says_as outcome _ may.1.one (certificate_says may.0 true)
+find_says (Longest steps labels) chain outcome (found, only) = says_as outcome _ found.1.one (certificate_says found.0 true)
 find_says (Shortest steps labels) chain outcome may = absurd may
 find_says (Cycle steps merges nodes) chain outcome (inl may) = says_as outcome _ may.1.one (certificate_says may.0 true)
 find_says (Cycle steps merges nodes) chain outcome (inr (inl may)) = says_as outcome _ may.2 refl

@@ -11,7 +11,7 @@ use Rattle.re_check.specs.declared.verdict.Verdict.{Verdict}
 use Rattle.re_fit.specs.InputProblems.{input_fault}
 use Rattle.re_fit.specs.declared.inputs.InputFault.{InputFault as NoInput}
 use Rattle.re_frame.specs.Check.{verdict_outcome}
-use Rattle.re_frame.specs.Outcomes.{Outcome, limit_of, outcome_of, refused}
+use Rattle.re_frame.specs.Outcomes.{Outcome, limit_of, outcome_of, refused, too_long}
 use Rattle.re_frame.specs.declared.output.Output.{Output}
 use Rattle.re_frame.specs.SearchLines.{not_found_line, not_lower_line, not_upper_line}
 use Rattle.re_frame.specs.TextFaults.{fault_outcome}
@@ -45,10 +45,11 @@ abbrev pub Refuses : NamedProblem → Bound → Option Output → Type 0
 Refuses input chain None = IsTaken input chain
 Refuses input chain (Some output) = (IsTaken input chain → ⊥) × (outcome_of output ≡ given_outcome Given input chain)
 
--- what the word may give to a chain that `given` accepts: a lower bound; the chain itself, which is an upper bound; or a fixed point, the counts of what was
--- looked at, or the limit of it
+-- what the word may give to a chain that `given` accepts: a lower bound, whose text is too long only where that of the chain itself is; the chain itself,
+-- which is an upper bound; or a fixed point, the counts of what was looked at, or the limit of it
 abbrev pub MayFindGiven : SearchWord → NamedProblem → Bound → Outcome → Type 0
-MayFindGiven (Longest steps labels) input chain outcome = IsFoundGiven input Lower steps labels chain outcome
+MayFindGiven (Longest steps labels) input chain outcome =
+    IsFoundGiven input Lower steps labels chain outcome × (outcome ≡ too_long → given_text_outcome chain input ≡ too_long)
 MayFindGiven (Shortest steps labels) input chain outcome = IsTextOnGiven input Upper steps labels chain chain outcome
 MayFindGiven (Cycle steps merges nodes) input chain outcome =
     IsFoundGiven input Fixed steps MAX_LABELS chain outcome ⊎ (HasCounts outcome ⊎ (outcome ≡ limit_of nodes (codes "nodes")))

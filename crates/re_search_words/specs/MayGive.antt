@@ -13,7 +13,7 @@ use Rattle.re_chain_texts.specs.OverChains.{GivesText, certificate_outcome, step
 use Rattle.re_check.specs.declared.verdict.Verdict.{Verdict}
 use Rattle.re_extend.specs.Extensions.{GoesOn}
 use Rattle.re_frame.specs.Check.{verdict_outcome}
-use Rattle.re_frame.specs.Outcomes.{Outcome, limit_of, refused}
+use Rattle.re_frame.specs.Outcomes.{Outcome, limit_of, refused, too_long}
 use Rattle.re_frame.specs.SearchLines.{not_found_line, not_lower_line, not_upper_line, solvable_line}
 use Rattle.re_frame.specs.TextFaults.{fault_outcome}
 use Rattle.re_search_words.specs.declared.words.SearchWord.{SearchWord}
@@ -30,10 +30,10 @@ abbrev pub IsFound : Kind → ℕ → ℕ → Bound → Outcome → Type 0
 IsFound kind steps labels chain outcome = (bound : Bound) × IsTextOn kind steps labels chain bound outcome
 
 -- ---- a lower bound or a fixed point
--- what the word may give to a chain of kind lower whose last problem isn't solvable without communication: a lower bound; or a fixed point, the counts of
--- what was looked at, or the limit of it. To `shortest` no chain of kind lower is given
+-- what the word may give to a chain of kind lower whose last problem isn't solvable without communication: a lower bound, whose text is too long only where
+-- that of the chain itself is; or a fixed point, the counts of what was looked at, or the limit of it. To `shortest` no chain of kind lower is given
 abbrev pub MayFind : SearchWord → Bound → Outcome → Type 0
-MayFind (Longest steps labels) chain outcome = IsFound Lower steps labels chain outcome
+MayFind (Longest steps labels) chain outcome = IsFound Lower steps labels chain outcome × (outcome ≡ too_long → certificate_outcome chain ≡ too_long)
 MayFind (Shortest steps labels) chain outcome = ⊥
 MayFind (Cycle steps merges nodes) chain outcome =
     IsFound Fixed steps MAX_LABELS chain outcome

@@ -13,20 +13,23 @@ ghost use Rattle.re_search_words.specs.GivenAnswers.{MayGiveText};
 ghost use Rattle.re_search_words.specs.MayGive.{MayFindBehind, MayGive, MayGiveAt, MayGiveSound, MayShorten, upper_chain, word_chain};
 ghost use Rattle.std.specs.Prelude.{◌≡◌, ◌≤◌, IfOk, None, Some, length};
 
+use crate::fitting::{fitting_text, three_quarters};
 use crate::given::given_output;
 use crate::words::SearchWord;
 use re_cert::{Certificate, Kind};
 use re_chain_texts::{certificate_output, is_certificate_text, read_chain, steps_refusal};
 use re_cycle::{Cycle, find_cycle};
+use re_extend::repeated;
 use re_frame::{
-    Finding, Output, fault_output, limit_of, not_found_output, not_lower_output, not_upper_output,
-    solvable_output, verdict_output,
+    Answer, Finding, Output, fault_output, limit_of, not_found_output, not_lower_output,
+    not_upper_output, solvable_output, verdict_output,
 };
 use re_given_words::GIVEN;
 use re_labels::NoMemory;
-use re_longest::{Longest, Shortest, find_longest, find_shortest};
+use re_longest::{Shortest, find_shortest};
 use re_problem::TextFault;
 use re_two_texts::has_line;
+use re_zero::zero_round;
 use std::alloc::Global;
 
 // What `longest` gives to a sound chain of kind lower.
@@ -39,10 +42,14 @@ fn longest_output(
     requires { IsSoundChain chain.now }
     ensures { IfOk result (λ output. MayFindBehind (zero_place (unnamed (last_problem chain.now))) (SearchWord.Longest steps labels) chain.now (outcome_of output)) }
 {
-    match find_longest(alloc, chain, steps, labels)? {
-        Longest::Found(certificate) => certificate_output(alloc, &certificate),
-        Longest::Solvable(place) => solvable_output(alloc, chain.last(), place),
+    if let Some(place) = zero_round(chain.last()) {
+        return solvable_output(alloc, chain.last(), place);
     }
+    if let Some(output) = fitting_text(alloc, chain, steps, labels)? {
+        return Ok(output);
+    }
+    let certificate = repeated(alloc, chain, steps, labels)?;
+    certificate_output(alloc, &certificate)
 }
 
 // What `cycle` gives to a sound chain of kind lower.
@@ -63,8 +70,8 @@ fn cycle_output(
     }
 }
 
-// What `shortest` gives to a sound chain of kind upper.
-fn shortest_output(
+// What `shortest` gives to a sound chain of kind upper, however long its text is.
+fn shortest_found(
     alloc: Global,
     chain: &Certificate,
     steps: u8,
@@ -77,6 +84,30 @@ fn shortest_output(
     match find_shortest(alloc, chain, steps, labels)? {
         Shortest::Found(certificate) => certificate_output(alloc, &certificate),
         Shortest::NotFound { nodes, cut } => not_found_output(alloc, nodes, cut),
+    }
+}
+
+// What `shortest` gives to a sound chain of kind upper.
+fn shortest_output(
+    alloc: Global,
+    chain: &Certificate,
+    steps: u8,
+    labels: u8,
+) -> Result<Output, NoMemory>
+    requires upper { chain.now.kind ≡ Upper }
+    requires meets { steps_fault chain.now.first 1 chain.now.steps ≡ None }
+    ensures { IfOk result (λ output. MayShorten (zero_place (unnamed (last_problem chain.now))) steps labels chain.now (outcome_of output)) }
+{
+    let output = shortest_found(alloc, chain, steps, labels)?;
+    if output.answer != Answer::Limit {
+        return Ok(output);
+    }
+    if let Some(_) = zero_round(chain.last()) {
+        return Ok(output);
+    }
+    match fitting_text(alloc, chain, steps, three_quarters(labels))? {
+        Some(fitting) => Ok(fitting),
+        None => Ok(output),
     }
 }
 

@@ -15,6 +15,7 @@ ghost use Rattle.re_two_texts.specs.TwoTexts.{front_chain, has_line};
 ghost use Rattle.std.specs.Prelude.{◌≡◌, ◌≤◌, IfOk, None, codes, length, true};
 
 use crate::answering::word_chain;
+use crate::fitting::{fitting_given, three_quarters};
 use crate::words::SearchWord;
 use re_cert::{Certificate, Kind};
 use re_chain_parts::over_problems;
@@ -22,12 +23,12 @@ use re_chain_texts::steps_refusal;
 use re_cycle::{Cycle, find_cycle_given};
 use re_fit::input_fault;
 use re_frame::{
-    Output, fault_output, limit_of, not_found_output, not_lower_output, not_upper_output,
+    Answer, Output, fault_output, limit_of, not_found_output, not_lower_output, not_upper_output,
     verdict_output,
 };
 use re_given_words::{GIVEN, given_verdict, input_fault_output, is_accepted, is_done, taken_law};
 use re_labels::NoMemory;
-use re_longest::{Shortest, find_longest_given, find_shortest_given};
+use re_longest::{Shortest, find_shortest_given};
 use re_problem::{Problem, TextFault};
 use re_two_texts::{TwoTexts, cut_at, print_given, read_chain_two};
 use std::alloc::Global;
@@ -48,6 +49,24 @@ fn given_refusal(
     }
 }
 
+// The chain, which `given` accepts, as the answer.
+fn repeated_output(
+    alloc: Global,
+    chain: &Certificate,
+    input: &Problem,
+    steps: u8,
+    labels: u8,
+) -> Result<Output, NoMemory>
+    requires { IsTaken input.now chain.now }
+    ensures { IfOk result (λ output. IsTextOnGiven input.now chain.now.kind steps labels chain.now chain.now (outcome_of output)) }
+{
+    over_problems(chain);
+    let _kind = chain.kind();
+    let _names = input.names();
+    taken_law();
+    print_given(alloc, chain, input)
+}
+
 // What `longest` gives to a sound chain of kind lower that `given` accepts.
 fn longest_found(
     alloc: Global,
@@ -61,8 +80,10 @@ fn longest_found(
     requires accepted { IsTaken input.now chain.now }
     ensures { IfOk result (λ output. MayFindGiven (SearchWord.Longest steps labels) input.now chain.now (outcome_of output)) }
 {
-    let certificate = find_longest_given(alloc, chain, input, steps, labels)?;
-    print_given(alloc, &certificate, input)
+    match fitting_given(alloc, chain, input, steps, labels)? {
+        Some(output) => Ok(output),
+        None => repeated_output(alloc, chain, input, steps, labels),
+    }
 }
 
 // What `longest` gives to a sound chain of kind lower.
@@ -119,26 +140,7 @@ fn cycle_output(
     }
 }
 
-// What `shortest` gives to a chain of kind upper that `given` accepts: the chain.
-fn repeated_output(
-    alloc: Global,
-    chain: &Certificate,
-    input: &Problem,
-    steps: u8,
-    labels: u8,
-) -> Result<Output, NoMemory>
-    requires upper { chain.now.kind ≡ Upper }
-    requires accepted { IsTaken input.now chain.now }
-    ensures { IfOk result (λ output. IsTextOnGiven input.now Upper steps labels chain.now chain.now (outcome_of output)) }
-{
-    over_problems(chain);
-    let _kind = chain.kind();
-    let _names = input.names();
-    taken_law();
-    print_given(alloc, chain, input)
-}
-
-// What `shortest` gives to a chain of kind upper that `given` doesn't accept.
+// What `shortest` gives to a chain of kind upper that `given` doesn't accept, however long its text is.
 fn shortest_found(
     alloc: Global,
     chain: &Certificate,
@@ -154,6 +156,29 @@ fn shortest_found(
     match find_shortest_given(alloc, chain, input, steps, labels)? {
         Shortest::Found(certificate) => print_given(alloc, &certificate, input),
         Shortest::NotFound { nodes, cut } => not_found_output(alloc, nodes, cut),
+    }
+}
+
+// What `shortest` gives to a chain of kind upper that `given` doesn't accept.
+fn shortest_else(
+    alloc: Global,
+    chain: &Certificate,
+    input: &Problem,
+    steps: u8,
+    labels: u8,
+) -> Result<Output, NoMemory>
+    requires upper { chain.now.kind ≡ Upper }
+    requires meets { steps_fault chain.now.first 1 chain.now.steps ≡ None }
+    requires input { IsInput (unnamed chain.now.first) (unnamed input.now) }
+    ensures { IfOk result (λ output. MayFindElse (SearchWord.Shortest steps labels) input.now chain.now (outcome_of output)) }
+{
+    let output = shortest_found(alloc, chain, input, steps, labels)?;
+    if output.answer != Answer::Limit {
+        return Ok(output);
+    }
+    match fitting_given(alloc, chain, input, steps, three_quarters(labels))? {
+        Some(fitting) => Ok(fitting),
+        None => Ok(output),
     }
 }
 
@@ -173,7 +198,7 @@ fn shortest_output(
     if is_accepted(alloc, chain, input)? {
         repeated_output(alloc, chain, input, steps, labels)
     } else {
-        shortest_found(alloc, chain, input, steps, labels)
+        shortest_else(alloc, chain, input, steps, labels)
     }
 }
 

@@ -3,6 +3,7 @@
 #![tactic(auto)]
 
 mod answering;
+mod fitting;
 mod given;
 mod words;
 

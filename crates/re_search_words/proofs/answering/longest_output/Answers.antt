@@ -1,14 +1,26 @@
-use Rattle.std.proofs.Common.{subst, sym}
+use Rattle.std.proofs.Common.{◌≡◌, None, rules, subst}
+use Rattle.std.specs.Prelude.{IfSome}
+use Rattle.re_cert.specs.Bounds.{last_problem}
 use Rattle.re_chain_texts.proofs.WordsGiven.{both_ok}
-use Rattle.re_frame.specs.Outcomes.{outcome_of}
-use Rattle.re_longest.specs.Answers.{Answers}
-use Rattle.re_search_words.specs.MayGive.{MayFindBehind}
-use Rattle.re_search_words.specs.declared.words.SearchWord.TheVariants.{Longest}
+use Rattle.re_frame.specs.Outcomes.{outcome_of, status_of}
+use Rattle.re_frame.specs.declared.status.Status.TheVariants.{Done}
+use Rattle.re_problem.specs.NamedProblems.{unnamed}
+use Rattle.re_problem.specs.Zero.{zero_place}
+use Rattle.re_search_words.specs.MayGive.{IsFound}
+use Rattle.re_search_words.proofs.ShorterTexts.{lengthened, stayed}
 use Rattle.re_search_words.proofs.answering.longest_output.Goals as goal
 
-pub returns-in-Found : goal.returns-in-Found
-returns-in-Found c =
-    let found = subst (Answers c.args.steps c.args.labels c.args.chain.now) c.in-Found.is c.in_ok-certificate.ensures in
+pub returns-in-Some-2 : goal.returns-in-Some-2
+returns-in-Some-2 c =
+    let chain = c.args.chain.now in
+    let none : zero_place (unnamed (last_problem chain)) ≡ None = search rules in
+    let found = subst (λ o. IfSome o (λ output. IsFound chain.kind c.args.steps c.args.labels chain (outcome_of output) × (status_of output.answer ≡ Done))) c.in-Some-2.is c.in_ok-output.ensures in
+    lengthened (zero_place (unnamed (last_problem chain))) chain.kind c.args.steps c.args.labels chain (outcome_of c.in-Some-2.output) none c.requires.lower found.0 found.1
+
+pub returns : goal.returns
+returns c =
+    let chain = c.args.chain.now in
+    let none : zero_place (unnamed (last_problem chain)) ≡ None = search rules in
     both_ok _ _ _ c.certificate_output.result c.certificate_output.ensures.outcome c.certificate_output.ensures.text
-    (λ output one gives. subst (λ place. MayFindBehind place (Longest c.args.steps c.args.labels) c.args.chain.now (outcome_of output)) (sym found.0)
-    (c.in-Found.certificate, record { one = one; goes_on = found.1; gives = gives }))
+    (λ output one gives. stayed (zero_place (unnamed (last_problem chain))) c.args.steps c.args.labels chain c.in_ok-certificate.certificate (outcome_of output) none c.in_ok-certificate.ensures.same
+    c.in_ok-certificate.ensures.goes_on one gives)

@@ -1,16 +1,17 @@
-use Rattle.std.proofs.Common.{subst}
-use Rattle.re_chain_texts.proofs.WordsGiven.{both_ok}
-use Rattle.re_frame.specs.Outcomes.{outcome_of}
+use Rattle.std.proofs.Common.{◌≡◌, None, rules, subst}
+use Rattle.std.specs.Prelude.{IfSome}
 use Rattle.re_cert.specs.Bounds.{last_problem}
-use Rattle.re_longest.specs.UpperAnswers.{AnswersAt}
+use Rattle.re_frame.specs.Outcomes.{outcome_of, status_of}
+use Rattle.re_frame.specs.declared.status.Status.TheVariants.{Done}
 use Rattle.re_problem.specs.NamedProblems.{unnamed}
 use Rattle.re_problem.specs.Zero.{zero_place}
-use Rattle.re_search_words.proofs.Shortening.{found_gives}
+use Rattle.re_search_words.specs.MayGive.{IsFound}
+use Rattle.re_search_words.proofs.ShorterTexts.{shortened}
 use Rattle.re_search_words.proofs.answering.shortest_output.Goals as goal
 
-pub returns-in-Found : goal.returns-in-Found
-returns-in-Found c =
-    let place = zero_place (unnamed (last_problem c.args.chain.now)) in
-    let found = subst (AnswersAt place c.args.steps c.args.labels c.args.chain.now) c.in-Found.is c.in_ok-certificate.ensures in
-    both_ok _ _ _ c.certificate_output.result c.certificate_output.ensures.outcome c.certificate_output.ensures.text
-    (λ output one gives. found_gives place c.args.steps c.args.labels c.args.chain.now c.in-Found.certificate (outcome_of output) found one gives)
+pub returns-in-Some-2 : goal.returns-in-Some-2
+returns-in-Some-2 c =
+    let chain = c.args.chain.now in
+    let none : zero_place (unnamed (last_problem chain)) ≡ None = search rules in
+    let found = subst (λ o. IfSome o (λ output. IsFound chain.kind c.args.steps c.three_quarters.result chain (outcome_of output) × (status_of output.answer ≡ Done))) c.in-Some-2.is c.in_ok-fitting.ensures in
+    shortened (zero_place (unnamed (last_problem chain))) chain.kind c.args.steps c.three_quarters.result c.args.labels chain (outcome_of c.in-Some-2.fitting) none c.requires.upper c.three_quarters.ensures.most found.0

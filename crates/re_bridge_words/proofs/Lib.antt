@@ -3,3 +3,4 @@ mod Outcomes
 pub mod Fitting
 pub mod MoreSteps
 pub mod UpperSteps
+mod GivenReductions

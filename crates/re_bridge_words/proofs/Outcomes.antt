@@ -20,11 +20,19 @@ use Rattle.re_walks.specs.Walking.{Walk, cut, found, nowhere}
 use Rattle.re_bridge.specs.Bridges.{Bridge, bridge_of, cut_off, has_many_rows, missing, over}
 use Rattle.re_bridge.specs.Reductions.{reduced_of}
 use Rattle.re_chain_parts.specs.Chains.{chain_of}
-use Rattle.re_two_texts.specs.TwoTexts.{back_problem, front_bound, two_fault}
+use Rattle.re_fit.specs.InputProblems.{input_fault}
+use Rattle.re_fit.specs.declared.inputs.InputFault.{InputFault}
+use Rattle.re_given_words.specs.GivenTexts.{given_fault, given_input, given_problem}
+use Rattle.re_given_words.specs.InputFaults.{or_input_fault}
+use Rattle.re_given_words.specs.ProductTexts.{product_refusal}
+use Rattle.re_inputs.specs.NamedProducts.{named_product, product_fault}
+use Rattle.re_inputs.specs.declared.products.ProductFault.{ProductFault}
+use Rattle.re_inputs.specs.declared.products.ProductFault.TheVariants.{Nameless, NoMemory, TooManyConfigurations, TooManyLabels}
+use Rattle.re_two_texts.specs.TwoTexts.{back_problem, front_bound, has_line, two_fault}
 use Rattle.re_bridge_words.specs.Bridged.{bridged, sets_by, upper_bridged, upper_walk}
 use Rattle.re_bridge_words.specs.BridgeWords.{bridge_outcome, kind_outcome, over_bridge, over_walk, sound_outcome, text_outcome, upper_outcome}
-use Rattle.re_bridge_words.specs.Answers.{is_judging, word_outcome}
-use Rattle.re_bridge_words.specs.ReduceWords.{reduce_outcome, reduced_outcome}
+use Rattle.re_bridge_words.specs.Answers.{word_outcome}
+use Rattle.re_bridge_words.specs.ReduceWords.{given_outcome, outcome_by, plain_outcome, reduce_outcome, reduced_given, reduced_outcome, reduced_product}
 use Rattle.re_bridge_words.specs.declared.answering.TheConstants.{MAX_TRIES}
 use Rattle.re_bridge_words.specs.declared.words.BridgeWord.{BridgeWord}
 use Rattle.re_bridge_words.specs.declared.words.BridgeWord.TheVariants.{Bridge as BridgeTo, Reduce}
@@ -98,12 +106,36 @@ text_says bytes =
     or_fault_says (two_fault (codes "to") bytes) (sound_outcome (back_problem (codes "to") bytes) (chain_of (front_bound (codes "to") bytes))) true
     (sound_says (back_problem (codes "to") bytes) (chain_of (front_bound (codes "to") bytes)))
 
-reduced_says : (reduced : Option NamedProblem) → MaySay (reduced_outcome reduced).status false
-reduced_says (Some reduced) = problem_says reduced false
+reduced_says : (reduced : Option NamedProblem) → MaySay (reduced_outcome reduced).status true
+reduced_says (Some reduced) = problem_says reduced true
 reduced_says None = tt
 
-pub word_says : (word : BridgeWord) (bytes : List ℕ) → MaySay (word_outcome word bytes).status (is_judging word)
+-- given an input problem
+module _ (problem input : NamedProblem) where
+  reason_says : (fault : ProductFault) → MaySay (product_refusal problem input fault).status true
+  reason_says TooManyLabels = tt
+  reason_says (Nameless pair) = refl
+  reason_says TooManyConfigurations = tt
+  reason_says NoMemory = tt
+
+  product_says : (fault : Option ProductFault) → MaySay (reduced_product problem input fault).status true
+  product_says (Some fault) = reason_says fault
+  product_says None = reduced_says (reduced_of (named_product problem input) MAX_TRIES)
+
+  input_says : (fault : Option InputFault) (outcome : Outcome) → MaySay outcome.status true → MaySay (or_input_fault input fault outcome).status true
+  input_says (Some fault) outcome says = refl
+  input_says None outcome says = says
+
+  given_says : MaySay (reduced_given problem input).status true
+  given_says = input_says (input_fault problem input) (reduced_product problem input (product_fault problem input)) (product_says (product_fault problem input))
+
+reduce_says : (b : Bool) (bytes : List ℕ) → MaySay (outcome_by b bytes).status true
+unfolding given_outcome plain_outcome
+reduce_says true bytes = or_fault_says (given_fault bytes) (reduced_given (given_problem bytes) (given_input bytes)) true (given_says (given_problem bytes) (given_input bytes))
+reduce_says false bytes =
+    or_fault_says (first_fault 0 1 (lines_of bytes)) (reduced_outcome (reduced_of (problem_of (lines_of bytes)) MAX_TRIES)) true (reduced_says (reduced_of (problem_of (lines_of bytes)) MAX_TRIES))
+
+pub word_says : (word : BridgeWord) (bytes : List ℕ) → MaySay (word_outcome word bytes).status true
 unfolding reduce_outcome
 word_says BridgeTo bytes = text_says bytes
-word_says Reduce bytes =
-    or_fault_says (first_fault 0 1 (lines_of bytes)) (reduced_outcome (reduced_of (problem_of (lines_of bytes)) MAX_TRIES)) false (reduced_says (reduced_of (problem_of (lines_of bytes)) MAX_TRIES))
+word_says Reduce bytes = reduce_says (has_line (codes "given") bytes) bytes

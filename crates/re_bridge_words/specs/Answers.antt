@@ -1,5 +1,5 @@
 -- The words `bridge` and `reduce`, and what they may answer.
-use Rattle.std.specs.Prelude.{◌≡◌, ℕ, Bool, true, false, List, [], ◌∷◌, ◌++◌, codes, if◌then◌else◌, Option, None, Some}
+use Rattle.std.specs.Prelude.{◌≡◌, ℕ, List, [], ◌∷◌, ◌++◌, codes, if◌then◌else◌, Option, None, Some}
 use Rattle.std.specs.Str.{bytes_eq}
 use Rattle.re_frame.specs.Outcomes.{Outcome}
 use Rattle.re_frame.specs.declared.status.Status.TheVariants.{Done}
@@ -17,17 +17,12 @@ bridge_word_of words = None
 unfoldable pub bridge_help : List ℕ
 bridge_help =
     codes "bridge: reads a chain, a line == to and a problem, gives the chain with one more step, to this problem\n"
-    ++ codes "reduce: reads a problem, gives one with as few labels as a map of it into itself leaves, which takes as many rounds\n"
+    ++ codes "reduce: reads a problem, or one with a line == given and an input problem, gives it, or the product of both, with as few labels as a map of it into itself leaves, which takes as many rounds\n"
 
 -- what a word gives to a text
 abbrev pub word_outcome : BridgeWord → List ℕ → Outcome
 word_outcome Bridge bytes = text_outcome bytes
 word_outcome Reduce bytes = reduce_outcome bytes
-
--- whether its answer can be No
-abbrev pub is_judging : BridgeWord → Bool
-is_judging Bridge = true
-is_judging Reduce = false
 
 -- what is known of the text of an answer Done
 abbrev pub WordWorth : BridgeWord → List ℕ → List ℕ → Type 0

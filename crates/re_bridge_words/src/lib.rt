@@ -9,6 +9,7 @@ mod upper;
 mod words;
 
 ghost use Rattle.re_bridge_words.specs.Laws.{NoLaw, NoUpperLaw};
+ghost use Rattle.re_bridge_words.specs.ReduceWords.{ReducedGivenLaw};
 
 pub use answering::MAX_TRIES;
 pub use bridging::bridge;
@@ -31,3 +32,8 @@ pub fn no_upper_law()
 {
     upper_walk_law();
 }
+
+/// Given an input problem, a problem is solvable in T rounds exactly where the reduced problem is.
+pub fn reduced_given_law()
+    ensures { ReducedGivenLaw }
+{}

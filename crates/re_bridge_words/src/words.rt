@@ -17,8 +17,8 @@ pub enum BridgeWord {
     /// `bridge`: a chain with a step to a given problem. It takes the time of `check` on the chain, beside that of the function `bridge` with
     /// `MAX_TRIES` tries.
     Bridge,
-    /// `reduce`: an equivalent problem with as few labels as a map of the problem into itself leaves. It takes the time of `reduce` of
-    /// `re_bridge` with `MAX_TRIES` tries.
+    /// `reduce`: an equivalent problem with as few labels as a map of the problem into itself leaves; given an input problem, that of their
+    /// product. It takes the time of `reduce` of `re_bridge` with `MAX_TRIES` tries, behind that of `re_inputs::product`.
     Reduce,
 }
 
@@ -46,7 +46,7 @@ pub fn bridge_word(words: &[String]) -> Option<BridgeWord>
 pub fn bridge_help() -> &'static str
     ensures { result.now ≡ bridge_help }
 {
-    "bridge: reads a chain, a line == to and a problem, gives the chain with one more step, to this problem\nreduce: reads a problem, gives one with as few labels as a map of it into itself leaves, which takes as many rounds\n"
+    "bridge: reads a chain, a line == to and a problem, gives the chain with one more step, to this problem\nreduce: reads a problem, or one with a line == given and an input problem, gives it, or the product of both, with as few labels as a map of it into itself leaves, which takes as many rounds\n"
 }
 
 // What the word gives to a text.
@@ -62,13 +62,14 @@ fn output_for(alloc: Global, word: BridgeWord, text: &[u8]) -> Result<Output, No
 }
 
 impl Finding for BridgeWord {
-    ghost use Rattle.re_bridge_words.specs.Answers.{MayGive, is_judging};
+    ghost use Rattle.re_bridge_words.specs.Answers.{MayGive};
+    ghost use Rattle.std.specs.Prelude.{true};
 
     ghost fits = { λ _. Unit {0} };
 
     ghost may = { MayGive };
 
-    ghost judging = { λ word. is_judging word };
+    ghost judging = { λ _. true };
 
     fn find(&self, alloc: Global, text: Vec<u8>) -> Result<Output, NoMemory> {
         output_for(alloc, *self, text.as_slice())

@@ -15,3 +15,6 @@ mod RaisedJoined
 mod OneRaisedOutcome
 mod RaisedWithin
 mod EdgeLines
+mod GivenTaken
+mod GivenWithin
+mod GivenSaying

@@ -41,7 +41,7 @@ stop_says number (chain_step_fault.Limit passed) outcome may = says_as outcome _
 stop_says number chain_step_fault.TooManySteps outcome may = says_as outcome _ may tt
 stop_says number chain_step_fault.NoMemory outcome may = says_as outcome _ may tt
 
-step_says : (next : Outcome → Type 0) → ((outcome : Outcome) → next outcome → MaySay outcome.status true)
+pub step_says : (next : Outcome → Type 0) → ((outcome : Outcome) → next outcome → MaySay outcome.status true)
     → (number : ℕ) (fault : Option ChainStepFault) (outcome : Outcome) → MayStep number fault next outcome → MaySay outcome.status true
 step_says next says number None outcome may = says outcome may
 step_says next says number (Some fault) outcome may = stop_says number fault outcome may

@@ -48,7 +48,7 @@ closure_word_of words = None
 
 -- the line of help
 unfoldable pub closure_help : List ℕ
-closure_help = codes "closure, closure K: reads a chain, or a chain and a diagram, gives the fixed point by right-closed sets that goes on from it, or from it with 1, 2, .. K steps more\n"
+closure_help = codes "closure, closure K: reads a chain, or one with a diagram or with a line == given and an input problem, gives the fixed point by right-closed sets that goes on from it, or from it with 1, 2, .. K steps more\n"
 
 -- ---- lines
 -- the line for a problem whose closure is solvable without communication, with the configuration of sets of its labels that shows it

@@ -3,6 +3,7 @@ pub mod Closures
 pub mod Limits
 pub mod Sides
 pub mod ClosureWords
+pub mod GivenClosures
 pub mod Laws
 pub mod DiagramTexts
 pub mod Diagrams

@@ -7,12 +7,14 @@ ghost use Rattle.re_chain_steps.specs.Stepped.{stepped, stepping_fault};
 ghost use Rattle.re_chain_steps.specs.declared.stepping.ChainStepFault.{ChainStepFault as WhyNoStep};
 ghost use Rattle.re_closure.specs.ClosureWords.{MayFindWithin, MayGive, MayGiveRead, MayGiveSound, Refuses, closure_help, closure_with, closure_word_of, stop_outcome};
 ghost use Rattle.re_closure.specs.DiagramTexts.{AreEdges, diagram_edges, diagram_fault, front_chain};
+ghost use Rattle.re_closure.specs.GivenClosures.{MayGiveText, has_input};
 ghost use Rattle.re_extend.specs.Extensions.{IsSoundChain};
 ghost use Rattle.re_frame.specs.Outcomes.{outcome_of};
 ghost use Rattle.re_io.specs.declared.read.TheConstants.{MAX_BYTES};
 ghost use Rattle.re_two_texts.specs.TwoTexts.{IsCut};
 ghost use Rattle.std.specs.Prelude.{◌≡◌, ◌<◌, ◌≤◌, ◌+◌, ℕ, Err, IfOk, List, None, Some, codes, length, map, string_bytes};
 
+use crate::given::given_output;
 use crate::limit_lines::{limit_output, solvable_closure};
 use crate::raised_output::raised_output;
 use crate::reading::read_diagram;
@@ -24,10 +26,11 @@ use re_frame::{
     Finding, Output, fault_output, limit_output as step_limit_output, not_lower_output,
     solvable_output, verdict_output,
 };
+use re_given_words::GIVEN;
 use re_items::read_number;
 use re_labels::NoMemory;
 use re_problem::TextFault;
-use re_two_texts::{Cut, cut_at};
+use re_two_texts::{Cut, cut_at, has_line};
 use std::alloc::Global;
 
 /// The most steps by which the word goes on where a closure is solvable without communication.
@@ -37,7 +40,7 @@ pub const MAX_FURTHER: u32 = 8;
 const DIAGRAM: &[u8] = b"diagram";
 
 /// The word `closure K`. It reads a chain as a whole, and takes the time of `check` on the chain, beside that of `find_closure` for its last
-/// problem and for each problem that it goes on to.
+/// problem and for each problem that it goes on to; with an input problem beside that of `given` for each chain and each fixed point.
 #[derive(Clone, Copy, Debug, PartialEq, Eq)]
 pub struct ClosureWord {
     /// By how many steps it goes on at most, where the closure of the last problem is solvable without communication.
@@ -84,7 +87,7 @@ pub fn closure_word(words: &[String]) -> Option<ClosureWord>
 pub fn closure_help() -> &'static str
     ensures { result.now ≡ closure_help }
 {
-    "closure, closure K: reads a chain, or a chain and a diagram, gives the fixed point by right-closed sets that goes on from it, or from it with 1, 2, .. K steps more\n"
+    "closure, closure K: reads a chain, or one with a diagram or with a line == given and an input problem, gives the fixed point by right-closed sets that goes on from it, or from it with 1, 2, .. K steps more\n"
 }
 
 /// The output for what keeps a chain from its step of this number.
@@ -103,8 +106,8 @@ pub(crate) fn stop_output(
     }
 }
 
-// The chain with one derived step more, which is a sound chain of kind lower, too.
-fn next_chain(alloc: Global, chain: &Certificate) -> Result<Certificate, ChainStepFault>
+/// The chain with one derived step more, which is a sound chain of kind lower, too.
+pub(crate) fn next_chain(alloc: Global, chain: &Certificate) -> Result<Certificate, ChainStepFault>
     requires { IsSoundChain chain.now }
     ensures chain { IfOk result (λ next. next ≡ stepped chain.now) }
     ensures sound { IfOk result IsSoundChain }
@@ -207,9 +210,9 @@ fn cut_output(alloc: Global, steps: u8, cut: Cut<'_>) -> Result<Output, NoMemory
     }
 }
 
-// What the word gives to a text.
+// What the word gives to a text without an input problem.
 #[tactic(auto, unfolding(crate::specs::ClosureWords::MayGive))]
-fn text_output(alloc: Global, word: ClosureWord, text: &[u8]) -> Result<Output, NoMemory>
+fn bare_output(alloc: Global, word: ClosureWord, text: &[u8]) -> Result<Output, NoMemory>
     requires { length text.now ≤ MAX_BYTES }
     ensures { IfOk result (λ output. MayGive word text.now (outcome_of output)) }
 {
@@ -219,13 +222,34 @@ fn text_output(alloc: Global, word: ClosureWord, text: &[u8]) -> Result<Output, 
     }
 }
 
+// Whether the text has an input problem.
+fn has_input(text: &[u8]) -> bool
+    requires { length text.now ≤ MAX_BYTES }
+    ensures { result ≡ has_input text.now }
+{
+    !has_line(DIAGRAM, text) && has_line(GIVEN, text)
+}
+
+// What the word gives to a text.
+#[tactic(auto, unfolding(crate::specs::GivenClosures::MayGiveText))]
+fn text_output(alloc: Global, word: ClosureWord, text: &[u8]) -> Result<Output, NoMemory>
+    requires { length text.now ≤ MAX_BYTES }
+    ensures { IfOk result (λ output. MayGiveText word text.now (outcome_of output)) }
+{
+    if has_input(text) {
+        given_output(alloc, word, text)
+    } else {
+        bare_output(alloc, word, text)
+    }
+}
+
 impl Finding for ClosureWord {
     ghost use Rattle.std.specs.Prelude.{true};
-    ghost use Rattle.re_closure.specs.ClosureWords.{MayGive};
+    ghost use Rattle.re_closure.specs.GivenClosures.{MayGiveText};
 
     ghost fits = { λ _. Unit {0} };
 
-    ghost may = { MayGive };
+    ghost may = { MayGiveText };
 
     ghost judging = { λ _. true };
 

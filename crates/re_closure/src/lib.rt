@@ -9,6 +9,7 @@ mod constraints;
 mod diagrams;
 mod edges;
 mod finding;
+mod given;
 mod limit_lines;
 mod occurring;
 mod raised_output;

@@ -36,7 +36,7 @@ text_judged bound input text is =
     ∙ ap (λ (b : Bound). given_outcome Given (back_problem (codes "given") text) b) is.read.bound_is
     ∙ ap (λ (p : NamedProblem). given_outcome Given p bound) is.read.input_is
 
-accepted : (input : NamedProblem) (kind : Kind) (most labels : ℕ) (chain bound : Bound) (text : List ℕ) → IsGivenText bound input text → GoesOnGiven input kind most labels chain bound
+pub accepted : (input : NamedProblem) (kind : Kind) (most labels : ℕ) (chain bound : Bound) (text : List ℕ) → IsGivenText bound input text → GoesOnGiven input kind most labels chain bound
     → IsAcceptedGiven input kind most labels chain text
 accepted input kind most labels chain bound text text_of on = record {
   bound = bound;
@@ -50,7 +50,7 @@ module _ (input : NamedProblem) (chain : Bound) (outcome : Outcome) (finished : 
   found_worth kind most labels (bound, on) = accepted input kind most labels chain bound outcome.text (on.gives finished) on.goes_on
 
   find_worth : (word : SearchWord) → MayFindGiven word input chain outcome → SearchWorthGiven word input chain outcome.text
-  find_worth (Longest steps labels) may = found_worth kind.Lower steps labels may
+  find_worth (Longest steps labels) (found, only) = found_worth kind.Lower steps labels found
   find_worth (Shortest steps labels) may = found_worth kind.Upper steps labels (chain, may)
   find_worth (Cycle steps merges nodes) (inl may) = found_worth kind.Fixed steps MAX_LABELS may
   find_worth (Cycle steps merges nodes) (inr (inl may)) = undone outcome _ may.2 (λ e. cc) finished

@@ -1,3 +1,4 @@
+mod GivenClosureWorth
 mod GivenWorth
 pub mod Said
 pub mod TextsWorth

@@ -25,6 +25,7 @@ use Rattle.re_chain.specs.Relaxing.{relaxed_limit}
 use Rattle.re_closure.specs.ClosureWords.{IsClosureLine, IsRaisedLine, MayFind as MayClose, MayFindBehind as MayCloseBehind, MayFindBy, MayFindRaisedBehind, MayFindRaisedWithin, MayFindWithin as MayCloseWithin, MayGive as MayGiveClosure, MayGiveAt as MayCloseAt, MayGiveBy as MayGiveClosureBy, MayGiveRead as MayCloseRead, MayGiveSound as MayCloseSound, MayGoOn, MayGoOnRaised, MayStep, closure_chain, stop_outcome}
 use Rattle.re_closure.specs.DiagramTexts.{diagram_edges, diagram_fault, front_chain, has_diagram}
 use Rattle.re_closure.specs.Diagrams.{raised}
+use Rattle.re_closure.specs.GivenClosures.{MayGiveText as MayGiveClosureText, MayGiveTextBy as MayGiveClosureTextBy, has_input}
 use Rattle.re_closure.specs.RaisedClosures.{raised_chain, step_to_raised}
 use Rattle.re_closure.specs.declared.answering.ClosureWord.{ClosureWord}
 use Rattle.re_extend.specs.Extensions.{GoesOn}
@@ -32,7 +33,7 @@ use Rattle.re_frame.specs.Answers.{MayAnswer}
 use Rattle.re_frame.specs.Check.{verdict_outcome}
 use Rattle.re_frame.specs.Outcomes.{Outcome, too_long}
 use Rattle.re_frame.specs.TextFaults.{fault_outcome}
-use Rattle.re_frame.specs.declared.status.Status.TheVariants.{Done, Limit}
+use Rattle.re_frame.specs.declared.status.Status.TheVariants.{Done}
 use Rattle.re_io.specs.declared.read.TheConstants.{MAX_BYTES}
 use Rattle.re_cert.specs.declared.certificate.TheConstants.{MAX_STEPS}
 use Rattle.re_relaxed.specs.Words.{MayGive as MayGiveRelaxed}
@@ -42,10 +43,11 @@ use Rattle.re_search_words.specs.MayGive.{IsFound, MayFind, MayFindBehind, MayGi
 use Rattle.re_search_words.specs.declared.words.SearchWord.{SearchWord}
 use Rattle.re_search_words.specs.declared.words.SearchWord.TheVariants.{Cycle, Longest, Shortest}
 use Rattle.re_two_texts.specs.TwoTexts.{has_line}
+use Rattle.re_explore.proofs.GivenClosureWorth.{closure_given_worth}
 use Rattle.re_explore.proofs.GivenWorth.{given_worth}
-use Rattle.re_explore.proofs.Undone.{undone}
+use Rattle.re_explore.proofs.Undone.{stop_undone, undone}
 use Rattle.re_explore.specs.Commands.{IsOutcome}
-use Rattle.re_explore.specs.Worth.{IsAccepted, SearchWorth, SearchWorthBy, TextWorth}
+use Rattle.re_explore.specs.Worth.{ClosureWorthBy, IsAccepted, SearchWorth, SearchWorthBy, TextWorth}
 use Rattle.re_explore.specs.declared.command.Command.{Command}
 use Rattle.re_explore.specs.declared.command.Command.TheVariants.{Bridges, Chains, Closes, Describes, Explains, Givens, Graphs, Help, Inputs, Relaxes, Searches, Settles}
 
@@ -70,7 +72,7 @@ found_worth kind most labels chain outcome (bound, on) finished = accepted kind 
 
 -- ---- the words `longest`, `shortest` and `cycle`
 find_worth : (word : SearchWord) (chain : Bound) (outcome : Outcome) → MayFind word chain outcome → outcome.status ≡ Done → SearchWorth word chain outcome.text
-find_worth (Longest steps labels) chain outcome may finished = found_worth kind.Lower steps labels chain outcome may finished
+find_worth (Longest steps labels) chain outcome (found, only) finished = found_worth kind.Lower steps labels chain outcome found finished
 find_worth (Shortest steps labels) chain outcome may finished = absurd may
 find_worth (Cycle steps merges nodes) chain outcome (inl may) finished = found_worth kind.Fixed steps MAX_LABELS chain outcome may finished
 find_worth (Cycle steps merges nodes) chain outcome (inr (inl may)) finished = undone outcome _ may.2 (λ e. cc) finished
@@ -175,11 +177,6 @@ close_behind : (Rest : Outcome → Type 0) (most : ℕ) (chain : Bound) → 3 �
 close_behind Rest most chain three rest (Some place) outcome may finished = undone outcome _ may (λ e. cc) finished
 close_behind Rest most chain three rest None outcome may finished = close_worth Rest most chain three rest outcome may finished
 
-stop_undone : (number : ℕ) (fault : ChainStepFault) → (stop_outcome number fault).status ≡ Done → ⊥
-stop_undone number (chain_step_fault.Limit passed) e = cc
-stop_undone number chain_step_fault.TooManySteps e = cc
-stop_undone number chain_step_fault.NoMemory e = cc
-
 step_worth : (Next : Outcome → Type 0) (most number : ℕ) (chain longer : Bound) (s : BoundStep) → longer.first ≡ chain.first → longer.steps ≡ chain.steps ++ s ∷ [] → ((o : Outcome) → Next o → o.status ≡ Done → IsFixedText most longer o.text)
     → (fault : Option ChainStepFault) (outcome : Outcome) → MayStep number fault Next outcome → outcome.status ≡ Done → IsFixedText (suc most) chain outcome.text
 step_worth Next most number chain longer s first steps next None outcome may finished = let found = next outcome may finished in (found.0, found.1, one_less most chain longer found.0 s first steps found.2)
@@ -248,6 +245,15 @@ closure_worth word bytes outcome may finished =
     go true given = close_read (diagram_fault bytes) (Some (diagram_edges bytes)) word.steps (front_chain bytes) outcome given finished
     go false given = close_read (chain_fault bytes) None word.steps (text_chain bytes) outcome given finished
 
+-- with an input problem, too
+closure_text_worth : (word : ClosureWord) (bytes : List ℕ) (outcome : Outcome) → MayGiveClosureText word bytes outcome → outcome.status ≡ Done → ClosureWorthBy (has_input bytes) word bytes outcome.text
+unfolding MayGiveClosureText
+closure_text_worth word bytes outcome may finished = go (has_input bytes) may
+  where
+    go : (b : Bool) → MayGiveClosureTextBy b word bytes outcome → ClosureWorthBy b word bytes outcome.text
+    go true given = closure_given_worth word bytes outcome given finished
+    go false given = closure_worth word bytes outcome given finished
+
 -- ---- the word `relaxed`
 relaxed_worth : (word : RelaxedWord) (bytes : List ℕ) (outcome : Outcome) → MayGiveRelaxed word bytes outcome → outcome.status ≡ Done
     → IsAccepted kind.Fixed MAX_STEPS MAX_LABELS (text_chain bytes) outcome.text
@@ -258,7 +264,7 @@ relaxed_worth word bytes outcome may finished = search_worth (Cycle MAX_STEPS 0 
 pub worth_of : (command : Option Command) (bytes : List ℕ) (outcome : Outcome) → IsOutcome command bytes outcome → outcome.status ≡ Done → TextWorth command bytes outcome.text
 worth_of (Some (Chains word)) bytes outcome is finished = (within _ bytes outcome is finished).worth finished
 worth_of (Some (Searches word)) bytes outcome is finished = search_text_worth word bytes outcome (within _ bytes outcome is finished) finished
-worth_of (Some (Closes word)) bytes outcome is finished = closure_worth word bytes outcome (within _ bytes outcome is finished) finished
+worth_of (Some (Closes word)) bytes outcome is finished = closure_text_worth word bytes outcome (within _ bytes outcome is finished) finished
 worth_of (Some (Relaxes word)) bytes outcome is finished = relaxed_worth word bytes outcome (within _ bytes outcome is finished) finished
 worth_of (Some (Bridges word)) bytes outcome is finished = (within _ bytes outcome is finished).worth finished
 worth_of (Some Explains) bytes outcome is finished = tt

@@ -3,10 +3,11 @@ use Rattle.std.specs.Prelude.{◌≡◌, ℕ, Bool, true, false, List, [], ◌�
 use Rattle.std.specs.Str.{bytes_eq}
 use Rattle.re_frame.specs.Outcomes.{Outcome, done, within_limit}
 use Rattle.re_frame.specs.declared.status.Status.TheVariants.{BadWords}
-use Rattle.re_bridge_words.specs.Answers.{MayGive as MayGiveBridge, bridge_help, bridge_word_of, is_judging as bridge_judges}
+use Rattle.re_bridge_words.specs.Answers.{MayGive as MayGiveBridge, bridge_help, bridge_word_of}
 use Rattle.re_chain_words.specs.Answers.{MayGive as MayGiveChain, is_judging as chain_judges}
 use Rattle.re_chain_words.specs.ChainWords.{chain_help, chain_word_of}
-use Rattle.re_closure.specs.ClosureWords.{MayGive as MayGiveClosure, closure_help, closure_word_of}
+use Rattle.re_closure.specs.ClosureWords.{closure_help, closure_word_of}
+use Rattle.re_closure.specs.GivenClosures.{MayGiveText as MayGiveClosure}
 use Rattle.re_describe.specs.DescribeWords.{MayDescribe, describe_help, names_describe}
 use Rattle.re_frame.specs.Answers.{MayAnswer}
 use Rattle.re_given_words.specs.Answers.{MayGive as MayGiveGiven}
@@ -129,7 +130,7 @@ is_judging (Some Explains) = true
 is_judging (Some (Searches word)) = true
 is_judging (Some (Closes word)) = true
 is_judging (Some (Relaxes word)) = true
-is_judging (Some (Bridges word)) = bridge_judges word
+is_judging (Some (Bridges word)) = true
 is_judging (Some (Graphs word)) = true
 is_judging (Some (Givens word)) = true
 is_judging (Some (Settles word)) = true

@@ -10,6 +10,8 @@ use Rattle.re_chain_texts.specs.OverChains.{IsTextOf}
 use Rattle.re_chain_words.specs.Answers.{WordWorth}
 use Rattle.re_check.specs.declared.verdict.Verdict.TheVariants.{Accepted}
 use Rattle.re_closure.specs.ClosureWords.{closure_chain}
+use Rattle.re_closure.specs.GivenClosures.{has_input}
+use Rattle.re_closure.specs.declared.answering.ClosureWord.{ClosureWord}
 use Rattle.re_extend.specs.Extensions.{GoesOn}
 use Rattle.re_frame.specs.Check.{check_outcome, verdict_line}
 use Rattle.re_frame.specs.Outcomes.{done}
@@ -23,7 +25,7 @@ use Rattle.re_search_words.specs.MayGive.{word_chain}
 use Rattle.re_search_words.specs.declared.words.SearchWord.{SearchWord}
 use Rattle.re_search_words.specs.declared.words.SearchWord.TheVariants.{Cycle, Longest, Shortest}
 use Rattle.re_two_texts.specs.GivenTexts.{IsGivenText}
-use Rattle.re_two_texts.specs.TwoTexts.{back_problem, has_line}
+use Rattle.re_two_texts.specs.TwoTexts.{back_problem, front_chain, has_line}
 use Rattle.re_explore.specs.declared.command.Command.{Command}
 use Rattle.re_explore.specs.declared.command.Command.TheVariants.{Bridges, Chains, Closes, Describes, Explains, Givens, Graphs, Help, Inputs, Relaxes, Searches, Settles}
 
@@ -60,11 +62,16 @@ abbrev pub SearchWorthBy : Bool → SearchWord → List ℕ → List ℕ → Typ
 SearchWorthBy true word bytes text = SearchWorthGiven word (back_problem (codes "given") bytes) (given_chain word bytes) text
 SearchWorthBy false word bytes text = SearchWorth word (word_chain word bytes) text
 
+-- what the text is worth that `closure` gives to bytes with an input problem, and to others
+abbrev pub ClosureWorthBy : Bool → ClosureWord → List ℕ → List ℕ → Type 0
+ClosureWorthBy true word bytes text = IsAcceptedGiven (back_problem (codes "given") bytes) Fixed (word.steps + 3) MAX_LABELS (front_chain (codes "given") bytes) text
+ClosureWorthBy false word bytes text = IsAccepted Fixed (word.steps + 3) MAX_LABELS (closure_chain bytes) text
+
 -- what the text is worth that a command gives to these bytes with Done
 abbrev pub TextWorth : Option Command → List ℕ → List ℕ → Type 0
 TextWorth (Some (Chains word)) bytes text = WordWorth word bytes text
 TextWorth (Some (Searches word)) bytes text = SearchWorthBy (has_line (codes "given") bytes) word bytes text
-TextWorth (Some (Closes word)) bytes text = IsAccepted Fixed (word.steps + 3) MAX_LABELS (closure_chain bytes) text
+TextWorth (Some (Closes word)) bytes text = ClosureWorthBy (has_input bytes) word bytes text
 TextWorth (Some (Relaxes word)) bytes text = IsAccepted Fixed MAX_STEPS MAX_LABELS (text_chain bytes) text
 TextWorth (Some (Bridges word)) bytes text = BridgeWorth word bytes text
 TextWorth (Some Explains) bytes text = Unit {0}

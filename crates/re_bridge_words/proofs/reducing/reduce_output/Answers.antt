@@ -1,13 +1,18 @@
-use Rattle.std.proofs.Common.{◌≡◌, subst}
+use Rattle.std.proofs.Common.{◌≡◌, ◌∙◌, subst, sym}
 use Rattle.std.proofs.lemmas.Result.{IfOk-weaker}
-use Rattle.re_bridge_words.specs.ReduceWords.{IsReducedText, ReduceWorth}
+use Rattle.re_bridge_words.specs.ReduceWords.{ReduceWorth, WorthBy}
 use Rattle.re_frame.specs.Outcomes.{outcome_of}
 use Rattle.re_frame.specs.declared.status.Status.TheVariants.{Done}
 use Rattle.re_bridge_words.proofs.reducing.reduce_output.Goals as goal
 
-pub returns-in-Ok-clause-text : goal.returns-in-Ok-clause-text
+pub returns-then-has_line-clause-text : goal.returns-then-has_line-clause-text
 unfolding ReduceWorth
-returns-in-Ok-clause-text c =
-    IfOk-weaker c.reduced_output.result _ _
-    (λ output gives. subst (λ problem. (outcome_of output).status ≡ Done → IsReducedText problem output.text.items) c.in-Ok.ensures.1 gives)
-    c.reduced_output.ensures.text
+returns-then-has_line-clause-text c =
+    IfOk-weaker c.given_output.result _ _
+    (λ output worth. subst (λ b. (outcome_of output).status ≡ Done → WorthBy b c.args.text.now output.text.items) (sym (sym c.has_line.ensures ∙ c.if-has_line.true)) worth) c.given_output.ensures.text
+
+pub returns-else-has_line-clause-text : goal.returns-else-has_line-clause-text
+unfolding ReduceWorth
+returns-else-has_line-clause-text c =
+    IfOk-weaker c.plain_output.result _ _
+    (λ output worth. subst (λ b. (outcome_of output).status ≡ Done → WorthBy b c.args.text.now output.text.items) (sym (sym c.has_line.ensures ∙ c.if-has_line.false)) worth) c.plain_output.ensures.text

@@ -23,7 +23,7 @@ PUBLISHED = [
     ("maximal independent sets, degree 4", "M^4\nP O^3\n\nM [PO]\nO^2\n", 4, 2, ["colouring 2", "colouring 5"]),
     # maximal matchings, between two sides, and of a graph given edge colours
     ("maximal matchings of two sides, degree 3", "M O^2\nP^3\n\nM [OP]^2\nO^3\n", 3, 3, ["colouring 3", "both"]),
-    ("maximal matchings of a graph, degree 3", "M O^2\nP^3\n\nM^2\nO [OP]\n", 3, 2, ["edges", "edges 5", "colouring 2"]),
+    ("maximal matchings of a graph, degree 3", "M O^2\nP^3\n\nM^2\nO [OP]\n", 3, 2, ["edges", "edges 5", "colouring 2", "colouring 4"]),
     # edge colourings with 2 d - 1 colours, and with fewer
     ("edge colouring, degree 3, 5 colours", "".join(f"{a} {b} {c}\n" for a in "12345" for b in "12345" for c in "12345" if a < b < c) + "\n"
      + "".join(f"{a}^2\n" for a in "12345"), 3, 2, ["sides", "colouring 4", "edges 5"]),

@@ -44,11 +44,12 @@ mod words;
 
 pub use bounds::{count_of, has_patterns, upper_chain};
 pub use counting::{MAX_ROUNDS, few_of};
-pub use lines::{is_final, push_claim, push_way, within};
+pub use lines::{is_final, push_claim, push_counted, push_way, within};
 pub use measures::{
-    doublings, greatest_degree, longest_labels, longest_steps, shortest_labels, shortest_steps,
+    doublings, greatest_degree, is_small, longest_labels, longest_steps, shortest_labels,
+    shortest_steps,
 };
-pub use never::{CYCLE_NODES, GADGET_STEPS, grows_little};
+pub use never::{CYCLE_NODES, CYCLE_SIZE, CYCLE_STEPS, GADGET_STEPS, grows_little};
 pub use settling::settle;
 pub use texts::{has_given_text, has_text};
 pub use types::{Claim, Class, Coloured, ColouredWay, Settled, Shown, Way};

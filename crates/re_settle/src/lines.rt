@@ -242,8 +242,8 @@ fn class_of(settled: Settled) -> Class
     }
 }
 
-// Appends words and a number.
-fn push_counted(text: &mut Vec<u8>, words: &str, number: u8) -> Result<(), NoMemory>
+/// Appends words and a number.
+pub fn push_counted(text: &mut Vec<u8>, words: &str, number: u8) -> Result<(), NoMemory>
     ensures { OnOk result (text.new.items ≡ text.old.items ++ (words.now ++ decimal number)) }
 {
     let alloc = *text.allocator();

@@ -12,8 +12,8 @@ pub(crate) fn size_of(problem: &Problem) -> usize {
         .saturating_add(problem.passive().len())
 }
 
-/// Whether the problem has at most so many configurations, so many times.
-pub(crate) fn is_small(problem: &Problem, most: usize, times: u8) -> bool {
+/// Whether the problem has at most so many configurations, so many times. Nothing rests on it.
+pub fn is_small(problem: &Problem, most: usize, times: u8) -> bool {
     size_of(problem) <= most.saturating_mul(usize::from(times))
 }
 

@@ -37,10 +37,10 @@ const CLOSED_SIZE: usize = 64;
 const NEAR_SIZE: usize = 32;
 
 /// Up to how many configurations the first derived problems have of a problem that may come back by merges.
-const CYCLE_SIZE: usize = 40;
+pub const CYCLE_SIZE: usize = 40;
 
 /// How many these are.
-const CYCLE_STEPS: usize = 4;
+pub const CYCLE_STEPS: usize = 4;
 
 /// Of how many problems it is asked whether they come back.
 pub const CYCLE_NODES: u32 = 300;
@@ -355,16 +355,23 @@ pub(crate) fn cover_way(
     }
 }
 
-/// Whether the first derived problems are small, so that it is asked whether they come back. Nothing rests on it.
-pub fn grows_little(alloc: Global, problem: &Problem, times: u8) -> Result<bool, NoMemory> {
+/// Whether the first derived problems, so many, have at most so many configurations each, so many times, so that a search is worth its time. Nothing
+/// rests on it.
+pub fn grows_little(
+    alloc: Global,
+    problem: &Problem,
+    steps: usize,
+    most: usize,
+    times: u8,
+) -> Result<bool, NoMemory> {
     let mut current = problem.copy()?;
-    for _step in 0..CYCLE_STEPS {
+    for _step in 0..steps {
         match derive(alloc, &current) {
             Ok(derived) => current = derived.problem,
             Err(StepFault::Limit(_)) => return Ok(false),
             Err(StepFault::NoMemory) => return Err(NoMemory),
         }
-        if !is_small(&current, CYCLE_SIZE, times) {
+        if !is_small(&current, most, times) {
             return Ok(false);
         }
     }
@@ -382,7 +389,7 @@ fn cycle_way(
     requires times { times ≤ 64 }
     ensures { IfOk result (λ found. IfSome found (IsFixedPoint times problem.now)) }
 {
-    if !grows_little(alloc, problem, times)? {
+    if !grows_little(alloc, problem, CYCLE_STEPS, CYCLE_SIZE, times)? {
         return Ok(None);
     }
     let nodes = CYCLE_NODES * u32::from(times);

@@ -1,5 +1,6 @@
 -- What the word `settle` may answer to a problem and an input problem, or to a problem.
 use Rattle.std.specs.Prelude.{◌≡◌, ℕ, ◌⊎◌, Bool, true, false, List, ◌++◌, codes, if◌then◌else◌, Option, None, Some}
+use Rattle.std.specs.Fmt.{decimal}
 use Rattle.re_fit.specs.InputProblems.{input_fault}
 use Rattle.re_fit.specs.declared.inputs.InputFault.{InputFault as Fault}
 use Rattle.re_frame.specs.Outcomes.{Outcome, done, refused}
@@ -22,12 +23,18 @@ use Rattle.re_two_texts.specs.TwoTexts.{has_line}
 use Rattle.re_walks.specs.Walking.{cut}
 
 -- ---- lines
--- a line for each of the words that show what is known
+-- that one round more than so many is of no use
+abbrev pub law_line : ℕ → ℕ → List ℕ
+law_line rounds shown = codes "law: " ++ (decimal rounds ++ (codes " hops do no more than " ++ (decimal shown ++ codes " given that input\n")))
+
+-- a line for each of the words that show what is known, and one for the law that says one round more
 abbrev pub given_lines : List (List ℕ) → SettledGiven → List ℕ
 given_lines names (settled.Exactly shown) = way_line names shown.way
 given_lines names (settled.Never way) = way_line names way
 given_lines names (settled.Within more None) = way_line names more.way
 given_lines names (settled.Within more (Some most)) = way_line names more.way ++ way_line names most.way
+given_lines names (settled.Beyond rounds shown None) = way_line names shown.way ++ law_line rounds shown.rounds
+given_lines names (settled.Beyond rounds shown (Some most)) = way_line names shown.way ++ (way_line names most.way ++ law_line rounds shown.rounds)
 given_lines names (settled.AtMost most) = way_line names most.way
 
 -- the claim on a problem with these names, whose passive nodes have this degree, and those lines

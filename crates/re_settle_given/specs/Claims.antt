@@ -23,4 +23,6 @@ claim_given (settled.Exactly shown) = Exactly shown.rounds
 claim_given (settled.Never way) = Never
 claim_given (settled.Within more None) = MoreThan more.rounds
 claim_given (settled.Within more (Some most)) = within more.rounds most.rounds
+claim_given (settled.Beyond rounds shown None) = MoreThan rounds
+claim_given (settled.Beyond rounds shown (Some most)) = within rounds most.rounds
 claim_given (settled.AtMost most) = AtMost most.rounds

@@ -1,5 +1,5 @@
 -- What words show of a problem given an input problem.
-use Rattle.std.specs.Prelude.{◌≡◌, ◌≤◌, ℕ, List, [], length, None, Some}
+use Rattle.std.specs.Prelude.{◌≡◌, ◌≤◌, ◌+◌, ℕ, List, [], length, None, Some}
 use Rattle.re_cert.specs.Bounds.{Bound}
 use Rattle.re_cert.specs.declared.certificate.Kind.TheVariants.{Fixed, Lower, Upper}
 use Rattle.re_chain_parts.specs.Chains.{chain_with}
@@ -10,11 +10,13 @@ use Rattle.re_given_words.specs.Counting.{IsCounted}
 use Rattle.re_given_words.specs.Extensions.{GoesOnGiven, IsTaken}
 use Rattle.re_given_words.specs.declared.counting.Counted.{Counted}
 use Rattle.re_graph_words.specs.GivenCovers.{IsGivenCover}
+use Rattle.re_idle_hop.specs.Telling.{TellsPassive}
 use Rattle.re_labels.specs.declared.TheConstants.{MAX_LABELS}
 use Rattle.re_problem.specs.NamedProblems.{NamedProblem, unnamed}
 use Rattle.re_settle.specs.Ways.{HasText, IsTried, SaysCounted}
 use Rattle.re_settle.specs.declared.types.Claim.{Claim}
 use Rattle.re_settle.specs.declared.types.Claim.TheVariants.{AtMost, Exactly, MoreThan, Never}
+use Rattle.re_settle.specs.declared.types.Shown.{Shown}
 use Rattle.re_settle.specs.declared.types.Way.{Way}
 use Rattle.re_settle.specs.declared.types.Way.TheVariants.{Closure, Cover, Cycle, Longest, Rounds, Shortest}
 use Rattle.re_settle_given.specs.Claims.{HoldsGiven, claim_given}
@@ -71,6 +73,13 @@ pub record IsKnownGiven (times : ℕ) (problem input : NamedProblem) (claim : Cl
   pub shown : IsShownGiven times problem input claim way
   pub holds : HoldsGiven claim (unnamed problem) (unnamed input)
 
+-- the words show that some number of rounds is too few; so is one more, since the input problem with its sides exchanged that often has labels that
+-- tell in which passive configuration they stand
+pub record IsShownBeyond (times : ℕ) (problem input : NamedProblem) (rounds : ℕ) (shown : Shown) : Type 0 where
+  pub next : rounds ≡ shown.rounds + 1
+  pub few : IsShownGiven times problem input (MoreThan shown.rounds) shown.way
+  pub tells : TellsPassive shown.rounds (unnamed input)
+
 -- each of the words shows its part of what is known
 abbrev pub AreShownGiven : ℕ → SettledGiven → NamedProblem → NamedProblem → Type 0
 AreShownGiven times (settled.Exactly shown) problem input = IsShownGiven times problem input (Exactly shown.rounds) shown.way
@@ -78,6 +87,9 @@ AreShownGiven times (settled.Never way) problem input = IsShownGiven times probl
 AreShownGiven times (settled.Within more None) problem input = IsShownGiven times problem input (MoreThan more.rounds) more.way
 AreShownGiven times (settled.Within more (Some most)) problem input =
     IsShownGiven times problem input (MoreThan more.rounds) more.way × IsShownGiven times problem input (AtMost most.rounds) most.way
+AreShownGiven times (settled.Beyond rounds shown None) problem input = IsShownBeyond times problem input rounds shown
+AreShownGiven times (settled.Beyond rounds shown (Some most)) problem input =
+    IsShownBeyond times problem input rounds shown × IsShownGiven times problem input (AtMost most.rounds) most.way
 AreShownGiven times (settled.AtMost most) problem input = IsShownGiven times problem input (AtMost most.rounds) most.way
 
 -- so much is known of the problem given the input problem, where bounds are taken so many times: words show it, and what is claimed is true

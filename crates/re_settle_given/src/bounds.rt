@@ -11,12 +11,31 @@ use re_labels::NoMemory;
 use re_longest::{Shortest, find_longest_given, find_shortest_given};
 use re_problem::Problem;
 use re_settle::{
-    Claim, Shown, Way, count_of, doublings, greatest_degree, has_given_text, has_patterns,
-    longest_labels, longest_steps, shortest_labels, shortest_steps, upper_chain,
+    Claim, Shown, Way, count_of, doublings, greatest_degree, grows_little, has_given_text,
+    has_patterns, is_small, longest_labels, longest_steps, shortest_labels, shortest_steps,
+    upper_chain,
 };
 use std::alloc::Global;
 
-/// The longest lower bound that is found with few steps, each to few labels, where `given` accepts the problem as one without steps.
+/// Up to how many configurations the first derived problems have of a problem whose longest lower bound is looked for.
+const LONGEST_SIZE: usize = 160;
+
+/// How many these are.
+const LONGEST_STEPS: usize = 2;
+
+/// Up to how many configurations the input problem has that is then given.
+const LONGEST_INPUT: usize = 12;
+
+// Whether the two problems are so small that a longest lower bound is looked for. Nothing rests on it.
+fn is_soon(alloc: Global, problem: &Problem, input: &Problem, times: u8) -> Result<bool, NoMemory> {
+    if !is_small(input, LONGEST_INPUT, times) {
+        return Ok(false);
+    }
+    grows_little(alloc, problem, LONGEST_STEPS, LONGEST_SIZE, times)
+}
+
+/// The longest lower bound that is found with few steps, each to few labels, where `given` accepts the problem as one without steps and both problems
+/// are small.
 pub(crate) fn longest_way(
     alloc: Global,
     problem: &Problem,
@@ -28,6 +47,10 @@ pub(crate) fn longest_way(
     requires input { IsInput (unnamed problem.now) (unnamed input.now) }
     ensures { IfOk result (λ found. IfSome found (λ shown. IsKnownGiven times problem.now input.now (Claim.MoreThan shown.rounds) shown.way)) }
 {
+    let soon = is_soon(alloc, problem, input, times)?;
+    if !soon {
+        return Ok(None);
+    }
     if !is_accepted(alloc, chain, input)? {
         return Ok(None);
     }

@@ -1,17 +1,17 @@
 //! The lines of an answer given an input problem.
 ghost use Rattle.re_frame.specs.Outcomes.{outcome_of};
-ghost use Rattle.re_settle_given.specs.Answers.{given_lines, settled_given_outcome, settled_given_text};
+ghost use Rattle.re_settle_given.specs.Answers.{given_lines, law_line, settled_given_outcome, settled_given_text};
 ghost use Rattle.re_settle_given.specs.Claims.{claim_given};
 ghost use Rattle.std.specs.Prelude.{◌≡◌, ◌++◌, IfOk, OnOk};
 
 use crate::types::SettledGiven;
 use re_frame::{Output, done, push_words, refused};
 use re_labels::{Names, NoMemory};
-use re_settle::{Claim, is_final, push_claim, push_way, within};
+use re_settle::{Claim, is_final, push_claim, push_counted, push_way, within};
 use std::alloc::Global;
 
-// What is claimed.
-fn claim_given(settled: SettledGiven) -> Claim
+/// What is claimed.
+pub(crate) fn claim_given(settled: SettledGiven) -> Claim
     ensures { result ≡ claim_given settled }
 {
     match settled {
@@ -19,8 +19,19 @@ fn claim_given(settled: SettledGiven) -> Claim
         SettledGiven::Never(_) => Claim::Never,
         SettledGiven::Within(more, None) => Claim::MoreThan(more.rounds),
         SettledGiven::Within(more, Some(most)) => within(more.rounds, most.rounds),
+        SettledGiven::Beyond(rounds, _, None) => Claim::MoreThan(rounds),
+        SettledGiven::Beyond(rounds, _, Some(most)) => within(rounds, most.rounds),
         SettledGiven::AtMost(most) => Claim::AtMost(most.rounds),
     }
+}
+
+// Appends the line that says that one round more is of no use.
+fn push_law(text: &mut Vec<u8>, rounds: u8, shown: u8) -> Result<(), NoMemory>
+    ensures { OnOk result (text.new.items ≡ text.old.items ++ law_line rounds shown) }
+{
+    push_counted(text, "law: ", rounds)?;
+    push_counted(text, " hops do no more than ", shown)?;
+    push_words(text, " given that input\n")
 }
 
 // Appends the lines of the words that show what is known.
@@ -34,6 +45,15 @@ fn push_lines(text: &mut Vec<u8>, names: &Names, settled: SettledGiven) -> Resul
         SettledGiven::Within(more, Some(most)) => {
             push_way(text, names, more.way)?;
             push_way(text, names, most.way)
+        }
+        SettledGiven::Beyond(rounds, shown, None) => {
+            push_way(text, names, shown.way)?;
+            push_law(text, rounds, shown.rounds)
+        }
+        SettledGiven::Beyond(rounds, shown, Some(most)) => {
+            push_way(text, names, shown.way)?;
+            push_way(text, names, most.way)?;
+            push_law(text, rounds, shown.rounds)
         }
         SettledGiven::AtMost(most) => push_way(text, names, most.way),
     }

@@ -15,7 +15,10 @@ use re_given_words::is_accepted;
 use re_graph::find_cover_given;
 use re_labels::NoMemory;
 use re_problem::Problem;
-use re_settle::{CYCLE_NODES, Claim, GADGET_STEPS, Way, grows_little, has_given_text, has_text};
+use re_settle::{
+    CYCLE_NODES, CYCLE_SIZE, CYCLE_STEPS, Claim, GADGET_STEPS, Shown, Way, grows_little,
+    has_given_text, has_text,
+};
 use std::alloc::Global;
 
 // Whether `given` accepts the bound, and it has a text, alone and with the input problem.
@@ -76,7 +79,7 @@ fn cycle_way(
     requires times { times ≤ 64 }
     ensures { IfOk result (λ found. IfSome found (IsKnownGiven times problem.now input.now Claim.Never)) }
 {
-    if !grows_little(alloc, problem, times)? {
+    if !grows_little(alloc, problem, CYCLE_STEPS, CYCLE_SIZE, times)? {
         return Ok(None);
     }
     let nodes = CYCLE_NODES * u32::from(times);
@@ -115,7 +118,7 @@ fn gadget_way(
     }
 }
 
-// A graph on which the problem has no solution and the input problem has one: of at most 4 active nodes, or one that gadgets make.
+// A graph on which the problem has no solution and the input problem has one, of at most 4 active nodes.
 fn cover_way(
     alloc: Global,
     problem: &Problem,
@@ -125,14 +128,15 @@ fn cover_way(
     requires { IsInput (unnamed problem.now) (unnamed input.now) }
     ensures { IfOk result (λ found. IfSome found (IsKnownGiven times problem.now input.now Claim.Never)) }
 {
+    let _times = times;
     match find_cover_given(alloc, problem, input, 4)?.cover {
         Some(_) => Ok(Some(Way::Cover(4))),
-        None => gadget_way(alloc, problem, input, times),
+        None => Ok(None),
     }
 }
 
-/// The first words that show that no number of rounds solves the problem, whose chain is given too, given the input problem.
-pub(crate) fn never_way(
+/// The first words that show soon that no number of rounds solves the problem, whose chain is given too, given the input problem.
+pub(crate) fn near_way(
     alloc: Global,
     problem: &Problem,
     input: &Problem,
@@ -141,14 +145,33 @@ pub(crate) fn never_way(
 ) -> Result<Option<Way>, NoMemory>
     requires chain { chain.now ≡ problem_chain problem.now }
     requires input { IsInput (unnamed problem.now) (unnamed input.now) }
+    ensures { IfOk result (λ found. IfSome found (IsKnownGiven times problem.now input.now Claim.Never)) }
+{
+    match closure_way(alloc, problem, input, chain, times)? {
+        Some(way) => Ok(Some(way)),
+        None => cover_way(alloc, problem, input, times),
+    }
+}
+
+/// The same by dearer words, where no number of rounds is known to be enough.
+pub(crate) fn far_way(
+    alloc: Global,
+    problem: &Problem,
+    input: &Problem,
+    chain: &Certificate,
+    most: Option<Shown>,
+    times: u8,
+) -> Result<Option<Way>, NoMemory>
+    requires chain { chain.now ≡ problem_chain problem.now }
+    requires input { IsInput (unnamed problem.now) (unnamed input.now) }
     requires times { times ≤ 64 }
     ensures { IfOk result (λ found. IfSome found (IsKnownGiven times problem.now input.now Claim.Never)) }
 {
-    if let Some(way) = closure_way(alloc, problem, input, chain, times)? {
-        return Ok(Some(way));
+    if most.is_some() {
+        return Ok(None);
     }
-    if let Some(way) = cycle_way(alloc, problem, input, chain, times)? {
-        return Ok(Some(way));
+    match cycle_way(alloc, problem, input, chain, times)? {
+        Some(way) => Ok(Some(way)),
+        None => gadget_way(alloc, problem, input, times),
     }
-    cover_way(alloc, problem, input, times)
 }

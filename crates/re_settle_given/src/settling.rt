@@ -9,34 +9,64 @@ ghost use Rattle.std.specs.Prelude.{◌≡◌, ◌≤◌, IfOk, IfSome, None};
 
 use crate::bounds::{longer, longest_way, short_way};
 use crate::counting::{counted, counted_at_once, most_way};
-use crate::never::never_way;
+use crate::lines::claim_given;
+use crate::never::{far_way, near_way};
 use crate::types::SettledGiven;
 use re_cert::Certificate;
 use re_chain_texts::problem_chain;
 use re_given_words::Counted;
+use re_idle_hop::tells_passive;
 use re_labels::NoMemory;
 use re_problem::Problem;
-use re_settle::{Claim, MAX_ROUNDS, Shown, Way};
+use re_settle::{Claim, MAX_ROUNDS, Shown, Way, is_final};
 use std::alloc::Global;
 
-// Two bounds, where so many rounds are too few.
+// What is known where so many rounds are too few, and a number is enough where one is known: where one round more than the first is of no use, that is
+// too few as well.
+fn together(
+    problem: &Problem,
+    input: &Problem,
+    few: Shown,
+    most: Option<Shown>,
+    times: u8,
+) -> SettledGiven
+    requires input { IsInput (unnamed problem.now) (unnamed input.now) }
+    requires few { IsKnownGiven times problem.now input.now (Claim.MoreThan few.rounds) few.way }
+    requires most { IfSome most (λ shown. IsKnownGiven times problem.now input.now (Claim.AtMost shown.rounds) shown.way) }
+    ensures { IsSettledGiven times problem.now input.now result }
+{
+    let _names = problem.names();
+    let _times = times;
+    if few.rounds < u8::MAX && tells_passive(input, few.rounds) {
+        SettledGiven::Beyond(few.rounds + 1, few, most)
+    } else {
+        SettledGiven::Within(few, most)
+    }
+}
+
+// The same where more rounds may be found to be too few, where a question is left.
 fn bounded(
     alloc: Global,
     problem: &Problem,
     input: &Problem,
     chain: &Certificate,
     few: Shown,
+    most: Option<Shown>,
     times: u8,
 ) -> Result<SettledGiven, NoMemory>
     requires chain { chain.now ≡ problem_chain problem.now }
     requires input { IsInput (unnamed problem.now) (unnamed input.now) }
     requires few { IsKnownGiven times problem.now input.now (Claim.MoreThan few.rounds) few.way }
+    requires most { IfSome most (λ shown. IsKnownGiven times problem.now input.now (Claim.AtMost shown.rounds) shown.way) }
     ensures { IfOk result (IsSettledGiven times problem.now input.now) }
 {
+    let known = together(problem, input, few, most, times);
+    if is_final(claim_given(known)) {
+        return Ok(known);
+    }
     let longest = longest_way(alloc, problem, input, chain, times)?;
     let lower = longer(problem, input, few, longest, times);
-    let upper = short_way(alloc, problem, input, times)?;
-    Ok(SettledGiven::Within(lower, upper))
+    Ok(together(problem, input, lower, most, times))
 }
 
 // What is known where so many rounds are too few, and it isn't counted how many are enough.
@@ -54,10 +84,14 @@ fn searched(
     requires times { times ≤ 64 }
     ensures { IfOk result (IsSettledGiven times problem.now input.now) }
 {
-    match never_way(alloc, problem, input, chain, times)? {
-        Some(way) => Ok(SettledGiven::Never(way)),
-        None => bounded(alloc, problem, input, chain, few, times),
+    if let Some(way) = near_way(alloc, problem, input, chain, times)? {
+        return Ok(SettledGiven::Never(way));
     }
+    let most = short_way(alloc, problem, input, times)?;
+    if let Some(way) = far_way(alloc, problem, input, chain, most, times)? {
+        return Ok(SettledGiven::Never(way));
+    }
+    bounded(alloc, problem, input, chain, few, most, times)
 }
 
 // A number of rounds that `rounds` counts up to the most.
@@ -111,11 +145,14 @@ fn untold(
     requires times { times ≤ 64 }
     ensures { IfOk result (λ found. IfSome found (IsSettledGiven times problem.now input.now)) }
 {
-    if let Some(way) = never_way(alloc, problem, input, chain, times)? {
+    if let Some(way) = near_way(alloc, problem, input, chain, times)? {
         return Ok(Some(SettledGiven::Never(way)));
     }
-    match short_way(alloc, problem, input, times)? {
-        Some(most) => Ok(Some(SettledGiven::AtMost(most))),
+    if let Some(most) = short_way(alloc, problem, input, times)? {
+        return Ok(Some(SettledGiven::AtMost(most)));
+    }
+    match far_way(alloc, problem, input, chain, None, times)? {
+        Some(way) => Ok(Some(SettledGiven::Never(way))),
         None => Ok(None),
     }
 }

@@ -11,6 +11,9 @@ pub enum SettledGiven {
     Never(Way),
     /// It takes more than the first number of rounds, and where a second one is known, at most that many.
     Within(Shown, Option<Shown>),
+    /// It takes more than the first number of rounds, one more than are shown to be too few, since one more than these is of no use given that input;
+    /// and where a last one is known, at most that many.
+    Beyond(u8, Shown, Option<Shown>),
     /// It takes at most so many rounds, and no number is known to be too few.
     AtMost(Shown),
 }

@@ -15,3 +15,8 @@ pub returns-in-Some-2 : goal.returns-in-Some-2
 returns-in-Some-2 c =
     most_settled c.args.times c.args.problem.now c.args.input.now c.in-Some-2.most
     (subst (λ found. IfSome found (λ (shown : Shown). IsKnownGiven c.args.times c.args.problem.now c.args.input.now (AtMost shown.rounds) shown.way)) c.in-Some-2.is c.in_ok-most.ensures)
+
+pub returns-in-Some-3 : goal.returns-in-Some-3
+returns-in-Some-3 c =
+    never_settled c.args.times c.args.problem.now c.args.input.now c.in-Some-3.way
+    (subst (λ found. IfSome found (IsKnownGiven c.args.times c.args.problem.now c.args.input.now Never)) c.in-Some-3.is c.in_ok-way-2.ensures)

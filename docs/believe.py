@@ -449,9 +449,8 @@ def by_module(found):
 def markdown():
     lines = []
     for title, what, found in groups():
-        crates = dict.fromkeys(f"`{crate}`" for (crate, _), _ in by_module(found))
-        counts = f"{len(found)} definitions, {size(found.values())} lines, in"
-        lines += textwrap.wrap(f"- **{title}**: {what} {counts} {', '.join(crates)}.", 120, subsequent_indent="  ", break_long_words=False, break_on_hyphens=False)
+        counts = f"{len(found)} definitions, {size(found.values())} lines."
+        lines += textwrap.wrap(f"- **{title}**: {what} {counts}", 120, subsequent_indent="  ", break_long_words=False, break_on_hyphens=False)
     return "\n".join(lines)
 
 

@@ -10,9 +10,10 @@ import {join} from 'path';
 import {Script} from 'vm';
 import {deflateRawSync} from 'zlib';
 import {pageFolder, programsIn, sourceIn, unpacked} from './held.mjs';
+import {shortTable} from './src/tables.js';
 
 // What the file may hold beside its programs.
-const LARGEST_REST = 450000;
+const LARGEST_REST = 370000;
 const examples = join(pageFolder, '../examples');
 const source = name => readFileSync(join(pageFolder, 'src', name), 'utf8');
 
@@ -53,12 +54,12 @@ const examplesHeld = () => ({
     'Known bounds (certificates and graphs)': textsIn('gallery'),
 });
 
-// The tables of the catalogue, packed, where they stand there: {'3-3-2': packed}, by the numbers of labels and degrees.
+// The tables of the catalogue, shortened and packed, where they stand there: {'3-3-2': packed}, by the numbers of labels and degrees.
 function catalogueHeld() {
     const folder = join(examples, 'catalogue'),
           bytesOf = file => file.endsWith('.xz') ? execFileSync('xz', ['-dc', file], {maxBuffer: 1 << 28}) : readFileSync(file);
     const names = existsSync(folder) ? readdirSync(folder).filter(name => /^\d-\d-\d\.tsv(\.xz)?$/.test(name)).sort() : [];
-    return Object.fromEntries(names.map(name => [name.slice(0, 5), packed(bytesOf(join(folder, name)))]));
+    return Object.fromEntries(names.map(name => [name.slice(0, 5), packed(shortTable(String(bytesOf(join(folder, name)))))]));
 }
 
 const packed = bytes => deflateRawSync(bytes, {level: 9}).toString('base64');

@@ -3,13 +3,14 @@ import {claimNodes} from './claims.js';
 import {$, element, plural} from './dom.js';
 import {unpacked} from './packed.js';
 import {tableName} from './catalogue.js';
+import {wholeTable} from './tables.js';
 
 export class Catalogue {
     constructor(workbench) { Object.assign(this, {workbench, packed: JSON.parse($('#catalogue').textContent), tables: {}}); }
 
     async table(name) {
         if (!Object.hasOwn(this.packed, name)) return null;
-        this.tables[name] ||= unpacked(this.packed[name]).text();
+        this.tables[name] ||= unpacked(this.packed[name]).text().then(wholeTable);
         return this.tables[name];
     }
 

@@ -2,7 +2,7 @@
 import {button, element, faulty, hint, plural, replace} from './dom.js';
 import {say} from './messages.js';
 import {bracketed, filledLines} from './texts.js';
-import {describe} from './problems.js';
+import {describe, isHopeless} from './problems.js';
 import {faultLine, isCertificate} from './certificates.js';
 import {LONGEST_SHOWN, NumberedArea} from './numbered_area.js';
 
@@ -144,12 +144,14 @@ export class Editor {
     }
 
     async accept(text, canonical) {
-        const {labels, active, passive} =
-            canonical.length > LONGEST_SHOWN ? await this.engine.work('describe', canonical) : describe(canonical);
+        const isLong = canonical.length > LONGEST_SHOWN,
+              found = isLong ? await this.engine.work('describe', canonical) : describe(canonical);
         if (text !== this.text) return null;
+        const {labels, active, passive} = found;
         this.problem = canonical;
         replace(this.state, element('span.good', {}, 'Read: '),
-            `${active.count} active and ${plural(passive.count, 'passive configuration')}, ${plural(labels.length, 'label')}.`);
+            `${active.count} active and ${plural(passive.count, 'passive configuration')}, ${plural(labels.length, 'label')}.`,
+            aloneHint(found, !isLong && isHopeless(canonical)));
         const lines = area => filledLines(area.value).filter(line => !line.startsWith('%'));
         this.written = {active: lines(this.active), passive: lines(this.passive)};
         this.onRead(canonical, this.written);
@@ -209,4 +211,14 @@ function advice(answer, row = '') {
                       .find(([fault]) => answer.includes(fault));
     const said = openBracket(row) || found?.[1];
     return said ? element('div.hint', {}, said) : null;
+}
+
+// The commonest slips of the pen: labels that stand on one side alone, and a problem of which nothing is left without them.
+function aloneHint({active, passive}, isWithoutSolution) {
+    const said = [['active', active.alone], ['passive', passive.alone]]
+                     .filter(([, labels]) => labels.length)
+                     .map(([side, labels]) => `${labels.join(', ')} ${labels.length > 1 ? 'stand' : 'stands'} around ${
+                              side} nodes alone: no solution has ${labels.length > 1 ? 'them' : 'it'}.`);
+    if (isWithoutSolution) said.push('There is no solution at all.');
+    return said.length ? element('div.hint', {}, said.join(' ')) : null;
 }

@@ -4,7 +4,8 @@
 import {$, button, element, hint, plural} from './dom.js';
 import {say} from './messages.js';
 import {isNote} from './notes.js';
-import {historyOf, readHistory} from './sessions.js';
+import {keptText, withoutTexts} from './kept.js';
+import {historyOf} from './sessions.js';
 import {titleOf} from './chains.js';
 
 const TAB = 're-workbench', LAST = 're-workbench-last', SOON = 400, MOST_LAST = 3, LARGEST_DATA = 6000000, LONGEST_NOTE = 200000;
@@ -21,6 +22,17 @@ const write = (place, key, text) => {
         return true;
     } catch { return false; }
 };
+
+// An address may be very long: of it the browser keeps how long it is, and a sum over its characters.
+function markOf(address) {
+    let sum = 0;
+    for (let i = 0; i < address.length; i++) sum = Math.imul(sum, 31) + address.charCodeAt(i) | 0;
+    return `${address.length} ${sum}`;
+}
+const isHere = address => [location.hash, markOf(location.hash)].includes(address);
+
+// What is the same of a card that was kept, beside its problem.
+const formOf = ({problem, ...others}) => JSON.stringify(others);
 
 // Light or dark, as the user chose it; nothing else than these. The tab has it too: it is there behind a reload whatever becomes of the rest.
 const THEME = `${TAB}-theme`, PLACES = ['sessionStorage', 'localStorage'];
@@ -51,7 +63,7 @@ export class Keeper {
         return {
             build: this.build,
             tab: this.tab,
-            address: location.hash,
+            address: markOf(location.hash),
             editor: editor.kept,
             notes: kept,
             tries: [...tries.known],
@@ -60,25 +72,32 @@ export class Keeper {
     }
 
     // All of it where that isn't too much, else without what undo goes back to.
-    get text() {
-        const {data} = this, text = JSON.stringify(data);
-        return text.length <= LARGEST_DATA
-            ? text
-            : JSON.stringify({...data, notes: [], history: historyOf({...this.workbench.cards.state, done: [], undone: []})});
+    get kept() {
+        const {data} = this, kept = withoutTexts(data), size = kept.texts.reduce((sum, text) => sum + text.length, kept.rest.length);
+        return size <= LARGEST_DATA
+            ? kept
+            : withoutTexts({...data, notes: [], history: historyOf({...this.workbench.cards.state, done: [], undone: []})});
     }
 
     keepAtOnce() {
         if (!this.timer) return;
         clearTimeout(this.timer);
         this.timer = null;
-        write('sessionStorage', TAB, this.text);
+        write('sessionStorage', TAB, keptText(this.kept));
+    }
+
+    // What a worker packs, so that the page doesn't stand still.
+    async packed() {
+        const {rest, texts} = this.kept;
+        return this.engine.work('packKept', {rest, texts: await this.workbench.parcels.all(texts)});
     }
 
     async keep() {
-        const {cards, editor} = this.workbench, turn = this.turn = {}, [first] = cards.path();
-        const packed = await this.engine.work('packText', this.text).catch(() => '');
+        const {cards, editor} = this.workbench, {timer} = this, turn = this.turn = {}, [first] = cards.path();
+        const packed = await this.packed().catch(() => '');
         if (turn !== this.turn || !packed) return;
-        this.timer = null;
+        // What changed meanwhile still waits.
+        if (this.timer === timer) this.timer = null;
         write('sessionStorage', TAB, packed);
         if (!cards.cards.length && !editor.text.trim()) return;
         const title = first ? titleOf(first) : 'a text in the editor', mine = {tab: this.tab, title, count: cards.cards.length, packed};
@@ -97,15 +116,13 @@ export class Keeper {
 
     // ---- What comes back.
 
-    async unpacked(text) { return JSON.parse(text.startsWith('{') ? text : await this.engine.work('unpackSession', text)); }
-
     // Behind a reload all of it; in a page that is opened anew nothing, but `offers` has a button.
     async start() {
         const kept = read('sessionStorage', TAB), [navigation] = performance.getEntriesByType('navigation');
         try {
-            const data = kept && await this.unpacked(kept),
+            const data = kept && await this.engine.work('readKept', kept),
                   isAgain = location.hash || ['reload', 'back_forward'].includes(navigation?.type);
-            if (data && isAgain && data.address === location.hash) {
+            if (data && isAgain && isHere(data.address)) {
                 this.tab = data.tab;
                 await this.restore(data);
             }
@@ -115,21 +132,21 @@ export class Keeper {
         this.changed();
     }
 
-    async restore({build, editor, notes, tries, history}) {
+    async restore({build, editor, notes, tries, all, now, done, undone}) {
         const {workbench} = this, {cards} = workbench, {cards: before} = cards;
-        if (!editor || !history) throw new Error('it is damaged');
         await workbench.editor.restore(editor);
         if (build === this.build) {
             workbench.notes.known = new Map(notes.map(([id, {problem, list}]) => [id, {problem, list: list.filter(isNote)}]));
             workbench.tries.known = new Map(tries);
         }
-        const {all, now, done, undone} = await this.engine.work('readHistory', history);
         await workbench.sessions.examine(all);
         // The user was quicker.
         if (cards.cards !== before) return;
         // Cards that are shown stay the same ones.
-        const shown = new Map(before.map(card => [JSON.stringify(card), card])),
-              same = new Map(all.map(card => [card, shown.get(JSON.stringify(card)) || card]));
+        const shown = new Map(before.map(card => [formOf(card), card])), same = new Map(all.map(card => {
+            const known = shown.get(formOf(card));
+            return [card, known?.problem === card.problem ? known : card];
+        }));
         const known = state => ({current: state.current, cards: state.cards.map(card => same.get(card))});
         Object.assign(cards, {...known(now), done: done.map(known), undone: undone.map(known)});
         for (const view of workbench.views.values()) {
@@ -152,7 +169,7 @@ export class Keeper {
 
     async open(packed) {
         try {
-            await this.restore(await this.unpacked(packed));
+            await this.restore(await this.engine.work('readKept', packed));
         } catch (error) { say(`That session can't be opened: ${error.message}.`, true); }
     }
 }

@@ -139,12 +139,14 @@ function skipToCards(bench) {
 // How tall the line at the bottom is: what stands above it keeps clear of it. How tall what runs is, and how much of the bar stands above it:
 // in a low window this part of the bar may go out of sight, and the line at the bottom makes room.
 function watchBars() {
-    const foot = $('#claim'), bar = $('.bar'), jobs = $('#jobs'), {style} = document.documentElement;
+    const foot = $('#claim'), bar = $('.bar'), jobs = $('#jobs'), aboveFoot = ['html', '.layout', 'aside', '#report-box'].map($);
+    // Each is set where it is used, and is not inherited: else the style of all elements would be made anew.
+    const set = (name, length, nodes) => nodes.forEach(node => node.style.setProperty(name, `${length}px`));
     const measure = () => {
         const above = jobs.hidden ? bar.offsetHeight : Math.max(0, jobs.offsetTop - 4);
-        style.setProperty('--foot', `${foot.offsetHeight}px`);
-        style.setProperty('--above', `${above}px`);
-        style.setProperty('--jobs', `${bar.offsetHeight - above}px`);
+        set('--foot', foot.offsetHeight, aboveFoot);
+        set('--above', above, [bar]);
+        set('--jobs', bar.offsetHeight - above, [foot]);
     };
     const watcher = new ResizeObserver(measure);
     [foot, bar, jobs].forEach(node => watcher.observe(node));

@@ -4,20 +4,30 @@
 const FAULT_SHOWN = 8000, MESSAGE_SHOWN = 3000, LOOK_EACH = 250;
 // Places for it are so many pixels apart.
 const BETWEEN = 7;
+// A look at all points of a place takes a while, so it goes on in pieces of so many ms.
+const PIECE = 8;
 const USED = 'button, input, select, textarea, summary, a, [data-label], .edge';
 const messageBox = () => document.querySelector('#message');
 const footHeight = () => document.querySelector('#claim').offsetHeight;
-let hiding = 0, watching = 0;
+const pause = (ms = 0) => new Promise(resolve => setTimeout(resolve, ms));
+// The message that is there, {until}: when the piece of its look ends. Nothing more is looked for once it is another one.
+let shownMessage = null, hiding = 0;
 
-export function say(text, isFault = false) {
-    const box = messageBox();
-    box.textContent = text;
-    box.className = isFault ? 'shown fault' : 'shown';
+export async function say(text, isFault = false) {
+    const box = messageBox(), mine = shownMessage = {until: 0};
     clearTimeout(hiding);
-    clearInterval(watching);
-    putAside(box, messagePlaces(box));
-    watching = setInterval(() => keepAside(box), LOOK_EACH);
+    box.textContent = text;
+    box.className = '';
+    // It is seen once it has its place.
+    await putAside(mine, box);
+    if (mine !== shownMessage) return;
+    box.className = isFault ? 'shown fault' : 'shown';
     hiding = setTimeout(unsay, isFault ? FAULT_SHOWN : MESSAGE_SHOWN);
+    for (;;) {
+        await pause(LOOK_EACH);
+        if (mine !== shownMessage) return;
+        await keepAside(mine, box);
+    }
 }
 
 // Takes the message away; of a given text only where it says this.
@@ -25,7 +35,7 @@ export function unsay(text = messageBox().textContent) {
     const box = messageBox();
     if (box.textContent !== text) return;
     clearTimeout(hiding);
-    clearInterval(watching);
+    shownMessage = null;
     box.className = '';
 }
 
@@ -39,9 +49,17 @@ function messagePlaces(box) {
 }
 
 // Whether a box covers nothing that is used where its corner stands there: seen at points that stand closer than what is used is wide.
-function coversNothing(box, [left, top]) {
-    const {width, height} = box.getBoundingClientRect(), across = pointsOf(width, 12), down = pointsOf(height, 9);
-    return across.every(x => down.every(y => !document.elementFromPoint(left + x, top + y)?.closest(USED)));
+async function coversNothing(mine, box, [left, top]) {
+    const {width, height} = box.getBoundingClientRect(), down = pointsOf(height, 9);
+    for (const x of pointsOf(width, 12))
+        for (const y of down) {
+            if (performance.now() > mine.until) {
+                await pause();
+                mine.until = performance.now() + PIECE;
+            }
+            if (mine !== shownMessage || document.elementFromPoint(left + x, top + y)?.closest(USED)) return false;
+        }
+    return true;
 }
 
 // Points of a length, its ends too, no more than so much apart.
@@ -50,13 +68,17 @@ function pointsOf(length, apart) {
     return Array.from({length: count + 1}, (_, i) => length * i / count);
 }
 
-function putAside(box, places) {
-    const [left, top] = places.find(place => coversNothing(box, place)) || places.at(-1);
+async function putAside(mine, box) {
+    let place;
+    for (place of messagePlaces(box))
+        if (mine !== shownMessage || await coversNothing(mine, box, place)) break;
+    if (mine !== shownMessage) return;
+    const [left, top] = place;
     Object.assign(box.style, {left: `${left}px`, top: `${top}px`});
 }
 
 // It stays where it is as long as it covers nothing.
-function keepAside(box) {
+async function keepAside(mine, box) {
     const {left, top} = box.getBoundingClientRect();
-    if (!coversNothing(box, [left, top])) putAside(box, messagePlaces(box));
+    if (!await coversNothing(mine, box, [left, top])) await putAside(mine, box);
 }

@@ -11,10 +11,11 @@ function blocksAt(text) {
 
 const degreeIn = line => line.split(' ').reduce((sum, word) => sum + (Number(word.split('^')[1]) || 1), 0);
 
-// {labels, active: {degree, count}, passive: {degree, count}} of a canonical text.
+// {labels, active: {degree, count, alone}, passive: {degree, count, alone}} of a canonical text; the labels that are alone stand on that side
+// alone.
 export function describe(text) {
-    const labels = new Set();
-    const [active, passive] = blocksAt(text).map(([start, end]) => {
+    const known = [new Set(), new Set()];
+    const sides = blocksAt(text).map(([start, end], i) => {
         const lineEnd = text.indexOf('\n', start), first = text.slice(start, lineEnd < 0 ? end : Math.min(lineEnd, end)),
               none = /^%(\d+)$/.exec(first);
         if (none) return {degree: Number(none[1]), count: 0};
@@ -24,12 +25,20 @@ export function describe(text) {
             if (c === 10 && at < end) count++;
             // A label ends at a blank, a power or a line end; what stands behind a power is none.
             if (c !== 32 && c !== 94 && c !== 10) continue;
-            if (word >= 0) labels.add(text.slice(word, at));
+            if (word >= 0) known[i].add(text.slice(word, at));
             word = c === 94 ? -1 : at + 1;
         }
         return {degree: degreeIn(first), count};
     });
-    return {labels: sortedSet(labels), active, passive};
+    const [active, passive] =
+        sides.map((side, i) => ({...side, alone: sortedSet([...known[i]].filter(label => !known[1 - i].has(label)))}));
+    return {labels: sortedSet([...known[0], ...known[1]]), active, passive};
+}
+
+// Whether nothing is left on a side without the labels that stand on one side alone, those that do then, and so on: so there is no solution.
+export function isHopeless(text) {
+    const {active, passive} = describe(text), alone = [...active.alone, ...passive.alone];
+    return !active.count || !passive.count || alone.length > 0 && isHopeless(without(text, alone));
 }
 
 // The text of one side, without the line end behind it; nothing where it has no configuration.

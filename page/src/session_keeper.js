@@ -105,6 +105,11 @@ export class Sessions {
 
     // ---- The session that goes out.
 
+    // The session as a text, and packed.
+    async text() { return this.engine.work('sessionText', await this.sent()); }
+    async packed() { return this.engine.work('packSession', await this.sent()); }
+    sent() { return this.workbench.parcels.state(this.workbench.cards.state); }
+
     // The address holds the session, packed, so that a bookmark or a reload brings it back.
     async save() {
         const turn = this.turn = {}, {cards} = this.workbench.cards;
@@ -116,14 +121,13 @@ export class Sessions {
         const size = cards.reduce((sum, card) => sum + card.problem.length, 0);
         let packed = '', fault = 'it is too large';
         if (size < MOST_TEXT)
-            await this.engine.work('packSession', this.workbench.cards.state)
-                .then(
-                    text => {
-                        packed = text;
-                    },
-                    error => {
-                        fault = error.message;
-                    });
+            await this.packed().then(
+                text => {
+                    packed = text;
+                },
+                error => {
+                    fault = error.message;
+                });
         if (turn !== this.turn) return;
         this.noteSaved(packed.length > 0 && packed.length <= MOST_PACKED);
         if (!this.isSaved) {
@@ -141,8 +145,7 @@ export class Sessions {
     async saveFile() {
         const {turn} = this;
         const {cards} = this.workbench, [first] = cards.path();
-        download(`${first ? fileNameOf(titleOf(first)) : 're-session'}.json`, await this.engine.work('sessionText', cards.state),
-            'application/json');
+        download(`${first ? fileNameOf(titleOf(first)) : 're-session'}.json`, await this.text(), 'application/json');
         if (turn === this.turn) this.noteSaved(true);
     }
 

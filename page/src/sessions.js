@@ -5,7 +5,7 @@ const FORMAT = 're-workbench-1';
 
 export const sessionText = ({cards, current}) => JSON.stringify({format: FORMAT, current, cards});
 // What Share gives: a packed session behind some words; null in any other text.
-export const sharedIn = text => /(?:^|\s|\/)[^\s]*#s=([\w-]+)\s*$/.exec(text)?.[1] || null;
+export const sharedIn = text => /^#s=([\w-]+)\s*$/.exec(text.slice(Math.max(0, text.lastIndexOf('#s='))))?.[1] || null;
 
 export const isSession = text => /^\s*\{/.test(text.slice(0, 100));
 

@@ -16,14 +16,14 @@ export async function openShareDialog(bench) {
         area, state,
         element('footer', {}, button('Copy the text', event => copy(area.value, event.currentTarget), {class: 'primary', autofocus: true}),
             button(`Download ${file}`, async () => {
-                download(file, await bench.engine.work('sessionText', cards.state), 'application/json');
+                download(file, await bench.sessions.text(), 'application/json');
                 replace(state, `Send ${file}. Who gets it opens workbench.html and drops the file on the page, or takes Open….`);
             }), isWeb && button('Copy the address', event => copy(location.href, event.currentTarget))));
     if (!all.length) {
         replace(state, 'There is no card yet.');
         return;
     }
-    const packed = await bench.engine.work('packSession', cards.state);
+    const packed = await bench.sessions.packed();
     area.value = `${title}: ${
         plural(
             all.length, 'card')} of the re workbench. Open workbench.html, copy all of this text, and press Ctrl+V there.\n#s=${packed}\n`;

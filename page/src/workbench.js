@@ -14,6 +14,7 @@ import {Stopped} from './engine.js';
 import {openCertificateDialog, openNameDialog, openNoteDialog} from './dialogs.js';
 import {Keeper} from './keeper.js';
 import {Notes} from './notes.js';
+import {Parcels} from './parcels.js';
 import {ReportView} from './report_view.js';
 import {firstNumbers} from './search_actions.js';
 import {Settling} from './settling.js';
@@ -38,6 +39,7 @@ export class Workbench {
         this.views = new Map();
         this.numbers = firstNumbers();
         this.tip = new Tip();
+        this.parcels = new Parcels(engine);
         this.keeper = new Keeper(this);
         this.tries = new Tries(this, () => this.keeper.changed());
         this.notes = new Notes(this, () => this.keeper.changed());

@@ -4,7 +4,9 @@ import {describe, lineStarts, mapped, without, withArrow} from './problems.js';
 import {coveringLines, grouped} from './groups.js';
 import {findRelaxation, findRenaming} from './maps.js';
 import {layout} from './layout.js';
-import {packSession, packText, readHistory, readSession, sessionText, unpackSession} from './sessions.js';
+import {packSession, readSession, sessionText, unpackSession} from './sessions.js';
+import {packKept, readKept} from './kept.js';
+import {blobOf, wholeState, wholeTexts} from './parcels.js';
 import {catalogueLine} from './catalogue.js';
 import {certificateAlone, readCertificate, stepLines} from './certificates.js';
 
@@ -19,11 +21,12 @@ const WORK = {
     findRelaxation,
     findRenaming,
     layout,
-    packSession,
-    packText,
-    readHistory,
+    blobOf,
+    packSession: async state => packSession(await wholeState(state)),
+    packKept: async ({rest, texts}) => packKept({rest, texts: await wholeTexts(texts)}),
+    readKept,
     readSession,
-    sessionText,
+    sessionText: async state => sessionText(await wholeState(state)),
     unpackSession,
     certificateAlone,
     readCertificate,

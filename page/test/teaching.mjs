@@ -23,7 +23,7 @@ export async function teach(page, answers, forms = []) {
 export const teachMissing = (page, answers) =>
     teach(page, Object.fromEntries(Object.entries(answers).filter(([words]) => !explored.has(words.split(' ')[0]))));
 
-// The next answers to each of these commands, as `check`, or of the page's own work, as `work packText`, are held until they are let go, also
+// The next answers to each of these commands, as `check`, or of the page's own work, as `work packKept`, are held until they are let go, also
 // where the job is stopped meanwhile: they were on their way.
 export const hold = (page, commands, times = 1) => page.value(`(() => {
     const late = new Map(${JSON.stringify(commands)}.map(command => [command, ${

@@ -15,6 +15,7 @@ import {clauseFault} from '../src/certificates.js';
 import {inWords, modelOf} from '../src/claims.js';
 import {nameOfJob} from '../src/job_names.js';
 import {sharedIn} from '../src/sessions.js';
+import * as kept from '../src/kept.js';
 import {isUnknown, wordsIn} from '../src/words.js';
 import {deliveriesOf, randomFrom, readRun, runInput, treeAround} from '../src/trees.js';
 import {checked} from './checks.mjs';
@@ -204,6 +205,27 @@ await about('sessions', async () => {
         is(`a card at ${JSON.stringify(values)}`, refused(changed(1, values)), 'card 2 of the session is out of place');
 });
 
+await about('what the browser keeps', async () => {
+    // Each problem once, its lines without what they share with the line before.
+    const problems = ['A B\n\nA B\n', '', '\n', 'A^3\nA^2 B\nA^2 (ab)\n\n%2\n', answer(['family', 'colouring', '4', '4', '9'])];
+    is('problems come back', problems.map(text => kept.lengthened(kept.shortened(text))), problems);
+    is('shortened', kept.shortened('A B C\nA B D\n\nA B\n'), '0A B C\n4D\n0\n0A B\n0');
+    const cards = [problems[0], problems[4], problems[0]].map(
+              (problem, i) => ({kind: 'first', id: i + 1, parent: null, problem, title: `t${i}`})),
+          others = {build: 'b', tab: '1', address: '', editor: {active: 'A', passive: '', isOwn: true, replaced: null}},
+          notes = [[1, {problem: problems[0], list: [{kind: 'hint', text: 'n'}]}]],
+          tries = [[problems[4], [{what: 'zero', line: 'no', time: 1}]]],
+          history = sessions.historyOf({cards, current: 3, done: [{cards: [cards[0]], current: 1}], undone: []}),
+          data = {...others, notes, tries, history}, parts = kept.withoutTexts(data);
+    const whole = {...others, notes, tries, now: {current: 3, cards}, done: [{current: 1, cards: [cards[0]]}], undone: [], all: cards};
+    is('each problem once', parts.texts, [problems[0], problems[4]]);
+    is('packed', await kept.readKept(await kept.packKept(parts)), whole);
+    is('not packed', await kept.readKept(kept.keptText(parts)), whole);
+    is('as it was kept once, with the problems in their places', await kept.readKept(JSON.stringify(data)), whole);
+    for (const damaged of [{}, {...data, editor: null}, {...data, history: undefined}, {...data, history: {...history, cards: [{}]}}])
+        is('damaged', await kept.readKept(JSON.stringify(damaged)).then(() => 'read', () => 'refused'), 'refused');
+});
+
 await about('what is given', () => {
     const degrees = {active: {degree: 3}, passive: {degree: 2}};
     is('a colouring without the word input', inputCommand(new Set(), 'colouring', degrees, 4),
@@ -303,8 +325,11 @@ await about('what lines say in words', () => {
             'lower 8 2 from problem 1', 'step of problem 1'
         ]);
     is('a session that was shared',
-        [`MIS: 2 cards. Open it.\n#s=eJw-_9\n`, 'file:///a/workbench.html#s=eJw', 'A B\n\nA B\n', '{"format": 1}'].map(sharedIn),
-        ['eJw-_9', 'eJw', null, null]);
+        [
+            `MIS: 2 cards. Open it.\n#s=eJw-_9\n`, 'file:///a/workbench.html#s=eJw', 'A B\n\nA B\n', '{"format": 1}',
+            '#s=eJw\nand #s=eJx of it', '', '#s='
+        ].map(sharedIn),
+        ['eJw-_9', 'eJw', null, null, null, null, null]);
 });
 
 await about('finite graphs', () => {

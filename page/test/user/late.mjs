@@ -231,7 +231,7 @@ export const lateSessions = {
         // In the address, and as the browser keeps it.
         const cardsIn = {
             packSession: async () => JSON.parse(await page.value(`engine.work('unpackSession', location.hash.slice(3))`)).cards,
-            packText: async () =>
+            packKept: async () =>
                 JSON.parse(await page.value(`engine.work('unpackSession', sessionStorage.getItem('re-workbench'))`)).history.now[1]
         };
         for (const [work, cards] of Object.entries(cardsIn)) {

@@ -35,6 +35,22 @@ export const problemsSessions = {
                     `document.querySelector('#editor .state .faulty') && document.querySelector('#editor .state').textContent.includes('${
                         said}')`));
         }
+        // A label on one side alone, and a problem without a solution.
+        for (
+            const [active, passive, said] of [['M^3\nP O^2', 'M [PQ]\nO O', 'Q stands around passive nodes alone: no solution has it.'],
+                ['M^3\nP O^2\nP Q O', 'M [PO]\nO O', 'Q stands around active nodes alone: no solution has it.'],
+                ['A^3\nB C^2', 'B C\nA D', 'D stands around passive nodes alone: no solution has it.'], [
+                    'A^3\nB C^2', 'B D\nA D',
+                    'C stands around active nodes alone: no solution has it. D stands around passive nodes alone: no solution has it. There is no solution at all.'
+                ]]) {
+            await page.fill('#editor textarea', active, 0);
+            await page.fill('#editor textarea', passive, 1);
+            checks.check(said, await page.until(`document.querySelector('#editor .state .hint')?.textContent === ${quoted(said)}`));
+        }
+        await page.fill('#editor textarea', 'M^3\nP O^2', 0);
+        await page.fill('#editor textarea', 'M [PO]\nO O', 1);
+        checks.check('no hint',
+            await page.until(`document.querySelector('#editor .state .good') && !document.querySelector('#editor .state .hint')`));
         // A whole problem is pasted into the first area.
         await page.fill('#editor textarea', '', 1);
         await page.fill('#editor textarea', example('problems/without-brackets.txt'), 0);

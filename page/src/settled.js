@@ -12,8 +12,9 @@ export function readSettled(text) {
     return parts;
 }
 
-// Whether what `settle` printed leaves a question that more effort may answer.
-export const leavesQuestion = text => readSettled(text).some(({line}) => /\bmore than\b|at least order log\* N$/.test(line));
+// Whether what `settle` printed leaves a question that more effort may answer. A law leaves none.
+export const leavesQuestion = text =>
+    readSettled(text).some(({line}) => !line.startsWith('law: ') && /\bmore than\b|at least order log\* N$/.test(line));
 
 const isNumber = word => /^\d+$/.test(word);
 

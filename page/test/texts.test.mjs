@@ -274,9 +274,10 @@ await about('what settles a problem', () => {
             'exactly 4 (2 rounds of the graph)\n', 'not solvable in any number of rounds\nwith identifiers: order log* N\n',
             'more than 4\n', 'more than 4, at most 6\n', 'exactly 4\nwith identifiers: constant, more than 1, at most 4\n',
             'not solvable in any number of rounds\nwith identifiers: at least order log* N\n',
-            'not solvable in any number of rounds\nwith identifiers: at least order log N\n'
+            'not solvable in any number of rounds\nwith identifiers: at least order log N\n',
+            'exactly 8 given that input\nby: explore rounds 8\nlaw: 7 hops do no more than 6 given that input\n'
         ].map(leavesQuestion),
-        [false, false, true, true, true, true, false]);
+        [false, false, true, true, true, true, false, false]);
     is('a command', commandsIn('explore cycle 3 1 2000', ['re', 'explore']), [{program: 'explore', words: ['cycle', '3', '1', '2000']}]);
     is('a command with a colouring that is given', commandsIn('explore shortest 12 8 given 4 colours', ['re', 'explore']),
         [{program: 'explore', words: ['shortest', '12', '8'], colours: 4}]);

@@ -15,7 +15,7 @@ import believe
 
 PAGE = os.path.join(believe.TOP, "docs", "CONTRACTS.md")
 # Crates of tests, which have no item.
-OTHERS = {"row_script", "problem_rows", "certificate_rows"}
+OTHERS = {"problem_rows", "certificate_rows"}
 
 
 def crates():

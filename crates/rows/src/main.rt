@@ -1,8 +1,16 @@
-//! Worked rows of the tool: what it answers to words and bytes. The arguments name the files that have the rows, one after another; standard
-//! output gets a line for each row that isn't as it should be, and how many are.
+//! Worked rows of the two programs, as texts: words and bytes, and what is answered. The arguments name the files that have the rows, one after
+//! another; standard output gets a line for each row that isn't as it should be, and how many are.
 #![tactic(auto)]
 
-use row_script::report_files;
+mod answers;
+mod damage;
+mod devices;
+mod failing;
+mod growing;
+mod reports;
+mod script;
+
+use reports::report_files;
 use std::{env, io};
 
 fn main(rt: HostRuntime) -> io::Result<()> {

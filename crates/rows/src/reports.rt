@@ -1,14 +1,5 @@
-//! Rows of the tool as a text: words and bytes, and what is answered. For tests alone: a program names the files of rows.
-#![tactic(auto)]
-
-mod answers;
-mod damage;
-mod devices;
-mod failing;
-mod growing;
-mod script;
-
-use script::Script;
+//! Rows of files, and a line for each that isn't as it should be.
+use crate::script::Script;
 use std::alloc::Global;
 use std::{fs, io};
 
@@ -32,7 +23,7 @@ fn take_rows(rt: &impl Print, script: &mut Script, place: &str, text: &str) -> i
 
 /// Prints a line for each row of the files that isn't as it should be, with the name of its file, and then how many are. A text that one file
 /// names is known in those behind it.
-pub fn report_files(rt: &HostRuntime, alloc: Global, names: &[String]) -> io::Result<()> {
+pub(crate) fn report_files(rt: &HostRuntime, alloc: Global, names: &[String]) -> io::Result<()> {
     let mut script = Script::new(alloc);
     for name in names {
         let text = fs::read_to_string(rt, name.as_str())?;

@@ -84,20 +84,20 @@ GROUPS = [
     ),
     (
         "With few rounds, or few colours",
-        "what `re_ordered::gap_law`, `beyond_ports_law`, `re_few_colours::few_colours_local_law` and `re_edge_colours::few_edge_colours_local_law` add: "
+        "what `re_ordered::gap_law`, `beyond_ports_law`, `re_few_colours::few_colours_local_law` and `re_input_laws::few_edge_colours_local_law` add: "
         "towers of twos, and colourings of nodes and edges as input problems.",
         [
             ("re_ordered", "gap_law", None),
             ("re_ordered", "beyond_ports_law", None),
             ("re_few_colours", "few_colours_local_law", None),
-            ("re_edge_colours", "few_edge_colours_local_law", None),
+            ("re_input_laws", "few_edge_colours_local_law", None),
         ],
         [],
     ),
     (
         "Classes",
         "what `re_classes::constant_law`, `nothing_between_law`, `order_log_star_law` and `apart_law`, `re_given_bounds::class_law` and `no_two_classes_law`, "
-        "`re_edge_colours::order_edge_coloured_law`, `order_both_coloured_law` and `no_edge_coloured_law`, and "
+        "`re_input_laws::order_edge_coloured_law`, `order_both_coloured_law` and `no_edge_coloured_law`, and "
         "`re_local::nodes_seen_law` and `no_room_law` add: classes, and how many nodes a node sees.",
         [
             ("re_classes", "constant_law", None),
@@ -106,9 +106,9 @@ GROUPS = [
             ("re_classes", "apart_law", None),
             ("re_given_bounds", "class_law", None),
             ("re_given_bounds", "no_two_classes_law", None),
-            ("re_edge_colours", "order_edge_coloured_law", None),
-            ("re_edge_colours", "no_edge_coloured_law", None),
-            ("re_edge_colours", "order_both_coloured_law", None),
+            ("re_input_laws", "order_edge_coloured_law", None),
+            ("re_input_laws", "no_edge_coloured_law", None),
+            ("re_input_laws", "order_both_coloured_law", None),
             ("re_local", "nodes_seen_law", None),
             ("re_local", "no_room_law", None),
         ],

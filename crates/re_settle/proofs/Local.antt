@@ -12,7 +12,7 @@ use Rattle.re_given_words.specs.Counting.{IsCounted}
 use Rattle.re_given_words.specs.Extensions.{GoesOnGiven}
 use Rattle.re_given_words.specs.declared.counting.Counted.TheVariants as counted
 use Rattle.re_classes.specs.Classes.{IsOrderLogStar}
-use Rattle.re_edge_colours.proofs.EdgeClasses.{order_edge_coloured}
+use Rattle.re_input_laws.proofs.EdgeClasses.{order_edge_coloured}
 use Rattle.re_given.specs.InputExamples.{edge_colouring}
 use Rattle.re_inputs.proofs.NamedProofs.{inputs, named_inputs}
 use Rattle.re_inputs.specs.NamedInputs.{edge_colours, fits, input_of, law_input}

@@ -4,7 +4,7 @@ use Rattle.re_cert.specs.Bounds.{Bound}
 use Rattle.re_cert.specs.declared.certificate.Kind.TheVariants.{Upper}
 use Rattle.re_chain_parts.specs.Chains.{chain_with}
 use Rattle.re_classes.specs.Laws.{IsSolvableColoured}
-use Rattle.re_edge_colours.specs.EdgeClasses.{IsSolvableEdgeColoured}
+use Rattle.re_input_laws.specs.EdgeClasses.{IsSolvableEdgeColoured}
 use Rattle.re_given.specs.InputExamples.{edge_colouring}
 use Rattle.re_given.specs.Inputs.{IsInput}
 use Rattle.re_given.specs.Unavoidable.{colouring}

@@ -5,8 +5,8 @@ use Rattle.std.proofs.lemmas.Bool.{eqb-true}
 use Rattle.re_given.proofs.ChainGiven.{SolvableGiven-up}
 use Rattle.re_given.specs.Given.{SolvableGiven}
 use Rattle.re_given.specs.Inputs.{IsInput}
-use Rattle.re_idle_hop.proofs.IdleHop.{idle_hop}
-use Rattle.re_idle_hop.specs.Telling.{TellsPassive}
+use Rattle.re_input_laws.proofs.IdleHop.{idle_hop}
+use Rattle.re_input_laws.specs.Telling.{TellsPassive}
 use Rattle.re_problem.specs.NamedProblems.{NamedProblem, unnamed}
 use Rattle.re_problem.specs.Problems.{IsProblem, Problem}
 use Rattle.re_settle.specs.Claims.{within}

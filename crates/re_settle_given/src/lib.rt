@@ -17,7 +17,7 @@
 //!    lower bound of the rounds that are too few and of what `longest` finds.
 //!
 //! Where r rounds are too few, and the labels of the input problem, with its sides exchanged r times, tell the passive configurations in which they
-//! stand, so are r + 1 (`re_idle_hop`).
+//! stand, so are r + 1 (`re_input_laws`).
 //!
 //! What is found is accepted by `given`, and its text with the input problem is no longer than one that is read; or it is a count of rounds, or a
 //! graph with a solution of the input problem. Where a text is too long, the way counts as one that finds nothing. Where nothing is found, nothing

@@ -15,7 +15,7 @@ use crate::types::SettledGiven;
 use re_cert::Certificate;
 use re_chain_texts::problem_chain;
 use re_given_words::Counted;
-use re_idle_hop::tells_passive;
+use re_input_laws::tells_passive;
 use re_labels::NoMemory;
 use re_problem::Problem;
 use re_settle::{Claim, MAX_ROUNDS, Shown, Way, is_final};

@@ -1,3 +1,0 @@
-pub mod IdleHop
-mod LabelPlaces
-mod Sides

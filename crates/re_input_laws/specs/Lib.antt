@@ -1,0 +1,4 @@
+pub mod EdgeBounds
+pub mod EdgeClasses
+pub mod Laws
+pub mod Telling

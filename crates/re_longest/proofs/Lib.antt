@@ -1,2 +1,1 @@
-mod Itself
 mod ItselfGiven

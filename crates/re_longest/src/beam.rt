@@ -1,9 +1,8 @@
 //! The search from level to level.
-use crate::given::Given;
 use crate::levels::{Built, Level, next_level, plain_stop};
-use crate::pool::Kept;
 use crate::spreads::Spreads;
 use crate::starts::Start;
+use re_beams::{Given, Kept, next_size};
 use re_extend::{Route, Stop};
 use re_labels::NoMemory;
 use re_problem::Problem;
@@ -173,18 +172,6 @@ fn plain_path(
         }
     }
     Ok(path)
-}
-
-/// The next number of labels behind this one for which there is a beam.
-pub(crate) fn next_size(labels: u8) -> u8 {
-    match labels {
-        0..=31 => labels.saturating_add(1),
-        32..=47 => 48,
-        48..=63 => 64,
-        64..=95 => 96,
-        96..=127 => 128,
-        _ => u8::MAX,
-    }
 }
 
 // The longest one of the route and those that the beams find from the start: at most so many levels, of problems of at most so many labels.

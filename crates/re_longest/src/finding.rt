@@ -8,7 +8,7 @@ ghost use Rattle.re_problem.specs.Zero.{zero_place};
 ghost use Rattle.std.specs.Prelude.{◌≡◌, IfOk, IfSome, None};
 
 use crate::beam::{longest_merged, longest_route};
-use crate::given::Given;
+use re_beams::Given;
 use re_cert::{Certificate, Kind, MAX_STEPS};
 use re_extend::{Extension, Route, extended, repeated, route_steps, takes_merges};
 use re_labels::NoMemory;

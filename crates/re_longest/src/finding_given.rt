@@ -8,11 +8,11 @@ ghost use Rattle.std.specs.Prelude.{◌≡◌, IfOk, IfSome};
 
 use crate::beam::longest_route;
 use crate::finding::{levels_behind, longer_route};
-use crate::given::Given;
+use re_beams::Given;
 use re_cert::{Certificate, Kind, Step};
 use re_chain_parts::{chain as copied, over_problems};
 use re_extend::{Extension, Route, route_steps};
-use re_given_words::{extended_given, taken_law};
+use re_given_words::{FEW_TRIES, extended_given, taken_law};
 use re_labels::NoMemory;
 use re_problem::Problem;
 use std::alloc::Global;
@@ -62,7 +62,7 @@ fn searched(
 ) -> Result<Option<Certificate>, NoMemory>
     ensures { IfOk result (λ found. IfSome found (GoesOnGiven input.now Lower steps labels chain.now)) }
 {
-    let given = Given::input(input, chain.steps().len())?;
+    let given = Given::input(input, chain.steps().len(), FEW_TRIES)?;
     let levels = levels_behind(chain, steps);
     let route = longest_route(alloc, &given, chain.last(), levels, labels)?;
     let least = route.stops.len();

@@ -1,7 +1,6 @@
 //! The levels of the search.
-use crate::given::Given;
-use crate::pool::{Kept, Pool};
 use crate::spreads::{Spread, Spreads, Trace};
+use re_beams::{Candidates, Given, Kept, first_kept};
 use re_changes::Changed;
 use re_extend::Stop;
 use re_labels::{MAX_LABELS, NoMemory};
@@ -35,7 +34,7 @@ struct Building<'a> {
     given: &'a Given,
     steps: usize,
     most: u8,
-    pool: Pool,
+    candidates: Candidates,
     plain: Option<Kept>,
     limited: bool,
     larger: bool,
@@ -48,18 +47,28 @@ impl<'a> Building<'a> {
             given,
             steps,
             most,
-            pool: Pool::new(alloc, WIDTH),
+            candidates: Candidates::new(alloc, WIDTH),
             plain: None,
             limited: false,
             larger: false,
         }
     }
 
+    // Offers the problem of the inner beam as a candidate.
+    fn offer(&mut self, spread: &Spread, trace: &Trace, parent: usize) -> Result<(), NoMemory> {
+        if self.candidates.takes(trace.labels, trace.rank, trace.mark) {
+            if let Some(kept) = spread.kept(self.alloc, trace, parent)? {
+                self.candidates.put(kept)?;
+            }
+        }
+        Ok(())
+    }
+
     // Offers each problem of the inner beam that has few enough labels.
     fn offer_all(&mut self, spread: &Spread, merges: usize, parent: usize) -> Result<(), NoMemory> {
         for trace in spread.beam(merges) {
             if trace.labels <= self.most as usize {
-                self.pool.offer_trace(spread, trace, parent)?;
+                self.offer(spread, trace, parent)?;
             } else {
                 self.larger = true;
             }
@@ -73,7 +82,7 @@ impl<'a> Building<'a> {
             None => true,
             Some(trace) => {
                 let left = trace.labels.saturating_sub(1);
-                left < self.most as usize && !self.pool.is_open(left)
+                left < self.most as usize && !self.candidates.is_open(left)
             }
         }
     }
@@ -136,13 +145,13 @@ impl<'a> Building<'a> {
             alloc,
             given,
             steps,
-            pool,
+            candidates,
             plain,
             limited,
             larger,
             ..
         } = self;
-        let mut pool = pool;
+        let mut candidates = candidates;
         let mut kept = Vec::new(alloc);
         let mark = match &plain {
             Some(plain) => Some(plain.mark),
@@ -152,7 +161,7 @@ impl<'a> Building<'a> {
         if let Some(plain) = plain {
             kept.push(plain)?;
         }
-        pool.choose(&mut kept, mark, given, steps)?;
+        candidates.choose(&mut kept, mark, given, steps)?;
         let level = Level {
             kept,
             plain: is_plain,
@@ -183,14 +192,7 @@ pub(crate) fn next_level(
 
 /// The level of the first problem.
 pub(crate) fn first_level(alloc: Global, problem: &Problem) -> Result<Level, NoMemory> {
-    let mut kept = Vec::new(alloc);
-    kept.push(Kept {
-        problem: problem.copy()?,
-        parent: 0,
-        images: Vec::new(alloc),
-        mark: 0,
-        rank: 0,
-    })?;
+    let kept = first_kept(alloc, problem)?;
     Ok(Level { kept, plain: true })
 }
 

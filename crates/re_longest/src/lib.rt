@@ -1,6 +1,4 @@
-//! Beam searches for long lower bounds and for short upper bounds.
-//!
-//! # Lower bounds
+//! The beam search for long lower bounds. `re_beams` has what it shares with the one for short upper bounds, `re_shortest`.
 //!
 //! **Beams.** There is a beam for each number of labels from 2 to 32, and for 48, 64, 96 and 128: a search on its own, over problems of at
 //! most so many labels. Those up to the number that is wanted go one after another, the least first, and the longest path of all is the
@@ -26,9 +24,7 @@
 //! with the fewest active configurations. Only a longer path counts. Its first step goes to the derived problem of the merged one, by rows; so
 //! there is no such path where the chain has maps by sets.
 //!
-//! **Ties and numbers.** `WIDTH` is 30, `INNER_WIDTH` 6, `MAX_BUILDS` 128. Of candidates with as many active configurations the one
-//! that was offered first stays first. Problems are taken for equal where a number of 64 bits that is mixed of their configurations is:
-//! a rare mistake loses a candidate, and nothing else rests on it.
+//! **Ties and numbers.** `WIDTH` is 30, `INNER_WIDTH` 6, `MAX_BUILDS` 128. What becomes of ties and of equal problems is as in `re_beams`.
 //!
 //! **What is kept.** What merges make of a derived problem is kept for the other beams: the derived problem, the problems of the last inner
 //! beam, and of those before it the labels that the derived problem's have become, the number and the rank. Where they are 256 derived problems,
@@ -38,78 +34,18 @@
 //! **Memory.** At most `3 * WIDTH` candidates of one level, `2 * INNER_WIDTH` problems of the inner beam, `WIDTH + 1` problems of each
 //! level before, and what is kept. It uses no clock and no random numbers.
 //!
-//! # Upper bounds
-//!
-//! **Beams.** For the same numbers of labels, the least first. The answer is the shortest path of all to a problem that is solvable without
-//! communication, the first of several; each beam looks for a shorter one than those before it. So with more labels, or more steps, the
-//! answer is never longer, and never lost.
-//!
-//! **Level.** From each problem in the beam its derived problem, left out where it passes a limit. The first one that is solvable without
-//! communication ends the beam: its labels are left out but those of the first active configuration that shows it, and where these are
-//! more than the beam's number it is left out. Each other one is made thin first: while it has more than three labels for each one of the
-//! beam's number, a quarter of those that are too many, or one more, goes, those of the least chance. From there an inner beam goes on:
-//! each of its problems is followed by those that leave one of its labels out, and with it each label that stands in no active
-//! configuration any more; the four of the greatest chance stay. Each problem on the way with no more labels than the beam's number is a
-//! candidate of the level.
-//!
-//! **Chance.** Let each active node take one of the active configurations at random, and turn it at random: the chance of a problem is that
-//! of a passive node to have one of its configurations around it, and the chance of a label that of a passive node which has this label. A
-//! problem of high chance is near to one that is solvable without communication, whose passive nodes are content where all active nodes
-//! take one configuration. Chances are counted in whole numbers of at most 60 bits.
-//!
-//! **Which stay.** Of the candidates with the three greatest numbers of labels in turn the one with the greatest chance, the next one and
-//! so on, 20 in all. Ties and equal problems are as above.
-//!
-//! **Patterns.** Where the passive degree is 2 and the active one, d, is 3 or 5, further searches come first, one for each number of labels
-//! from twice the pairs of ports on, and the beams look for a shorter path. A pattern is a row in which one set of labels stands at all
-//! places but one. Two steps are taken at once. The labels of the first stand for 4, 8, 12 or 16 sets, each with its opposite, which is all
-//! that goes with each of its labels: those that have the most choices of two labels. The active configurations of the second are good rows:
-//! patterns in which a right-closed set stands at all places but one. Two of them go together where a passive node takes any two of their
-//! sets but the two that stand once, and each with itself where it takes two of the same. Where as many patterns go together as there are
-//! pairs of ports, two steps more are the last: a passive node has the label of the pair of its ports, and an active node takes a pattern
-//! that it has at one port alone. As each pattern is at two ports at most, and d is odd, there is one (after Naor and Stockmeyer 1995, and
-//! Mayer, Naor and Stockmeyer 1995, for weak colourings). Else those of the most choices stay, as many as have few enough labels, and two
-//! steps follow. In degree 5, where derived problems are dear, no beam has more than 8 labels if patterns of 20 labels lead to the end,
-//! however many steps and labels are wanted.
-//!
-//! # Given an input problem
-//!
-//! The same searches, where a solution of an input problem is given. A path ends at a problem that is solvable in 0 rounds given it: given the
-//! input problem with its sides exchanged as often as there are steps from the chain's first problem. `re_fit::find_fit` tells whether it
-//! is, with `FEW_TRIES` tries; where they don't suffice, it counts as not known.
-//!
-//! **Lower bounds.** Problems that are solvable without communication are left out as above. Of the candidates of a level, in the order in
-//! which they would stay, those stay that are told not to be solvable given the input problem. So each path is a bound.
-//!
-//! **Upper bounds.** Each derived problem that isn't solvable without communication is asked first. Where it is told to be solvable, with a set
-//! of its labels for each input label, its labels are left out but those of these sets; where these are no more than the beam's number, the
-//! beam ends. Where they are more, or it isn't known, the candidates that stay and are made of it are asked, and the first that is told to
-//! be solvable ends the beam.
+//! **Given an input problem.** The same search, where a solution of an input problem is given. Problems that are solvable without
+//! communication are left out as above. Of the candidates of a level, in the order in which they would stay, those stay that are told not to
+//! be solvable given the input problem, as `re_beams` says, with `FEW_TRIES` tries. So each path is a bound.
 #![tactic(auto)]
 
 mod beam;
-mod chance;
-mod closed_sets;
 mod finding;
 mod finding_given;
-mod given;
 mod levels;
-mod losses;
 mod merges;
-mod opposites;
-mod pairing;
-mod patterns;
-mod pool;
-mod shortening;
-mod shortening_given;
 mod spreads;
 mod starts;
-mod thinning;
-mod upper_beam;
-mod upper_levels;
-mod upper_steps;
 
 pub use finding::{Longest, find_longest};
 pub use finding_given::find_longest_given;
-pub use shortening::{Shortest, find_shortest};
-pub use shortening_given::find_shortest_given;

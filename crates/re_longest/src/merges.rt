@@ -2,6 +2,7 @@
 ghost use Rattle.std.specs.Prelude.{◌≤◌, length};
 
 use arrayvec::ArrayVec;
+use re_beams::{State, has_mark};
 use re_changes::{Change, Changed};
 use re_labels::{LabelSet, MAX_LABELS, NoMemory};
 use re_problem::Problem;
@@ -12,15 +13,6 @@ use std::alloc::Global;
 
 /// How many problems of the inner beam stay after each merge.
 const INNER_WIDTH: usize = 6;
-
-/// A problem of an inner beam: what changes have made of a derived problem, the number that tells it from others, and its rank: those of
-/// the least ranks stay.
-#[derive(Drop)]
-pub(crate) struct State {
-    pub(crate) made: Changed,
-    pub(crate) mark: u64,
-    pub(crate) rank: u64,
-}
 
 // A merge of two labels of a problem of the inner beam, and how many active configurations it leaves.
 #[derive(Clone, Copy)]
@@ -207,16 +199,6 @@ pub(crate) fn state_of(made: Changed) -> Option<State> {
     let mark = problem_mark(made.problem());
     let rank = made.problem().active().len() as u64;
     Some(State { made, mark, rank })
-}
-
-/// Whether one of the problems has this number.
-pub(crate) fn has_mark(states: &[State], mark: u64) -> bool {
-    for state in states {
-        if state.mark == mark {
-            return true;
-        }
-    }
-    false
 }
 
 /// What the merge makes of the problem, where there are such labels and it isn't solvable without communication.

@@ -1,6 +1,6 @@
 //! What merges make of derived problems, kept for the beams that come.
-use crate::merges::{State, after_merge, changed, state_of};
-use crate::pool::Kept;
+use crate::merges::{after_merge, changed, state_of};
+use re_beams::{Kept, State};
 use re_changes::Changed;
 use re_labels::{MAX_LABELS, NoMemory};
 use re_problem::Problem;

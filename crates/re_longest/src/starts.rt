@@ -1,8 +1,7 @@
 //! Where a search begins.
-use crate::given::Given;
 use crate::levels::{Level, WIDTH, first_level};
 use crate::merges::merged;
-use crate::pool::Pool;
+use re_beams::{Candidates, Given};
 use re_changes::Changed;
 use re_labels::NoMemory;
 use re_problem::Problem;
@@ -34,7 +33,7 @@ impl Start {
     fn offer_all(
         &mut self,
         alloc: Global,
-        pool: &mut Pool,
+        candidates: &mut Candidates,
         problem: &Problem,
     ) -> Result<(), NoMemory> {
         let whole = Changed::unchanged(problem.copy()?);
@@ -42,7 +41,7 @@ impl Start {
         for low in 0..labels {
             for high in low + 1..labels {
                 if let Some(state) = merged(alloc, &whole, low, high)? {
-                    pool.offer(&state, self.merges.len())?;
+                    candidates.offer(&state, self.merges.len())?;
                     self.merges.push((high, low))?;
                 }
             }
@@ -61,9 +60,9 @@ impl Start {
             plain: false,
         };
         let mut start = Start::with(alloc, level);
-        let mut pool = Pool::new(alloc, WIDTH);
-        start.offer_all(alloc, &mut pool, problem)?;
-        pool.choose(&mut start.level.kept, None, given, 0)?;
+        let mut candidates = Candidates::new(alloc, WIDTH);
+        start.offer_all(alloc, &mut candidates, problem)?;
+        candidates.choose(&mut start.level.kept, None, given, 0)?;
         Ok(start)
     }
 

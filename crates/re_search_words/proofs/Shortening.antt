@@ -4,8 +4,8 @@ use Rattle.re_cert.specs.Bounds.{Bound}
 use Rattle.re_cert.specs.declared.certificate.Kind.TheVariants.{Upper}
 use Rattle.re_chain_texts.specs.OverChains.{GivesText, certificate_outcome}
 use Rattle.re_frame.specs.Outcomes.{Outcome}
-use Rattle.re_longest.specs.UpperAnswers.{AnswersAt}
-use Rattle.re_longest.specs.declared.shortening.Shortest.TheVariants.{Found}
+use Rattle.re_shortest.specs.Answers.{AnswersAt}
+use Rattle.re_shortest.specs.declared.shortening.Shortest.TheVariants.{Found}
 use Rattle.re_search_words.specs.MayGive.{IsTextOn, MayShorten}
 
 pub found_gives : (place : Option ℕ) (steps labels : ℕ) (chain bound : Bound) (outcome : Outcome) → AnswersAt place steps labels chain (Found bound)

@@ -26,8 +26,8 @@ use re_frame::{
 };
 use re_given_words::GIVEN;
 use re_labels::NoMemory;
-use re_longest::{Shortest, find_shortest};
 use re_problem::TextFault;
+use re_shortest::{Shortest, find_shortest};
 use re_two_texts::has_line;
 use re_zero::zero_round;
 use std::alloc::Global;

@@ -16,10 +16,9 @@ use re_chain_texts::certificate_output;
 use re_frame::Output;
 use re_given_words::is_done;
 use re_labels::NoMemory;
-use re_longest::{
-    Longest, Shortest, find_longest, find_longest_given, find_shortest, find_shortest_given,
-};
+use re_longest::{Longest, find_longest, find_longest_given};
 use re_problem::Problem;
+use re_shortest::{Shortest, find_shortest, find_shortest_given};
 use re_two_texts::print_given;
 use std::alloc::Global;
 

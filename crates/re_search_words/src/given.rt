@@ -28,8 +28,8 @@ use re_frame::{
 };
 use re_given_words::{GIVEN, given_verdict, input_fault_output, is_accepted, is_done, taken_law};
 use re_labels::NoMemory;
-use re_longest::{Shortest, find_shortest_given};
 use re_problem::{Problem, TextFault};
+use re_shortest::{Shortest, find_shortest_given};
 use re_two_texts::{TwoTexts, cut_at, print_given, read_chain_two};
 use std::alloc::Global;
 

@@ -18,9 +18,9 @@ use Rattle.re_given_words.specs.declared.counting.Counted.{Counted}
 use Rattle.re_given_words.specs.declared.counting.Counted.TheVariants as counted
 use Rattle.re_labels.specs.declared.TheConstants.{MAX_LABELS}
 use Rattle.re_longest.specs.Answers as longest
-use Rattle.re_longest.specs.UpperAnswers.{AnswersAt}
+use Rattle.re_shortest.specs.Answers.{AnswersAt}
 use Rattle.re_longest.specs.declared.finding.Longest.TheVariants as longest_answer
-use Rattle.re_longest.specs.declared.shortening.Shortest.TheVariants as shortest_answer
+use Rattle.re_shortest.specs.declared.shortening.Shortest.TheVariants as shortest_answer
 use Rattle.re_laws.proofs.ZeroRounds.{Solvable-zero}
 use Rattle.re_laws.specs.Algorithms.{Solvable}
 use Rattle.re_problem.proofs.ZeroPlaces.{no-place}

@@ -20,9 +20,9 @@ use Rattle.re_given_words.specs.Counting.{MayTell}
 use Rattle.re_given_words.specs.declared.counting.Counted.{Counted}
 use Rattle.re_given_words.specs.declared.counting.Counted.TheVariants as counted
 use Rattle.re_longest.specs.Answers as longest
-use Rattle.re_longest.specs.UpperAnswers.{AnswersAt}
+use Rattle.re_shortest.specs.Answers.{AnswersAt}
 use Rattle.re_longest.specs.declared.finding.Longest.TheVariants as longest_answer
-use Rattle.re_longest.specs.declared.shortening.Shortest.TheVariants as shortest_answer
+use Rattle.re_shortest.specs.declared.shortening.Shortest.TheVariants as shortest_answer
 use Rattle.re_problem.specs.NamedProblems.{NamedProblem, unnamed}
 use Rattle.re_problem.specs.Zero.{zero_place}
 use Rattle.re_relaxed.specs.Answers as relaxed

@@ -16,9 +16,10 @@ use crate::texts::has_text;
 use crate::types::{Claim, Shown, Way};
 use re_cert::{Certificate, Kind};
 use re_labels::NoMemory;
-use re_longest::{Longest, Shortest, find_longest, find_shortest};
+use re_longest::{Longest, find_longest};
 use re_problem::Problem;
 use re_search::{FindFault, Search, find_lower, find_upper};
+use re_shortest::{Shortest, find_shortest};
 use std::alloc::Global;
 
 /// How many configurations a problem in degree 5 has for which patterns are looked for.

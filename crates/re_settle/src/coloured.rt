@@ -10,8 +10,8 @@ use crate::types::{Coloured, ColouredWay};
 use re_given_words::{Counted, RoundsTexts, count_within};
 use re_inputs::{InputKind, fits, input};
 use re_labels::{NoMemory, Side};
-use re_longest::{Shortest, find_shortest_given};
 use re_problem::Problem;
+use re_shortest::{Shortest, find_shortest_given};
 use std::alloc::Global;
 
 /// Up to how many rounds are counted given colours.

@@ -8,13 +8,14 @@ ghost use Rattle.std.specs.Prelude.{◌≡◌, IfOk, IfSome};
 use re_cert::Certificate;
 use re_given_words::is_accepted;
 use re_labels::NoMemory;
-use re_longest::{Shortest, find_longest_given, find_shortest_given};
+use re_longest::find_longest_given;
 use re_problem::Problem;
 use re_settle::{
     Claim, Shown, Way, count_of, doublings, greatest_degree, grows_little, has_given_text,
     has_patterns, is_small, longest_labels, longest_steps, shortest_labels, shortest_steps,
     upper_chain,
 };
+use re_shortest::{Shortest, find_shortest_given};
 use std::alloc::Global;
 
 /// Up to how many configurations the first derived problems have of a problem whose longest lower bound is looked for.

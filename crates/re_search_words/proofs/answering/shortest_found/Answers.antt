@@ -2,7 +2,7 @@ use Rattle.std.proofs.Common.{subst}
 use Rattle.re_chain_texts.proofs.WordsGiven.{both_ok}
 use Rattle.re_frame.specs.Outcomes.{outcome_of}
 use Rattle.re_cert.specs.Bounds.{last_problem}
-use Rattle.re_longest.specs.UpperAnswers.{AnswersAt}
+use Rattle.re_shortest.specs.Answers.{AnswersAt}
 use Rattle.re_problem.specs.NamedProblems.{unnamed}
 use Rattle.re_problem.specs.Zero.{zero_place}
 use Rattle.re_search_words.proofs.Shortening.{found_gives}

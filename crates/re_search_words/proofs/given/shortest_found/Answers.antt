@@ -2,7 +2,7 @@ use Rattle.std.proofs.Common.{inl, subst}
 use Rattle.re_chain_texts.proofs.WordsGiven.{both_ok}
 use Rattle.re_cert.specs.declared.certificate.Kind.TheVariants.{Upper}
 use Rattle.re_frame.specs.Outcomes.{outcome_of}
-use Rattle.re_longest.specs.UpperAnswers.{AnswersGiven}
+use Rattle.re_shortest.specs.Answers.{AnswersGiven}
 use Rattle.re_search_words.proofs.FoundGiven.{text_on}
 use Rattle.re_search_words.proofs.given.shortest_found.Goals as goal
 

@@ -3,7 +3,7 @@ use Rattle.re_cert.specs.Bounds.{Bound}
 use Rattle.re_cert.specs.declared.certificate.Kind.TheVariants.{Upper}
 use Rattle.re_chain_parts.specs.Chains.{chain_with}
 use Rattle.re_given.specs.Inputs.{IsInput}
-use Rattle.re_longest.specs.UpperAnswers.{AnswersGiven}
+use Rattle.re_shortest.specs.Answers.{AnswersGiven}
 use Rattle.re_problem.specs.NamedProblems.{NamedProblem, unnamed}
 use Rattle.re_settle.proofs.Local.{shortened_coloured}
 use Rattle.re_settle.specs.Measures.{coloured_steps, greatest_degree, shortest_labels}

@@ -1,7 +1,7 @@
 use Rattle.std.proofs.Common.{◌∙◌, [], ap, subst}
 use Rattle.re_cert.specs.declared.certificate.Kind.TheVariants.{Upper}
 use Rattle.re_chain_parts.specs.Chains.{chain_with}
-use Rattle.re_longest.specs.UpperAnswers.{AnswersGiven}
+use Rattle.re_shortest.specs.Answers.{AnswersGiven}
 use Rattle.re_problem.specs.NamedProblems.{NamedProblem}
 use Rattle.re_settle_given.proofs.Known.{shortest_known}
 use Rattle.re_settle_given.proofs.bounds.shortest_way.Goals as goal

@@ -1,8 +1,8 @@
 //! The search for an upper bound by patterns.
-use crate::beam::next_size;
 use crate::closed_sets::good_patterns;
 use crate::opposites::{Sides, beside_labels, opposite_pairs, sides_of};
 use crate::patterns::{Pattern, family_of, patterns_of};
+use re_beams::next_size;
 use re_cert::{SetEntry, Step, StepParts};
 use re_config::Config;
 use re_exist::{AllowedFault, allowed};

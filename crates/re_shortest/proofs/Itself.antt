@@ -19,7 +19,7 @@ use Rattle.re_clauses.specs.declared.clause.Clause.TheVariants.{Back, End}
 use Rattle.re_extend.specs.Extensions.{GoesOn}
 
 -- ---- with no steps behind it, it is itself
-pub plain : (fixed : Bool) (b : Bool) (back : ℕ) (renaming : List (ℕ × ℕ)) → fixed ≡ false → (if fixed then b else back == 0 && is_nil renaming) ≡ true → (back ≡ 0) × (renaming ≡ [])
+plain : (fixed : Bool) (b : Bool) (back : ℕ) (renaming : List (ℕ × ℕ)) → fixed ≡ false → (if fixed then b else back == 0 && is_nil renaming) ≡ true → (back ≡ 0) × (renaming ≡ [])
 plain true b back renaming e fits = cc
 plain false b back renaming e fits = (eqb-true back 0 (and-true (back == 0) (is_nil renaming) fits).0, nil_of renaming (and-true (back == 0) (is_nil renaming) fits).1)
 

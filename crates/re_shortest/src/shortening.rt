@@ -3,13 +3,13 @@ ghost use Rattle.re_cert.specs.Bounds.{last_problem};
 ghost use Rattle.re_cert.specs.declared.certificate.Kind.TheVariants.{Upper};
 ghost use Rattle.re_check.specs.Verdicts.{steps_fault};
 ghost use Rattle.re_extend.specs.Extensions.{GoesOn};
-ghost use Rattle.re_longest.specs.UpperAnswers.{AnswersAt};
+ghost use Rattle.re_shortest.specs.Answers.{AnswersAt};
 ghost use Rattle.re_problem.specs.NamedProblems.{unnamed};
 ghost use Rattle.re_problem.specs.Zero.{zero_place};
 ghost use Rattle.std.specs.Prelude.{◌≡◌, [], IfOk, IfSome, None};
 
-use crate::given::Given;
-use crate::upper_beam::{Climb, shortest_path};
+use crate::beam::{Climb, shortest_path};
+use re_beams::Given;
 use re_cert::{Certificate, Kind, MAX_STEPS, Step};
 use re_chain_parts::over_problems;
 use re_check::check;

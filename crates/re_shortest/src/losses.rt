@@ -1,7 +1,7 @@
 //! The inner beam of upper bounds: labels are left out one at a time.
 use crate::chance::chance_of;
-use crate::merges::{State, has_mark};
 use crate::thinning::without;
+use re_beams::{State, has_mark};
 use re_changes::Changed;
 use re_labels::{LabelSet, MAX_LABELS, NoMemory};
 use re_problem::Problem;

@@ -1,10 +1,8 @@
 //! The levels of the search for an upper bound.
-use crate::given::{Given, Told};
 use crate::losses::{after_loss, state_of};
-use crate::merges::State;
-use crate::pool::{Kept, Pool};
+use crate::steps::upper_step;
 use crate::thinning::{Thin, thin_to, thinned};
-use crate::upper_steps::upper_step;
+use re_beams::{Candidates, Given, Kept, State, Told};
 use re_cert::Step;
 use re_changes::Changed;
 use re_labels::{LabelSet, MAX_LABELS, NoMemory};
@@ -65,7 +63,7 @@ pub(crate) struct Wanted<'a> {
 struct Building<'a> {
     alloc: Global,
     wanted: Wanted<'a>,
-    pool: Pool,
+    candidates: Candidates,
     open: Vec<usize>,
     count: Count,
 }
@@ -116,7 +114,7 @@ impl<'a> Building<'a> {
     fn offer_all(&mut self, states: &[State], parent: usize) -> Result<(), NoMemory> {
         for state in states {
             if labels_of(state) <= self.wanted.most as usize {
-                self.pool.offer(state, parent)?;
+                self.candidates.offer(state, parent)?;
             }
         }
         Ok(())
@@ -128,7 +126,7 @@ impl<'a> Building<'a> {
             None => true,
             Some(state) => {
                 let left = labels_of(state).saturating_sub(1);
-                left < self.wanted.most as usize && !self.pool.is_open(left)
+                left < self.wanted.most as usize && !self.candidates.is_open(left)
             }
         }
     }
@@ -227,7 +225,8 @@ impl<'a> Building<'a> {
             }
         }
         let mut kept = Vec::new(self.alloc);
-        self.pool.choose(&mut kept, None, &Given::nothing(), 0)?;
+        self.candidates
+            .choose(&mut kept, None, &Given::nothing(), 0)?;
         let rung = Rung { kept, sets: all };
         match self.end_on(&rung)? {
             Some(end) => Ok(Reached::End(end)),
@@ -276,7 +275,7 @@ pub(crate) fn level_behind(
     let mut building = Building {
         alloc,
         wanted,
-        pool: Pool::new(alloc, WIDTH),
+        candidates: Candidates::new(alloc, WIDTH),
         open: Vec::new(alloc),
         count: *count,
     };

@@ -1,7 +1,6 @@
 //! The candidates of a level.
 use crate::given::Given;
-use crate::merges::State;
-use crate::spreads::{Spread, Trace};
+use crate::states::State;
 use re_labels::NoMemory;
 use re_problem::Problem;
 use std::alloc::Global;
@@ -12,12 +11,17 @@ const GROUPS: usize = 3;
 /// A problem on a level: the place in the beam before of the problem whose derived problem it was made of, the labels that those of the
 /// derived problem have become, the number that tells it from others, and its rank.
 #[derive(Drop)]
-pub(crate) struct Kept {
-    pub(crate) problem: Problem,
-    pub(crate) parent: usize,
-    pub(crate) images: Vec<Option<u8>>,
-    pub(crate) mark: u64,
-    pub(crate) rank: u64,
+pub struct Kept {
+    /// The problem.
+    pub problem: Problem,
+    /// The place of the one before.
+    pub parent: usize,
+    /// What each label of the derived problem has become, if anything.
+    pub images: Vec<Option<u8>>,
+    /// The number that tells it from others.
+    pub mark: u64,
+    /// The rank.
+    pub rank: u64,
 }
 
 // The candidates of one number of labels, at most so many, those of the least ranks first.
@@ -30,14 +34,14 @@ struct Group {
 
 /// The best candidates of the three greatest numbers of labels, the greatest first; at most so many stay.
 #[derive(Drop)]
-pub(crate) struct Pool {
+pub struct Candidates {
     alloc: Global,
     width: usize,
     groups: Vec<Group>,
 }
 
-/// The problem of the inner beam as a candidate.
-pub(crate) fn kept_of(alloc: Global, state: &State, parent: usize) -> Result<Kept, NoMemory> {
+// The problem of the inner beam as a candidate.
+fn kept_of(alloc: Global, state: &State, parent: usize) -> Result<Kept, NoMemory> {
     let problem = state.made.problem().copy()?;
     let images = Vec::from_slice(alloc, state.made.images())?;
     Ok(Kept {
@@ -47,6 +51,19 @@ pub(crate) fn kept_of(alloc: Global, state: &State, parent: usize) -> Result<Kep
         mark: state.mark,
         rank: state.rank,
     })
+}
+
+/// The first problem of a search as the one candidate of its level.
+pub fn first_kept(alloc: Global, problem: &Problem) -> Result<Vec<Kept>, NoMemory> {
+    let mut kept = Vec::new(alloc);
+    kept.push(Kept {
+        problem: problem.copy()?,
+        parent: 0,
+        images: Vec::new(alloc),
+        mark: 0,
+        rank: 0,
+    })?;
+    Ok(kept)
 }
 
 impl Group {
@@ -80,10 +97,10 @@ impl Group {
     }
 }
 
-impl Pool {
+impl Candidates {
     /// No candidates yet, and at most so many that stay.
-    pub(crate) fn new(alloc: Global, width: usize) -> Pool {
-        Pool {
+    pub fn new(alloc: Global, width: usize) -> Candidates {
+        Candidates {
             alloc,
             width,
             groups: Vec::new(alloc),
@@ -91,15 +108,15 @@ impl Pool {
     }
 
     /// Whether problems of so many labels may still count.
-    pub(crate) fn is_open(&self, labels: usize) -> bool {
+    pub fn is_open(&self, labels: usize) -> bool {
         match self.groups.as_slice().get(GROUPS - 1) {
             Some(group) => group.labels <= labels,
             None => true,
         }
     }
 
-    // Whether a candidate of so many labels, of this rank and this number would stay, and isn't there.
-    fn takes(&self, labels: usize, rank: u64, mark: u64) -> bool {
+    /// Whether a candidate of so many labels, of this rank and this number would stay, and isn't there.
+    pub fn takes(&self, labels: usize, rank: u64, mark: u64) -> bool {
         for group in self.groups.as_slice() {
             if group.labels == labels {
                 return group.takes(rank) && !group.has(mark);
@@ -108,8 +125,8 @@ impl Pool {
         self.is_open(labels)
     }
 
-    // Puts the candidate into its group, or into a new one.
-    fn put(&mut self, kept: Kept) -> Result<(), NoMemory> {
+    /// Puts the candidate, which it takes, into its group, or into a new one.
+    pub fn put(&mut self, kept: Kept) -> Result<(), NoMemory> {
         let labels = kept.problem.names().len();
         for group in self.groups.as_mut_slice() {
             if group.labels == labels {
@@ -129,7 +146,7 @@ impl Pool {
     }
 
     /// Offers the problem of the inner beam as a candidate.
-    pub(crate) fn offer(&mut self, state: &State, parent: usize) -> Result<(), NoMemory> {
+    pub fn offer(&mut self, state: &State, parent: usize) -> Result<(), NoMemory> {
         let labels = state.made.problem().names().len();
         if self.takes(labels, state.rank, state.mark) {
             let kept = kept_of(self.alloc, state, parent)?;
@@ -138,24 +155,9 @@ impl Pool {
         Ok(())
     }
 
-    /// Offers a problem of what merges make of a derived problem as a candidate.
-    pub(crate) fn offer_trace(
-        &mut self,
-        spread: &Spread,
-        trace: &Trace,
-        parent: usize,
-    ) -> Result<(), NoMemory> {
-        if self.takes(trace.labels, trace.rank, trace.mark) {
-            if let Some(kept) = spread.kept(self.alloc, trace, parent)? {
-                self.put(kept)?;
-            }
-        }
-        Ok(())
-    }
-
     /// Appends those that stay, without the one of this number if any, and without those that aren't told to be unsolvable behind so many
     /// steps.
-    pub(crate) fn choose(
+    pub fn choose(
         &mut self,
         beam: &mut Vec<Kept>,
         without: Option<u64>,

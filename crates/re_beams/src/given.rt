@@ -3,14 +3,13 @@ ghost use Rattle.re_given.specs.Inputs.{IsInput};
 ghost use Rattle.re_problem.specs.NamedProblems.{unnamed};
 
 use re_fit::{FitFault, find_fit, input_fault};
-use re_given_words::FEW_TRIES;
 use re_labels::{LabelSet, NoMemory};
 use re_problem::Problem;
 use std::alloc::Global;
 
 /// What is told of a problem that isn't solvable without communication.
 #[derive(Drop)]
-pub(crate) enum Told {
+pub enum Told {
     /// It is solvable in 0 rounds, by a set of its labels for each input label.
     Solvable(Vec<LabelSet>),
     /// It isn't.
@@ -19,16 +18,18 @@ pub(crate) enum Told {
     Unknown,
 }
 
-// An input problem of the problems behind an even number of steps, and the same with its sides exchanged, of those behind an odd number.
+// An input problem of the problems behind an even number of steps, and the same with its sides exchanged, of those behind an odd number; and
+// the tries by which is told what is solvable.
 #[derive(Drop)]
 struct Inputs {
     even: Problem,
     odd: Problem,
+    tries: u32,
 }
 
 /// What is given behind a search's first problem: nothing, or a solution of an input problem.
 #[derive(Drop)]
-pub(crate) struct Given {
+pub struct Given {
     inputs: Option<Inputs>,
 }
 
@@ -41,10 +42,10 @@ fn exchanged(problem: &Problem) -> Result<Option<Problem>, NoMemory> {
 }
 
 // What is told of the problem given the input problem.
-fn told_by(alloc: Global, problem: &Problem, input: &Problem) -> Result<Told, NoMemory>
+fn told_by(alloc: Global, problem: &Problem, input: &Problem, tries: u32) -> Result<Told, NoMemory>
     requires { IsInput (unnamed problem.now) (unnamed input.now) }
 {
-    match find_fit(alloc, problem, input, FEW_TRIES) {
+    match find_fit(alloc, problem, input, tries) {
         Ok(Some(sets)) => Ok(Told::Solvable(sets)),
         Ok(None) => Ok(Told::Unsolvable),
         Err(FitFault::TooManyTries) => Ok(Told::Unknown),
@@ -53,31 +54,38 @@ fn told_by(alloc: Global, problem: &Problem, input: &Problem) -> Result<Told, No
 }
 
 // The same where it may be no input problem.
-fn told_if(alloc: Global, problem: &Problem, input: &Problem) -> Result<Told, NoMemory> {
+fn told_if(
+    alloc: Global,
+    problem: &Problem,
+    input: &Problem,
+    tries: u32,
+) -> Result<Told, NoMemory> {
     match input_fault(problem, input) {
         Some(_) => Ok(Told::Unknown),
-        None => told_by(alloc, problem, input),
+        None => told_by(alloc, problem, input, tries),
     }
 }
 
 impl Given {
     /// Nothing.
-    pub(crate) fn nothing() -> Given {
+    pub fn nothing() -> Given {
         Given { inputs: None }
     }
 
-    /// A solution of the input problem of a chain's first problem, for a search behind so many steps.
-    pub(crate) fn input(input: &Problem, steps: usize) -> Result<Given, NoMemory> {
+    /// A solution of the input problem of a chain's first problem, for a search behind so many steps. What is solvable with it is told by at
+    /// most so many tries for each problem.
+    pub fn input(input: &Problem, steps: usize, tries: u32) -> Result<Given, NoMemory> {
         let even = input.copy()?;
         let Some(odd) = exchanged(input)? else {
             return Ok(Given::nothing());
         };
         let inputs = if steps % 2 == 0 {
-            Inputs { even, odd }
+            Inputs { even, odd, tries }
         } else {
             Inputs {
                 even: odd,
                 odd: even,
+                tries,
             }
         };
         Ok(Given {
@@ -86,24 +94,19 @@ impl Given {
     }
 
     /// What is told of the problem behind so many steps of the search, which isn't solvable without communication.
-    pub(crate) fn told(
-        &self,
-        alloc: Global,
-        problem: &Problem,
-        steps: usize,
-    ) -> Result<Told, NoMemory> {
+    pub fn told(&self, alloc: Global, problem: &Problem, steps: usize) -> Result<Told, NoMemory> {
         let Some(inputs) = &self.inputs else {
             return Ok(Told::Unsolvable);
         };
         if steps % 2 == 0 {
-            told_if(alloc, problem, &inputs.even)
+            told_if(alloc, problem, &inputs.even, inputs.tries)
         } else {
-            told_if(alloc, problem, &inputs.odd)
+            told_if(alloc, problem, &inputs.odd, inputs.tries)
         }
     }
 
     /// Whether it is told not to be solvable.
-    pub(crate) fn is_open(
+    pub fn is_open(
         &self,
         alloc: Global,
         problem: &Problem,

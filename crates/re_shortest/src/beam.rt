@@ -1,10 +1,7 @@
 //! The search for an upper bound from level to level.
-use crate::beam::next_size;
-use crate::given::Given;
-use crate::levels::first_level;
+use crate::levels::{Count, End, Reached, Rung, Wanted, level_behind, step_of};
 use crate::pairing::{Paired, beam_labels, pattern_path};
-use crate::pool::Kept;
-use crate::upper_levels::{Count, End, Reached, Rung, Wanted, level_behind, step_of};
+use re_beams::{Given, Kept, first_kept, next_size};
 use re_cert::Step;
 use re_labels::NoMemory;
 use re_problem::Problem;
@@ -87,7 +84,7 @@ pub(crate) fn shortest_path(
     levels: usize,
     labels: u8,
 ) -> Result<Climb, NoMemory> {
-    let first = first_level(alloc, problem)?;
+    let first = first_kept(alloc, problem)?;
     let mut climb = Climb {
         path: None,
         count: Count { nodes: 0, cut: 0 },
@@ -105,7 +102,7 @@ pub(crate) fn shortest_path(
         if size > widest || most == 0 {
             break;
         }
-        let kept = first.kept.as_slice();
+        let kept = first.as_slice();
         if let Some(path) = beam_path(alloc, given, kept, most, size, &mut climb.count)? {
             most = path.len().saturating_sub(1);
             climb.path = Some(path);

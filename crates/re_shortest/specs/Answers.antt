@@ -5,8 +5,8 @@ use Rattle.re_cert.specs.declared.certificate.Kind.TheVariants.{Upper}
 use Rattle.re_extend.specs.Extensions.{GoesOn}
 use Rattle.re_given_words.specs.Extensions.{GoesOnGiven}
 use Rattle.re_problem.specs.NamedProblems.{NamedProblem}
-use Rattle.re_longest.specs.declared.shortening.Shortest.{Shortest}
-use Rattle.re_longest.specs.declared.shortening.Shortest.TheVariants.{Found, NotFound}
+use Rattle.re_shortest.specs.declared.shortening.Shortest.{Shortest}
+use Rattle.re_shortest.specs.declared.shortening.Shortest.TheVariants.{Found, NotFound}
 
 -- the chain itself, which is an upper bound, where a configuration of its last problem shows that this is solvable without communication; else an upper
 -- bound that goes on from the chain, or none

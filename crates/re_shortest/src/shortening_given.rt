@@ -3,15 +3,15 @@ ghost use Rattle.re_cert.specs.declared.certificate.Kind.TheVariants.{Upper};
 ghost use Rattle.re_check.specs.Verdicts.{steps_fault};
 ghost use Rattle.re_given.specs.Inputs.{IsInput};
 ghost use Rattle.re_given_words.specs.Extensions.{GoesOnGiven};
-ghost use Rattle.re_longest.specs.UpperAnswers.{AnswersGiven};
+ghost use Rattle.re_shortest.specs.Answers.{AnswersGiven};
 ghost use Rattle.re_problem.specs.NamedProblems.{unnamed};
 ghost use Rattle.std.specs.Prelude.{◌≡◌, IfOk, IfSome, None};
 
-use crate::given::Given;
+use crate::beam::{Climb, shortest_path};
 use crate::shortening::{Shortest, upper_with};
-use crate::upper_beam::{Climb, shortest_path};
+use re_beams::Given;
 use re_cert::{Certificate, MAX_STEPS, Step};
-use re_given_words::extended_given;
+use re_given_words::{FEW_TRIES, extended_given};
 use re_labels::NoMemory;
 use re_problem::Problem;
 use std::alloc::Global;
@@ -57,7 +57,7 @@ fn searched(
 ) -> Result<Shortest, NoMemory>
     ensures { IfOk result (AnswersGiven input.now most labels chain.now) }
 {
-    let given = Given::input(input, chain.steps().len())?;
+    let given = Given::input(input, chain.steps().len(), FEW_TRIES)?;
     let room = MAX_STEPS.saturating_sub(chain.steps().len());
     let levels = room.min(most as usize);
     let Climb { path, count } = shortest_path(alloc, &given, chain.last(), levels, labels)?;

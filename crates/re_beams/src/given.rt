@@ -3,6 +3,7 @@ ghost use Rattle.re_given.specs.Inputs.{IsInput};
 ghost use Rattle.re_problem.specs.NamedProblems.{unnamed};
 
 use re_fit::{FitFault, find_fit, input_fault};
+use re_inputs::turned;
 use re_labels::{LabelSet, NoMemory};
 use re_problem::Problem;
 use std::alloc::Global;
@@ -31,14 +32,6 @@ struct Inputs {
 #[derive(Drop)]
 pub struct Given {
     inputs: Option<Inputs>,
-}
-
-// The problem with its sides exchanged.
-fn exchanged(problem: &Problem) -> Result<Option<Problem>, NoMemory> {
-    let active = problem.passive().copy()?;
-    let passive = problem.active().copy()?;
-    let names = problem.names().copy()?;
-    Ok(Problem::build(active, passive, names))
 }
 
 // What is told of the problem given the input problem.
@@ -74,11 +67,14 @@ impl Given {
 
     /// A solution of the input problem of a chain's first problem, for a search behind so many steps. What is solvable with it is told by at
     /// most so many tries for each problem.
-    pub fn input(input: &Problem, steps: usize, tries: u32) -> Result<Given, NoMemory> {
+    pub fn input(
+        alloc: Global,
+        input: &Problem,
+        steps: usize,
+        tries: u32,
+    ) -> Result<Given, NoMemory> {
         let even = input.copy()?;
-        let Some(odd) = exchanged(input)? else {
-            return Ok(Given::nothing());
-        };
+        let odd = turned(alloc, input)?;
         let inputs = if steps % 2 == 0 {
             Inputs { even, odd, tries }
         } else {

@@ -62,7 +62,7 @@ fn searched(
 ) -> Result<Option<Certificate>, NoMemory>
     ensures { IfOk result (λ found. IfSome found (GoesOnGiven input.now Lower steps labels chain.now)) }
 {
-    let given = Given::input(input, chain.steps().len(), FEW_TRIES)?;
+    let given = Given::input(alloc, input, chain.steps().len(), FEW_TRIES)?;
     let levels = levels_behind(chain, steps);
     let route = longest_route(alloc, &given, chain.last(), levels, labels)?;
     let least = route.stops.len();

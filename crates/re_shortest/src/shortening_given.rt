@@ -57,7 +57,7 @@ fn searched(
 ) -> Result<Shortest, NoMemory>
     ensures { IfOk result (AnswersGiven input.now most labels chain.now) }
 {
-    let given = Given::input(input, chain.steps().len(), FEW_TRIES)?;
+    let given = Given::input(alloc, input, chain.steps().len(), FEW_TRIES)?;
     let room = MAX_STEPS.saturating_sub(chain.steps().len());
     let levels = room.min(most as usize);
     let Climb { path, count } = shortest_path(alloc, &given, chain.last(), levels, labels)?;

@@ -20,7 +20,7 @@ use Rattle.re_table.specs.Constraints.{Constraint, IsConstraint}
 use Rattle.re_table.specs.GoodRows.{IsDominated, max_rows}
 use Rattle.re_universal.proofs.Keeping.{contains_either}
 use Rattle.re_describe.proofs.Covering.{Rows, SpellsFirst, all_first, chosen_alone, max_spells, spells_moved, taken_in}
-use Rattle.re_describe.specs.Spelling.{AreAlone, AreApart, AreGroups, AreSources, AreTaken, AreTops, Spells, TakesIn, overlap}
+use Rattle.re_describe.specs.Spelling.{AreAlone, AreApart, AreGroups, AreSources, AreTaken, AreTops, Spells, TakesIn, comparable}
 
 -- ---- the rows among which groups are
 pub max_sources : (constraint : Constraint) (n : ℕ) → IsConstraint n constraint → AreSources constraint n (max_rows constraint n)
@@ -76,7 +76,7 @@ alone_more constraint rows all row config alone held is more z at = elim (contai
 -- ---- the groups so far
 pub record TakenFirst (constraint : Constraint) (count : ℕ) (others rows : Rows) : Type 0 where
   pub first : SpellsFirst constraint count rows
-  pub distinct : IsDistinct overlap rows
+  pub distinct : IsDistinct comparable rows
   pub among : (row : List (List ℕ)) → Contains rows row → Contains others row
 
 pub none_taken : (constraint : Constraint) (others : Rows) → TakenFirst constraint 0 others []
@@ -91,20 +91,20 @@ all_last : (p : List (List ℕ) → Type 0) (xs : Rows) (y : List (List ℕ)) �
 all_last p [] y h last = (last, tt)
 all_last p (x ∷ xs) y h last = (h.0, all_last p xs y h.1 last)
 
-distinct_last : (xs : Rows) (y : List (List ℕ)) → IsDistinct overlap xs → ((x : List (List ℕ)) → Contains xs x → overlap x y ≡ false) → IsDistinct overlap (xs ++ y ∷ [])
+distinct_last : (xs : Rows) (y : List (List ℕ)) → IsDistinct comparable xs → ((x : List (List ℕ)) → Contains xs x → comparable x y ≡ false) → IsDistinct comparable (xs ++ y ∷ [])
 unfolding IsDistinct
 distinct_last [] y d apart = (tt, tt)
 distinct_last (x ∷ xs) y d apart =
-    (all_last (λ z. overlap x z ≡ false) xs y d.0 (apart x (Contains-here x xs)), distinct_last xs y d.1 (λ z held. apart z (Contains-later z x xs held)))
+    (all_last (λ z. comparable x z ≡ false) xs y d.0 (apart x (Contains-here x xs)), distinct_last xs y d.1 (λ z held. apart z (Contains-later z x xs held)))
 
 neither : (one other : Bool) → (one ≡ true → ⊥) → (other ≡ true → ⊥) → (one || other) ≡ false
 neither true other a b = absurd (a refl)
 neither false true a b = absurd (b refl)
 neither false false a b = refl
 
--- a row that dominates what none of the list does overlaps none of them
+-- a row that dominates what none of the list does is comparable with none of them
 fresh : (others old : Rows) (row top : List (List ℕ)) → AreApart others → ((z : List (List ℕ)) → Contains old z → Contains others z) → (IsDominated old row → ⊥) → Contains others top → Dominates top row
-    → (z : List (List ℕ)) → Contains old z → overlap z top ≡ false
+    → (z : List (List ℕ)) → Contains old z → comparable z top ≡ false
 fresh others old row top apart among none held over z at =
     let other : z ≡ top → ⊥ = λ same. none (z, at, subst (λ t. Dominates t row) (sym same) over) in
     neither (dominates z top) (dominates top z) (λ e. other (apart z top (among z at) held (dominates-Dominates z top e)))
@@ -115,10 +115,10 @@ pub taken_further : (constraint : Constraint) (place : ℕ) (others old new : Ro
 taken_further constraint place others old new row spells apart before is takes = go takes (taken_in constraint place others old new row spells before.first is takes)
   where
     go : TakesIn others old new row → SpellsFirst constraint (place + 1) new → TakenFirst constraint (place + 1) others new
-    go (inl (has, same)) first = record { first = first; distinct = subst (IsDistinct overlap) (sym same) before.distinct; among = λ z at. before.among z (subst (λ l. Contains l z) same at) }
+    go (inl (has, same)) first = record { first = first; distinct = subst (IsDistinct comparable) (sym same) before.distinct; among = λ z at. before.among z (subst (λ l. Contains l z) same at) }
     go (inr (none, (top, held, has, more))) first = record {
       first = first;
-      distinct = subst (IsDistinct overlap) (sym more) (distinct_last old top before.distinct (fresh others old row top apart before.among none held
+      distinct = subst (IsDistinct comparable) (sym more) (distinct_last old top before.distinct (fresh others old row top apart before.among none held
           (elim (Contains-cases has.0 top [] has.1) [ inl e ↦ subst (λ t. Dominates t row) e has.2 | inr nothing ↦ absurd (Contains-none has.0 nothing) ])));
       among = λ z at. elim (contains_either old top z (subst (λ l. Contains l z) more at)) [ inl earlier ↦ before.among z earlier | inr e ↦ subst (Contains others) (sym e) held ];
     }
@@ -127,8 +127,8 @@ pub all_taken : (constraint : Constraint) (count : ℕ) (others rows : Rows) →
 all_taken constraint count others rows taken whole = record { spells = all_first constraint count rows taken.first whole; distinct = taken.distinct; among = taken.among }
 
 -- ---- the groups
-overlap-flips : (x y : List (List ℕ)) → overlap x y ≡ overlap y x
-overlap-flips x y = go (dominates x y) (dominates y x)
+comparable-flips : (x y : List (List ℕ)) → comparable x y ≡ comparable y x
+comparable-flips x y = go (dominates x y) (dominates y x)
   where
     go : (a b : Bool) → (a || b) ≡ (b || a)
     go true true = refl
@@ -139,6 +139,6 @@ overlap-flips x y = go (dominates x y) (dominates y x)
 pub groups_told : (constraint : Constraint) (n : ℕ) (others few moved : Rows) → AreSources constraint n others → AreTaken constraint others few → IsPermutation few moved → AreGroups constraint n moved
 groups_told constraint n others few moved sources taken order = record {
   spells = spells_moved constraint few moved order taken.spells;
-  distinct = IsDistinct-IsPermutation overlap overlap-flips few moved order taken.distinct;
+  distinct = IsDistinct-IsPermutation comparable comparable-flips few moved order taken.distinct;
   tops = tops_among constraint n others moved (λ row held. taken.among row (moved_among few moved order row held)) sources.tops;
 }

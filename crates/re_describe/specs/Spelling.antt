@@ -26,8 +26,8 @@ abbrev pub AreApart : List (List (List ℕ)) → Type 0
 AreApart rows = (row other : List (List ℕ)) → Contains rows row → Contains rows other → Dominates row other → row ≡ other
 
 -- one of the two rows dominates the other
-abbrev pub overlap : List (List ℕ) → List (List ℕ) → Bool
-overlap row other = dominates row other || dominates other row
+abbrev pub comparable : List (List ℕ) → List (List ℕ) → Bool
+comparable row other = dominates row other || dominates other row
 
 -- the rows among which the groups of a constraint are: they spell it, they are maximal or configurations, and none dominates another one
 pub record AreSources (constraint : Constraint) (labels : ℕ) (rows : List (List (List ℕ))) : Type 0 where
@@ -38,14 +38,14 @@ pub record AreSources (constraint : Constraint) (labels : ℕ) (rows : List (Lis
 -- rows of the others that spell the constraint; none of them stands twice, or dominates another one
 pub record AreTaken (constraint : Constraint) (others rows : List (List (List ℕ))) : Type 0 where
   pub spells : Spells constraint rows
-  pub distinct : IsDistinct overlap rows
+  pub distinct : IsDistinct comparable rows
   pub among : (row : List (List ℕ)) → Contains rows row → Contains others row
 
 -- the groups of a constraint: rows that spell it, none of which stands twice or dominates another one; they are maximal, or configurations where there are
 -- too many maximal ones
 pub record AreGroups (constraint : Constraint) (labels : ℕ) (rows : List (List (List ℕ))) : Type 0 where
   pub spells : Spells constraint rows
-  pub distinct : IsDistinct overlap rows
+  pub distinct : IsDistinct comparable rows
   pub tops : AreTops constraint labels rows
 
 -- nothing exactly where there are too many configurations to list, and else the groups

@@ -54,22 +54,22 @@ fn stronger_sets(ups: &[LabelSet], labels: u8) -> ArrayVec<LabelSet, 128>
     stronger
 }
 
-// For each label below the number those whose sets have it.
-fn turned(sets: &[LabelSet], labels: u8) -> ArrayVec<LabelSet, 128>
+// For each label below the number those that are weaker: those whose sets of stronger labels have it.
+fn weaker_sets(stronger: &[LabelSet], labels: u8) -> ArrayVec<LabelSet, 128>
     requires { labels ≤ MAX_LABELS }
     ensures { length result.items ≤ labels }
 {
-    let mut turned = ArrayVec::new();
+    let mut weaker = ArrayVec::new();
     for label in 0..labels {
         let mut set = LabelSet::empty();
         for other in 0..labels {
-            if has_at(sets, other, label) {
+            if has_at(stronger, other, label) {
                 set = set.insert(other);
             }
         }
-        turned.push(set);
+        weaker.push(set);
     }
-    turned
+    weaker
 }
 
 // The strength of labels: for each the labels at least as strong, those that are stronger, and those that are weaker.
@@ -85,7 +85,7 @@ fn strength_of(problem: &Problem) -> Strength {
     let labels = problem.names().len() as u8;
     let ups = up_sets(problem.passive(), labels);
     let stronger = stronger_sets(ups.as_slice(), labels);
-    let weaker = turned(stronger.as_slice(), labels);
+    let weaker = weaker_sets(stronger.as_slice(), labels);
     Strength {
         ups,
         stronger,

@@ -226,15 +226,6 @@ fn searched(
     found_behind(alloc, chain, 4, walk)
 }
 
-// The same pairs.
-fn copied_pairs(alloc: Global, pairs: &[(u8, u8)]) -> Result<Vec<(u8, u8)>, NoMemory> {
-    let mut copied = Vec::new(alloc);
-    for pair in pairs {
-        copied.push(*pair)?;
-    }
-    Ok(copied)
-}
-
 // What the certificate has behind the chain.
 fn behind(alloc: Global, chain: &Certificate, found: &Certificate) -> Result<Extension, NoMemory>
     ensures { IfOk result (λ extension. extension.kind ≡ Fixed) }
@@ -247,7 +238,7 @@ fn behind(alloc: Global, chain: &Certificate, found: &Certificate) -> Result<Ext
         kind: Kind::Fixed,
         back: found.back(),
         steps,
-        renaming: copied_pairs(alloc, found.renaming())?,
+        renaming: Vec::from_slice(alloc, found.renaming())?,
     })
 }
 

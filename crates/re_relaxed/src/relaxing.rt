@@ -110,8 +110,8 @@ fn step_by(
     }
 }
 
-// The same where it is one.
-fn step_along(
+// The same where it is a relaxation.
+fn step_where_relaxed(
     alloc: Global,
     problem: &Problem,
     relaxed: &Problem,
@@ -137,7 +137,7 @@ pub(crate) fn relaxed_chain(
     let Some(map) = map_of(relaxed) else {
         return Ok(None);
     };
-    let Some(step) = step_along(alloc, chain.last(), relaxed.problem(), &map)? else {
+    let Some(step) = step_where_relaxed(alloc, chain.last(), relaxed.problem(), &map)? else {
         return Ok(None);
     };
     let mut steps = Vec::new(alloc);

@@ -83,13 +83,13 @@ fn back_within(
 }
 
 // The first step behind the others.
-fn turned(alloc: Global, steps: &[Step]) -> Result<Vec<Step>, NoMemory> {
+fn rotated(alloc: Global, steps: &[Step]) -> Result<Vec<Step>, NoMemory> {
     let [first, others @ ..] = steps else {
         return Ok(Vec::new(alloc));
     };
-    let mut turned = copied_steps(alloc, others)?;
-    turned.push(copied_step(alloc, first)?)?;
-    Ok(turned)
+    let mut rotated = copied_steps(alloc, others)?;
+    rotated.push(copied_step(alloc, first)?)?;
+    Ok(rotated)
 }
 
 // Each of so many labels with itself.
@@ -142,7 +142,7 @@ fn behind_step(
     let Some(longer) = relaxed_chain(alloc, chain, relaxed)? else {
         return Ok(Tried::Missing);
     };
-    let back = turned(alloc, round.steps())?;
+    let back = rotated(alloc, round.steps())?;
     closed_by(alloc, &longer, back)
 }
 

@@ -1,9 +1,10 @@
 //! The word, and what it answers.
-ghost use Rattle.re_describe.specs.DescribeWords.{IsReport, MayDescribe, describe_help, names_describe};
+ghost use Rattle.re_describe.specs.DescribeWords.{IsReportIn, MayDescribe, describe_help, describe_word_of};
 ghost use Rattle.re_frame.specs.Outcomes.{outcome_of};
 ghost use Rattle.re_io.specs.declared.read.TheConstants.{MAX_BYTES};
 ghost use Rattle.std.specs.Prelude.{◌≡◌, ◌≤◌, IfOk, length, map, string_bytes};
 
+use crate::latex::in_latex;
 use crate::report;
 use re_cert::Certificate;
 use re_chain_texts::read_bound;
@@ -12,17 +13,36 @@ use re_labels::NoMemory;
 use re_problem::TextFault;
 use std::alloc::Global;
 
-/// The word `describe`. It reads a certificate or a problem as a whole, and takes the time of `crate::report`.
+/// The word `describe`, by the form of the report. It reads a certificate or a problem as a whole, and takes the time of `crate::report`.
 #[derive(Clone, Copy, Debug, PartialEq, Eq)]
-pub struct Describe;
+pub enum DescribeWord {
+    /// In Markdown.
+    Markdown,
+    /// In LaTeX, a part of a document.
+    Latex,
+}
 
-/// Whether the words are this word.
-pub fn names_describe(words: &[String]) -> bool
-    ensures { result ≡ names_describe (map string_bytes words.now) }
+/// The word that the words are.
+#[tactic(auto, unfolding(crate::specs::DescribeWords::describe_word_of))]
+pub fn describe_word(words: &[String]) -> Option<DescribeWord>
+    ensures { result ≡ describe_word_of (map string_bytes words.now) }
 {
     match words {
-        [word] => "describe" == word.as_str(),
-        _ => false,
+        [word] => {
+            if "describe" == word.as_str() {
+                Some(DescribeWord::Markdown)
+            } else {
+                None
+            }
+        }
+        [word, form] => {
+            if "describe" == word.as_str() && "latex" == form.as_str() {
+                Some(DescribeWord::Latex)
+            } else {
+                None
+            }
+        }
+        _ => None,
     }
 }
 
@@ -31,40 +51,48 @@ pub fn names_describe(words: &[String]) -> bool
 pub fn describe_help() -> &'static str
     ensures { result.now ≡ describe_help }
 {
-    "describe: reads a certificate or a problem, gives a report on it in Markdown\n"
+    "describe, describe latex: reads a certificate or a problem, gives a report on it in Markdown, or in LaTeX\n"
 }
 
-// The report on the certificate.
-fn reported(alloc: Global, certificate: &Certificate) -> Result<Output, NoMemory>
-    ensures { IfOk result (λ output. IsReport certificate.now (outcome_of output)) }
+// The report on the certificate, in this form.
+fn reported(
+    alloc: Global,
+    certificate: &Certificate,
+    word: DescribeWord,
+) -> Result<Output, NoMemory>
+    ensures { IfOk result (λ output. IsReportIn word certificate.now (outcome_of output)) }
 {
-    Ok(done(report(alloc, certificate)?))
+    let text = report(alloc, certificate)?;
+    match word {
+        DescribeWord::Markdown => Ok(done(text)),
+        DescribeWord::Latex => Ok(done(in_latex(alloc, text.as_slice())?)),
+    }
 }
 
 // What the word gives to a text.
 #[tactic(auto, unfolding(crate::specs::DescribeWords::MayDescribe))]
-fn text_output(alloc: Global, text: &[u8]) -> Result<Output, NoMemory>
+fn text_output(alloc: Global, word: DescribeWord, text: &[u8]) -> Result<Output, NoMemory>
     requires { length text.now ≤ MAX_BYTES }
-    ensures { IfOk result (λ output. MayDescribe text.now (outcome_of output)) }
+    ensures { IfOk result (λ output. MayDescribe word text.now (outcome_of output)) }
 {
     match read_bound(alloc, text) {
-        Ok(certificate) => reported(alloc, &certificate),
+        Ok(certificate) => reported(alloc, &certificate, word),
         Err(TextFault::Bad(fault)) => Ok(fault_output(alloc, fault)?),
         Err(TextFault::NoMemory) => Err(NoMemory),
     }
 }
 
-impl Finding for Describe {
+impl Finding for DescribeWord {
     ghost use Rattle.re_describe.specs.DescribeWords.{MayDescribe};
     ghost use Rattle.std.specs.Prelude.{false};
 
     ghost fits = { λ _. Unit {0} };
 
-    ghost may = { λ _. MayDescribe };
+    ghost may = { MayDescribe };
 
     ghost judging = { λ _. false };
 
     fn find(&self, alloc: Global, text: Vec<u8>) -> Result<Output, NoMemory> {
-        text_output(alloc, text.as_slice())
+        text_output(alloc, *self, text.as_slice())
     }
 }

@@ -1,10 +1,11 @@
-//! A report on a certificate, in Markdown: what `check` says of it, in words too, its problems in few rows, and what the labels of its
+//! A report on a certificate, in Markdown or in LaTeX: what `check` says of it, in words too, its problems in few rows, and what the labels of its
 //! steps stand for; and the word `describe`.
 #![tactic(auto)]
 
 mod answering;
 mod condensing;
 mod heads;
+mod latex;
 mod marks;
 mod meanings;
 mod pieces;
@@ -14,7 +15,7 @@ mod steps;
 
 ghost use Rattle.re_describe.specs.GraphRounds.{GraphLaw};
 
-pub use answering::{Describe, describe_help, names_describe};
+pub use answering::{DescribeWord, describe_help, describe_word};
 pub use condensing::{MOST_LISTED, condensed};
 pub use meanings::{Meaning, meaning_of};
 pub use reporting::report;

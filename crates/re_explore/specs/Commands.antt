@@ -8,7 +8,7 @@ use Rattle.re_chain_words.specs.Answers.{MayGive as MayGiveChain, is_judging as 
 use Rattle.re_chain_words.specs.ChainWords.{chain_help, chain_word_of}
 use Rattle.re_closure.specs.ClosureWords.{closure_help, closure_word_of}
 use Rattle.re_closure.specs.GivenClosures.{MayGiveText as MayGiveClosure}
-use Rattle.re_describe.specs.DescribeWords.{MayDescribe, describe_help, names_describe}
+use Rattle.re_describe.specs.DescribeWords.{MayDescribe, describe_help, describe_word_of}
 use Rattle.re_frame.specs.Answers.{MayAnswer}
 use Rattle.re_given_words.specs.Answers.{MayGive as MayGiveGiven}
 use Rattle.re_given_words.specs.Words.{IsGivenWord, given_help, given_word_of}
@@ -43,7 +43,7 @@ command_over_chains words =
 
 -- the command that tells of a certificate
 abbrev pub command_over_certificates : List (List ℕ) → Option Command
-command_over_certificates words = if names_why words then Some Explains else if names_describe words then Some Describes else None
+command_over_certificates words = if names_why words then Some Explains else option_map Describes (describe_word_of words)
 
 -- the command that tells of a problem, alone or beside an input problem or a graph
 abbrev pub command_over_problems : List (List ℕ) → Option Command
@@ -69,7 +69,7 @@ Fits Explains = Unit {0}
 Fits (Closes word) = Unit {0}
 Fits (Relaxes word) = Unit {0}
 Fits (Bridges word) = Unit {0}
-Fits Describes = Unit {0}
+Fits (Describes word) = Unit {0}
 
 -- the lines of help of the words over chains and certificates
 unfoldable pub chain_lines : List ℕ
@@ -101,7 +101,7 @@ IsOutcome (Some (Searches word)) bytes outcome = MayAnswer (MayGiveSearched word
 IsOutcome (Some (Closes word)) bytes outcome = MayAnswer (MayGiveClosure word) bytes outcome
 IsOutcome (Some (Relaxes word)) bytes outcome = MayAnswer (MayGiveRelaxed word) bytes outcome
 IsOutcome (Some (Bridges word)) bytes outcome = MayAnswer (MayGiveBridge word) bytes outcome
-IsOutcome (Some Describes) bytes outcome = MayAnswer MayDescribe bytes outcome
+IsOutcome (Some (Describes word)) bytes outcome = MayAnswer (MayDescribe word) bytes outcome
 IsOutcome (Some (Graphs word)) bytes outcome = MayAnswer (MayGiveGraph word) bytes outcome
 IsOutcome (Some (Givens word)) bytes outcome = MayAnswer (MayGiveGiven word) bytes outcome
 IsOutcome (Some (Inputs word)) bytes outcome = outcome ≡ input_outcome word
@@ -115,7 +115,7 @@ is_reading (Some (Searches word)) = true
 is_reading (Some (Closes word)) = true
 is_reading (Some (Relaxes word)) = true
 is_reading (Some (Bridges word)) = true
-is_reading (Some Describes) = true
+is_reading (Some (Describes word)) = true
 is_reading (Some (Graphs word)) = true
 is_reading (Some (Givens word)) = true
 is_reading (Some (Settles word)) = true
@@ -135,6 +135,6 @@ is_judging (Some (Graphs word)) = true
 is_judging (Some (Givens word)) = true
 is_judging (Some (Settles word)) = true
 is_judging (Some (Inputs word)) = false
-is_judging (Some Describes) = false
+is_judging (Some (Describes word)) = false
 is_judging (Some Help) = false
 is_judging None = false

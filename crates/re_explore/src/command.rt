@@ -6,7 +6,7 @@ ghost use Rattle.std.specs.Prelude.{◌≡◌, ◌++◌, IfOk, IfSome, OnOk, map
 use re_bridge_words::{BridgeWord, bridge_help, bridge_word};
 use re_chain_words::{ChainWord, chain_help, chain_word};
 use re_closure::{ClosureWord, closure_help, closure_word};
-use re_describe::{describe_help, names_describe};
+use re_describe::{DescribeWord, describe_help, describe_word};
 use re_frame::{Answer, Output, begun, done, push_words};
 use re_given_words::{GivenWord, given_help, given_word};
 use re_graph_words::{GraphWord, graph_help, graph_word};
@@ -35,7 +35,7 @@ pub(crate) enum Command {
     /// A step to a given problem, or a problem with fewer labels.
     Bridges(BridgeWord),
     /// A report on a certificate.
-    Describes,
+    Describes(DescribeWord),
     /// How many rounds a problem takes, alone or given an input problem.
     Settles(SettleWord),
     /// A problem on finite graphs.
@@ -84,12 +84,12 @@ fn command_over_certificates(words: &[String]) -> Option<Command>
     ensures fits { IfSome result Fits }
 {
     if names_why(words) {
-        Some(Command::Explains)
-    } else if names_describe(words) {
-        Some(Command::Describes)
-    } else {
-        None
+        return Some(Command::Explains);
     }
+    if let Some(word) = describe_word(words) {
+        return Some(Command::Describes(word));
+    }
+    None
 }
 
 // The command that tells of a problem, alone or beside an input problem or a graph.

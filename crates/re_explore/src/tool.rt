@@ -9,7 +9,6 @@ ghost use Rattle.re_frame.specs.Outcomes.{IsAnswer, Outcome, outcome_of, status_
 ghost use Rattle.re_frame.specs.Runs.{Answers, StopsWithin, TakesInput};
 
 use crate::command::{Command, bad_words, command_from, help};
-use re_describe::Describe;
 use re_frame::{Output, Status, Stop, answer_input, find_input, put_output};
 use re_inputs::input_output;
 use re_io::{MAX_BYTES, Sink, Source};
@@ -39,7 +38,7 @@ fn output_from<S: Source>(alloc: Global, words: &[String], source: &mut S) -> Re
         Some(Command::Closes(word)) => find_input(alloc, &word, source),
         Some(Command::Relaxes(word)) => find_input(alloc, &word, source),
         Some(Command::Bridges(word)) => find_input(alloc, &word, source),
-        Some(Command::Describes) => find_input(alloc, &Describe, source),
+        Some(Command::Describes(word)) => find_input(alloc, &word, source),
         Some(Command::Graphs(word)) => find_input(alloc, &word, source),
         Some(Command::Givens(word)) => find_input(alloc, &word, source),
         Some(Command::Inputs(word)) => Ok(input_output(alloc, word)?),

@@ -1,0 +1,7 @@
+use Rattle.std.proofs.lemmas.Result.{IfOk-weaker}
+use Rattle.re_frame.specs.Outcomes.{outcome_of}
+use Rattle.re_describe.proofs.Saying.{describe_says}
+use Rattle.re_describe.proofs.answering.DescribeWordFinding.find.Goals as goal
+
+pub returns-clause-says : goal.returns-clause-says
+returns-clause-says c = IfOk-weaker c.text_output.result _ _ (λ output may. describe_says _ _ (outcome_of output) may) c.text_output.ensures

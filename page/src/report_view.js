@@ -1,7 +1,7 @@
 // The report of `explore describe` on the chain that is shown, beside the cards; and all of it on paper.
 import {lineText} from './claims.js';
 import {$, button, code, copy, download, element, faulty, hint, intoView, replace} from './dom.js';
-import {blocksOfReport, latexOfReport, partsOfText} from './reports.js';
+import {blocksOfReport, partsOfText} from './reports.js';
 import {fileNameOf} from './texts.js';
 import {titleOf} from './chains.js';
 
@@ -10,14 +10,15 @@ const MOST_BLOCKS = 1500;
 
 export class ReportView {
     constructor(workbench) {
-        Object.assign(this, {workbench, isOpen: false, text: ''});
+        Object.assign(this, {workbench, isOpen: false, text: '', latex: ''});
         this.content = element('div.paper', {tabIndex: 0, role: 'group', 'aria-label': 'the report'});
         const give = run => event => {
             if (this.text) run(event.currentTarget);
         };
+        this.latexButton = button('Copy LaTeX', give(from => copy(this.latex + this.givenLatex, from)), {disabled: true});
         replace($('#report-box'),
             element('header.group', {}, element('h2', {}, 'Report'), button('Copy Markdown', give(from => copy(this.whole, from))),
-                button('Copy LaTeX', give(from => copy(latexOfReport(this.whole), from))),
+                this.latexButton,
                 button('Download', give(() => download(`${fileNameOf(titleOf(this.path[0]))}.md`, this.whole, 'text/markdown'))),
                 button('Print', () => this.print(), {title: 'the chain, its diagrams, the claim and this report on paper (Ctrl+P)'}),
                 button('×', () => this.open(false), {class: 'quiet close', 'aria-label': 'close the report'})),
@@ -49,11 +50,13 @@ export class ReportView {
         if (!path?.length && this.isOpen) this.open(false);
         if (!this.isOpen || !path?.length) return;
         const turn = this.turn = {}, {claim, engine} = this.workbench;
-        this.text = '';
+        this.text = this.latex = '';
+        this.latexButton.disabled = true;
         replace(this.content, hint(verdict ? 'asking…' : 'The chain is not judged yet.'));
         if (!verdict) return;
-        const job = engine.start('explore', ['describe'], verdict.certificate || path[0].problem, {title: 'describe'});
-        const answer = await claim.forThis(job).catch(error => ({status: 1, text: error.message}));
+        const ask = words => claim.forThis(engine.start('explore', words, verdict.certificate || path[0].problem, {title: 'describe'}))
+                                .catch(error => ({status: 1, text: error.message}));
+        const answer = await ask(['describe']);
         if (turn !== this.turn) return;
         if (answer.status !== 0) {
             replace(this.content, faulty(answer.text.trim()));
@@ -61,6 +64,10 @@ export class ReportView {
         }
         this.text = answer.text;
         this.draw();
+        const latex = await ask(['describe', 'latex']);
+        if (turn !== this.turn || latex.status !== 0) return;
+        this.latex = latex.text;
+        this.latexButton.disabled = false;
     }
 
     // What is given, and the line of `explore given`, as the last part of the report.
@@ -71,6 +78,16 @@ export class ReportView {
         const said = given.said ? `\n\nWhat \`explore given\` says of the bound with that input:\n\n${code(given.said)}` : '';
         return `\n## What is given\n\nThe nodes know a solution of this problem (${given.nameOf(input)}):\n\n${code(input.problem)}${
             said}\n`;
+    }
+
+    // The same for a paper.
+    get givenLatex() {
+        const {given} = this.workbench, input = this.path && given.of(this.path);
+        if (!input) return '';
+        const code = text => `\\begin{verbatim}\n${text.trim()}\n\\end{verbatim}\n`;
+        const said = given.said ? `\nWhat \\texttt{explore given} says of the bound with that input:\n\n${code(given.said)}` : '';
+        return `\n\\subsection*{What is given}\n\nThe nodes know a solution of this problem (${given.nameOf(input)}):\n\n${
+            code(input.problem)}${said}`;
     }
 
     get whole() { return this.text + this.givenPart; }

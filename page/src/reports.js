@@ -1,4 +1,4 @@
-// The report of `explore describe`: its Markdown cut into blocks, and written for LaTeX.
+// The report of `explore describe`: its Markdown cut into blocks.
 
 // What a bound says of rounds of the graph, out of a report; null where it says nothing of them.
 export const roundsOfGraph = report =>
@@ -36,33 +36,4 @@ export function partsOfText(text) {
         if (/^`.+`$/s.test(part)) return {kind: 'code', text: part.slice(1, -1)};
         return /^\*\*.+\*\*$/s.test(part) ? {kind: 'bold', text: part.slice(2, -2)} : {kind: 'plain', text: part};
     });
-}
-
-const ESCAPES = {
-    '\\': '\\textbackslash{}',
-    '^': '\\textasciicircum{}',
-    '~': '\\textasciitilde{}',
-    '<': '\\textless{}',
-    '>': '\\textgreater{}'
-};
-const escaped = text => text.replace(/[\\^~<>#$%&_{}]/g, c => ESCAPES[c] || `\\${c}`);
-const PART_LATEX = {
-    code: text => `\\texttt{${text}}`,
-    bold: text => `\\textbf{${text}}`,
-    plain: text => text
-};
-const latexOfText = text => partsOfText(text).map(part => PART_LATEX[part.kind](escaped(part.text))).join('');
-
-// The report for a paper's appendix.
-export function latexOfReport(markdown) {
-    return blocksOfReport(markdown)
-               .map(block => {
-                   if (block.kind === 'heading') return `\\${block.level === 1 ? 'section' : 'subsection'}*{${latexOfText(block.text)}}`;
-                   if (block.kind === 'code') return `\\begin{verbatim}\n${block.text}\n\\end{verbatim}`;
-                   if (block.kind === 'list')
-                       return `\\begin{itemize}\n${block.items.map(item => `\\item ${latexOfText(item)}`).join('\n')}\n\\end{itemize}`;
-                   return latexOfText(block.text);
-               })
-               .join('\n\n') +
-        '\n';
 }

@@ -9,7 +9,7 @@ import {catalogueLine, namedForCatalogue, tableName} from '../src/catalogue.js';
 import {graphInput, graphPlaces, isGraphText, readGraph, readSolution} from '../src/graphs.js';
 import {inputCommand, raisedInput, readFit, readGiven, withoutInput} from '../src/inputs.js';
 import {findRelaxation, findRenaming} from '../src/maps.js';
-import {blocksOfReport, latexOfReport, partsOfText, roundsOfGraph} from '../src/reports.js';
+import {blocksOfReport, partsOfText, roundsOfGraph} from '../src/reports.js';
 import {commandsIn, leavesQuestion, nameLabels, readSettled} from '../src/settled.js';
 import {clauseFault} from '../src/certificates.js';
 import {inWords, modelOf} from '../src/claims.js';
@@ -247,13 +247,9 @@ await about('reports', () => {
         const report = natively('explore', ['describe'], example(name)).text, blocks = blocksOfReport(report),
               words = text => text.replace(/[#`*\s-]/g, '');
         is(`${name}: all of it`, words(blocks.map(block => block.text ?? block.items.join('\n')).join('\n')), words(report));
-        is(`${name}: LaTeX is closed`, (latexOfReport(report).match(/\\begin/g) || []).length,
-            (latexOfReport(report).match(/\\end/g) || []).length);
     }
     is('parts', partsOfText('a `b^2` **c**'),
         [{kind: 'plain', text: 'a '}, {kind: 'code', text: 'b^2'}, {kind: 'plain', text: ' '}, {kind: 'bold', text: 'c'}]);
-    is('signs for LaTeX', latexOfReport('`A^2 <A,B>` & 50%\n'),
-        '\\texttt{A\\textasciicircum{}2 \\textless{}A,B\\textgreater{}} \\& 50\\%\n');
     is('rounds of the graph', roundsOfGraph(natively('explore', ['describe'], example('sinkless-fixed.txt')).text),
         `Problem 0 isn't solvable in any number of rounds of the graph.`);
     is('none of a hypergraph', roundsOfGraph(natively('explore', ['describe'], example('gallery/weak-splitting-3.txt')).text), null);

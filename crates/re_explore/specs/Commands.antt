@@ -79,9 +79,9 @@ chain_lines = chain_help ++ why_help ++ search_help ++ closure_help ++ relaxed_h
 unfoldable pub problem_lines : List ℕ
 problem_lines = settle_help ++ graph_help ++ given_help ++ input_help
 
--- and those of the words of `re`, a block of its own
+-- and those of the words of `re`, a block of its own, and a hint
 unfoldable pub lines_of_re : List ℕ
-lines_of_re = codes "\nre check: reads a certificate, gives the verdict on it\nre zero: reads a problem, gives whether it is solvable without communication\nre rounds K: reads a problem, gives its number of rounds, up to K\nre lower K M, re upper K M, re fixed K M: reads a problem, gives a certificate with at most K steps, with at most M labels merged or left out in each\nre read: reads a problem, gives its canonical text\nre step N: reads a problem, gives the N-th derived problem\nre universal: reads a problem, gives the maximal rows of its passive side\nre diagram active, re diagram passive: reads a problem, gives the strength diagram of this side\nre merge, re trim: reads a problem, gives it with equal labels merged, or without covered labels\nre relax, re restrict, re rename: reads two problems and a map between them, gives whether it leads from the one to the other\nre extract: reads the certificate of an upper bound, gives its algorithm as a table\nre run: reads the certificate of an upper bound, a tree and deliveries, gives what the nodes output\nre table, re faster, re slower: reads a table, gives whether it solves its problem, or one with a round less or more\nre family NAME A P N, re make N: reads nothing, gives a problem of a family, or the verdict on one step from a colouring\n"
+lines_of_re = codes "\nre check: reads a certificate, gives the verdict on it\nre zero: reads a problem, gives whether it is solvable without communication\nre rounds K: reads a problem, gives its number of rounds, up to K\nre lower K M, re upper K M, re fixed K M: reads a problem, gives a certificate with at most K steps, with at most M labels merged or left out in each\nre read: reads a problem, gives its canonical text\nre step N: reads a problem, gives the N-th derived problem\nre universal: reads a problem, gives the maximal rows of its passive side\nre diagram active, re diagram passive: reads a problem, gives the strength diagram of this side\nre merge, re trim: reads a problem, gives it with equal labels merged, or without covered labels\nre relax, re restrict, re rename: reads two problems and a map between them, gives whether it leads from the one to the other\nre extract: reads the certificate of an upper bound, gives its algorithm as a table\nre run: reads the certificate of an upper bound, a tree and deliveries, gives what the nodes output\nre table, re faster, re slower: reads a table, gives whether it solves its problem, or one with a round less or more\nre family NAME A P N, re make N: reads nothing, gives a problem of a family, or the verdict on one step from a colouring\n\nA label that stands on one side of a problem alone is in no solution: look for a typo\n"
 
 -- all lines of help
 unfoldable pub help_text : List ℕ

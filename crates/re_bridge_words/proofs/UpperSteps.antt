@@ -1,6 +1,6 @@
 -- An upper step with sets fits the problems on both sides, and meets its clauses.
-use Rattle.std.proofs.Common.{◌≡◌, ℕ, ◌<◌, ◌≤◌, ◌+◌, eqb, true, false, List, [], ◌∷◌, ◌++◌, length, map, get_or, None, Some, refl, sym, ap, ◌∙◌, subst, arith}
-use Rattle.std.specs.Prelude.{Contains, if◌then◌else◌}
+use Rattle.std.proofs.Common.{◌≡◌, ℕ, ◌<◌, ◌≤◌, ◌+◌, eqb, true, false, List, [], ◌∷◌, ◌++◌, length, map, get_or, None, refl, sym, ap, ◌∙◌, subst, arith}
+use Rattle.std.specs.Prelude.{Contains}
 use Rattle.std.specs.List.{AllByRecursion, list_all}
 use Rattle.std.proofs.lemmas.List.{get_or_default}
 use Rattle.re_labels.proofs.Membership.{AllByRecursion-contains, Contains-map, In-Contains, all-In_from, count_from_range, length-count_from, length-map'}
@@ -13,16 +13,14 @@ use Rattle.re_problem.proofs.Building.{below_all}
 use Rattle.re_problem.specs.NamedProblems.{IsNamedProblem, NamedProblem, unnamed}
 use Rattle.re_problem.specs.Steps.LowerMap.{by_set}
 use Rattle.re_problem.specs.Steps.{IsUpperStep, SetEntry, entry_sets}
-use Rattle.re_cert.specs.Bounds.{Bound, BoundStep, entry_fits, is_label, last_problem, step_fits}
+use Rattle.re_cert.specs.Bounds.{Bound, BoundStep, entry_fits, is_label, step_fits}
 use Rattle.re_cert.specs.declared.certificate.Kind.TheVariants.{Upper}
-use Rattle.re_chain_parts.specs.Chains.{IsSoundChain, chain_with}
+use Rattle.re_chain_parts.specs.Chains.{chain_with}
 use Rattle.re_clauses.specs.Clauses.{are_exchanged, step_fault}
 use Rattle.re_clauses.specs.Laws.{UpperStepLaw}
 use Rattle.re_changes.proofs.Counted.{pushed}
-use Rattle.re_fit.specs.Fits.{IsFound, entries_of, fit_walk}
-use Rattle.re_given.specs.Inputs.{exchanged}
-use Rattle.re_walks.specs.Walking.{Walk, nowhere}
-use Rattle.re_bridge_words.specs.Bridged.{IsUpperBridged, upper_bridged, upper_step, upper_walk}
+use Rattle.re_fit.specs.Fits.{entries_of}
+use Rattle.re_bridge_words.specs.Bridged.{upper_bridged, upper_step}
 
 rising-sets : (n : ℕ) (sets : List (List ℕ)) → AllByRecursion (λ s. IsLabelSet n s × (0 < length s)) sets → AllByRecursion (IsRising (λ x y. x < y)) sets
 rising-sets n [] all = tt
@@ -65,23 +63,6 @@ held-chain bound held next entries sets e f = (λ i. chain_with Upper bound.firs
 -- ---- the walk
 pub degrees : (before next : NamedProblem) → are_exchanged before next ≡ true → (next.active.degree ≡ before.passive.degree) × (next.passive.degree ≡ before.active.degree)
 degrees before next e = let both = and-true (eqb next.active.degree before.passive.degree) (eqb next.passive.degree before.active.degree) e in (eqb-true next.active.degree before.passive.degree both.0, eqb-true next.passive.degree before.active.degree both.1)
-
-pub found-upper : (bound longer : Bound) (last next : NamedProblem) (tries : ℕ) (sets : List (List ℕ)) → last ≡ last_problem bound → are_exchanged last next ≡ true → IsFound (unnamed last) (exchanged (unnamed next)) tries (Some sets)
-    → longer ≡ upper_bridged bound next sets → IsSoundChain longer → IsUpperBridged bound next tries (Some longer)
-found-upper bound longer last next tries sets last_is same (labels, walked, are) made sound = (
-  labels,
-  ap (λ p. upper_walk p next tries) (sym last_is) ∙ ap (λ b. if b then fit_walk (unnamed last) (exchanged (unnamed next)) tries else nowhere) same ∙ walked,
-  made ∙ ap (upper_bridged bound next) are,
-  sound,
-)
-
-pub no-upper : (bound : Bound) (last next : NamedProblem) (tries : ℕ) (w : Walk) → last ≡ last_problem bound → are_exchanged last next ≡ true → fit_walk (unnamed last) (exchanged (unnamed next)) tries ≡ w → upper_walk (last_problem bound) next tries ≡ w
-no-upper bound last next tries w last_is same walked =
-    ap (λ p. upper_walk p next tries) (sym last_is) ∙ ap (λ b. if b then fit_walk (unnamed last) (exchanged (unnamed next)) tries else nowhere) same ∙ walked
-
-pub not-exchanged : (bound : Bound) (last next : NamedProblem) (tries : ℕ) → last ≡ last_problem bound → are_exchanged last next ≡ false → upper_walk (last_problem bound) next tries ≡ nowhere
-not-exchanged bound last next tries last_is other =
-    ap (λ p. upper_walk p next tries) (sym last_is) ∙ ap (λ b. if b then fit_walk (unnamed last) (exchanged (unnamed next)) tries else nowhere) other
 
 -- ---- the sets that are found
 pub leads : (before last next : NamedProblem) (given sets : List (List ℕ)) → last ≡ before → given ≡ sets → IsUpperStep (unnamed last) (unnamed next) (entries_of sets) → IsUpperStep (unnamed before) (unnamed next) (entries_of given)

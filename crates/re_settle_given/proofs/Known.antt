@@ -32,7 +32,6 @@ use Rattle.re_settle.specs.declared.types.Way.TheVariants.{Closure, Cycle, Longe
 use Rattle.re_settle_given.specs.Answers.{IsUntold}
 use Rattle.re_settle_given.specs.Claims.{HoldsGiven}
 use Rattle.re_settle_given.specs.Ways.{HasGivenText, IsKnownGiven}
-use Rattle.re_step.specs.declared.derivation.StepLimit.{StepLimit}
 use Rattle.re_walks.specs.Walking.{cut}
 
 -- ---- what is counted
@@ -80,10 +79,6 @@ module _ (problem input copy : NamedProblem) (given : Option NamedProblem) (same
 -- what 0 rounds are told to be
 pub at_once : (problem : Problem) (input : Option Problem) (rounds : ℕ) → IsCounted problem input 0 (counted.Exactly rounds) → IsCounted problem input 8 (counted.Exactly rounds)
 at_once problem input rounds (low, there, few, passed) = (omega (arith, low), there, few, passed)
-
--- no step is taken
-pub none_passed : (problem : Problem) (input : Option Problem) (rounds : ℕ) (limit : StepLimit) → IsCounted problem input 0 (counted.Passed rounds limit) → ⊥
-none_passed problem input rounds limit (low, at, few, passed) = omega (arith, low)
 
 pub untold_at_once : (problem input : Problem) (rounds : ℕ) → IsCounted problem (Some input) 0 (counted.Tried rounds) → walk_after problem input 0 ≡ cut
 untold_at_once problem input rounds (low, untold, few, passed) = let none : rounds ≡ 0 = omega (arith, low) in subst (λ k. walk_after problem input k ≡ cut) none untold

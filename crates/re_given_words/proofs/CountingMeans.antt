@@ -1,21 +1,18 @@
 -- What is counted, and what it means for algorithms.
-use Rattle.std.proofs.Common.{◌≡◌, ℕ, zero, suc, ◌+◌, ◌<◌, List, ◌⊎◌, inl, inr, sym, ap, ◌∙◌, subst, arith, Option, None, Some}
+use Rattle.std.proofs.Common.{◌≡◌, ℕ, zero, suc, ◌+◌, ◌<◌, List, ◌⊎◌, inl, inr, sym, subst, arith, Option, None, Some}
 use Rattle.std.specs.Prelude.{option_map}
 use Rattle.re_fit.proofs.Told.{fit_walk_law}
 use Rattle.re_fit.specs.Laws.{TellsGiven}
 use Rattle.re_given.proofs.ChainGiven.{SolvableGiven-rounds}
-use Rattle.re_given.proofs.FastGiven.{IsInput-derived}
+use Rattle.re_given.proofs.RelativeGiven.{IsInput-derived_by}
 use Rattle.re_given.specs.Given.{ZeroGiven}
 use Rattle.re_given.specs.Inputs.{IsInput, exchanged_by}
 use Rattle.re_labels.proofs.Tests.{below-cases}
 use Rattle.re_laws.proofs.ChainRounds.{Solvable-rounds}
 use Rattle.re_problem.proofs.DerivedProblem.{IsProblem-derived}
-use Rattle.re_problem.specs.Derived.{derived, derived_by}
+use Rattle.re_problem.specs.Derived.{derived_by}
 use Rattle.re_problem.specs.NamedProblems.{NamedProblem, unnamed}
 use Rattle.re_problem.specs.Problems.{IsProblem, Problem}
-use Rattle.re_search.specs.Laws.{NonePassed}
-use Rattle.re_step.proofs.NameLemmas.{unnamed-derived}
-use Rattle.re_step.specs.Derivations.{named_derived, step_limit}
 use Rattle.re_walks.specs.Walking.{found, nowhere}
 use Rattle.re_given_words.specs.Counting.{AllFew, CountMeans, IsBeside, IsCounted, IsToldAhead, MayTell, Solves, Tells, walk_after}
 use Rattle.re_given_words.specs.declared.counting.Counted.{Counted}
@@ -27,15 +24,6 @@ use Rattle.re_given_words.specs.declared.fitting.TheConstants.{MAX_TRIES}
 pub derived_is : (problem : Problem) (k : ℕ) → IsProblem problem → IsProblem (derived_by k problem)
 derived_is problem zero is = is
 derived_is problem (suc k) is = IsProblem-derived (derived_by k problem) (derived_is problem k is)
-
-pub derived_input : (problem input : Problem) (k : ℕ) → IsInput problem input → IsInput (derived_by k problem) (exchanged_by k input)
-derived_input problem input zero is = is
-derived_input problem input (suc k) is = IsInput-derived (derived_by k problem) (exchanged_by k input) (derived_input problem input k is)
-
-pub next_is : (problem : Problem) (rounds : ℕ) (current next : NamedProblem) → unnamed current ≡ derived_by rounds problem → next ≡ named_derived (unnamed current) → unnamed next ≡ derived_by (rounds + 1) problem
-next_is problem rounds current next here is =
-    let more : rounds + 1 ≡ suc rounds = omega arith in
-    ap unnamed is ∙ unnamed-derived (unnamed current) ∙ ap derived here ∙ ap (λ k. derived_by k problem) (sym more)
 
 -- the input problem, where it is this one
 pub beside_input : (problem : Problem) (o : Option NamedProblem) (input : NamedProblem) → o ≡ Some input → IsBeside problem (option_map unnamed o) → IsInput problem (unnamed input)
@@ -52,17 +40,10 @@ few_next problem input rounds before here j l = go (below-cases j rounds l)
 pub few_suc : (problem : Problem) (input : Option Problem) (rounds : ℕ) → AllFew problem input rounds → Tells problem input rounds Few → AllFew problem input (suc rounds)
 few_suc problem input rounds before here = let more : rounds + 1 ≡ suc rounds = omega arith in subst (AllFew problem input) more (few_next problem input rounds before here)
 
-pub passed_next : (problem : Problem) (rounds : ℕ) (current : Problem) → current ≡ derived_by rounds problem → step_limit current ≡ None → NonePassed problem rounds → NonePassed problem (rounds + 1)
-passed_next problem rounds current here none before j l = go (below-cases j rounds l)
-  where
-    go : (j < rounds) ⊎ (j ≡ rounds) → step_limit (derived_by j problem) ≡ None
-    go (inl less) = before j less
-    go (inr same) = ap (λ k. step_limit (derived_by k problem)) same ∙ ap step_limit (sym here) ∙ none
-
 -- ---- what it means
 module _ (problem : Problem) (is : IsProblem problem) where
   tells_given : (input : Problem) (rounds : ℕ) → IsInput problem input → TellsGiven (derived_by rounds problem) (exchanged_by rounds input) (walk_after problem input rounds)
-  tells_given input rounds is_input = fit_walk_law (derived_by rounds problem) (exchanged_by rounds input) MAX_TRIES (derived_is problem rounds is) (derived_input problem input rounds is_input)
+  tells_given input rounds is_input = fit_walk_law (derived_by rounds problem) (exchanged_by rounds input) MAX_TRIES (derived_is problem rounds is) (IsInput-derived_by rounds problem input is_input)
 
   zero_found : (input : Problem) (rounds : ℕ) → IsInput problem input → (labels : List ℕ) → walk_after problem input rounds ≡ found labels → ZeroGiven (derived_by rounds problem) (exchanged_by rounds input)
   zero_found input rounds is_input labels e = (_, (subst (TellsGiven (derived_by rounds problem) (exchanged_by rounds input)) e (tells_given input rounds is_input)).upper)

@@ -5,6 +5,7 @@ ghost use Rattle.re_labels.specs.declared.TheConstants.{MAX_LABELS};
 ghost use Rattle.re_problem.specs.Derived.{derived_by};
 ghost use Rattle.re_problem.specs.NamedProblems.{unnamed};
 ghost use Rattle.re_problem.specs.Problems.{IsProblem as IsPlain, Problem as Plain};
+ghost use Rattle.re_search.specs.Laws.{NonePassed};
 ghost use Rattle.re_step.specs.Derivations.{named_derived, step_limit};
 ghost use Rattle.std.specs.Fmt.{decimal};
 ghost use Rattle.std.specs.Prelude.{◌≡◌, ◌≤◌, ◌<◌, ◌++◌, IfOk, IfSome, None, Some, option_map};
@@ -162,31 +163,97 @@ pub fn count_within(
     count_on(alloc, texts, &mut current, most, labels)
 }
 
-// What is told ahead of a step that passes a limit, behind as many steps as there are rounds that are too few.
+// The problem that is derived so often, where no step on the way passes a limit.
+fn derived_after(alloc: Global, problem: &Problem, steps: u8) -> Result<Problem, NoMemory>
+    requires { NonePassed (unnamed problem.now) steps }
+    ensures { IfOk result (λ derived. unnamed derived ≡ derived_by steps (unnamed problem.now)) }
+{
+    let mut current = problem.copy()?;
+    for _done in 0..steps {
+        match derive(alloc, &mut current)? {
+            Some(_) => unreachable!(),
+            None => {}
+        }
+    }
+    Ok(current)
+}
+
+// What the problem behind so many steps tells ahead of a step that passes a limit, behind as many steps as there are rounds that are too few.
 fn count_ahead(
     alloc: Global,
+    current: &Problem,
+    steps: u8,
+    rounds: u8,
+    limit: StepLimit,
+    most: u8,
+) -> Result<Counted, NoMemory>
+    requires behind { steps ≤ rounds }
+    requires below { rounds < most }
+    requires most { most ≤ 64 }
+    ensures told { (problem : Plain) → IsPlain problem → unnamed current.now ≡ derived_by steps problem → IsCounted problem None most (Counted.Passed rounds limit) → IfOk result (MayTell problem None most) }
+    ensures low { IfOk result IsLow }
+{
+    let left = most - steps;
+    match look_ahead(alloc, current, left)? {
+        Ahead::Exactly(more) => {
+            let enough = steps + more;
+            Ok(Counted::Exactly(enough))
+        }
+        Ahead::MoreThan(more) => {
+            let told = steps + more;
+            let few = rounds.max(told);
+            if few == most {
+                return Ok(Counted::MoreThan(few));
+            }
+            Ok(Counted::Stopped(few, rounds, limit))
+        }
+    }
+}
+
+// The same where the problem behind as many steps as there are rounds tells nothing: the one before it tells, if there is one.
+fn count_before(
+    alloc: Global,
+    problem: &Problem,
+    rounds: u8,
+    limit: StepLimit,
+    most: u8,
+) -> Result<Counted, NoMemory>
+    requires problem { IsPlain (unnamed problem.now) }
+    requires most { most ≤ 64 }
+    requires below { rounds < most }
+    requires counted { IsCounted (unnamed problem.now) None most (Counted.Passed rounds limit) }
+    ensures told { IfOk result (MayTell (unnamed problem.now) None most) }
+    ensures low { IfOk result IsLow }
+{
+    if rounds == 0 {
+        return Ok(Counted::Passed(rounds, limit));
+    }
+    let steps = rounds - 1;
+    let before = derived_after(alloc, problem, steps)?;
+    count_ahead(alloc, &before, steps, rounds, limit, most)
+}
+
+// How many rounds the problem takes alone, where the step behind so many passes a limit.
+fn count_alone(
+    alloc: Global,
+    problem: &Problem,
     current: &Problem,
     rounds: u8,
     limit: StepLimit,
     most: u8,
 ) -> Result<Counted, NoMemory>
-    requires below { rounds < most }
+    requires problem { IsPlain (unnamed problem.now) }
     requires most { most ≤ 64 }
-    ensures told { (problem : Plain) → IsPlain problem → unnamed current.now ≡ derived_by rounds problem → IsCounted problem None most (Counted.Passed rounds limit) → IfOk result (MayTell problem None most) }
+    requires below { rounds < most }
+    requires here { unnamed current.now ≡ derived_by rounds (unnamed problem.now) }
+    requires counted { IsCounted (unnamed problem.now) None most (Counted.Passed rounds limit) }
+    ensures told { IfOk result (MayTell (unnamed problem.now) None most) }
     ensures low { IfOk result IsLow }
 {
-    let left = most - rounds;
-    match look_ahead(alloc, current, left)? {
-        Ahead::Exactly(more) => {
-            let enough = rounds + more;
-            Ok(Counted::Exactly(enough))
-        }
-        Ahead::MoreThan(more) => {
-            let few = rounds + more;
-            if few == most {
-                return Ok(Counted::MoreThan(few));
-            }
-            Ok(Counted::Stopped(few, rounds, limit))
+    match limit {
+        StepLimit::Rows => count_before(alloc, problem, rounds, limit, most),
+        StepLimit::Labels(_) | StepLimit::Configurations => {
+            count_ahead(alloc, current, rounds, rounds, limit, most)
         }
     }
 }
@@ -210,7 +277,7 @@ fn count_passed(
 {
     match &texts.input {
         Some(_) => Ok(Counted::Passed(rounds, limit)),
-        None => count_ahead(alloc, current, rounds, limit, most),
+        None => count_alone(alloc, &texts.problem, current, rounds, limit, most),
     }
 }
 
@@ -239,7 +306,7 @@ fn count_behind(
 }
 
 /// The same, however many labels the problems have. Alone, where a step passes a limit, `re_ahead::look_ahead` goes on from the problem
-/// before it.
+/// before it; and where that one has too many rows, from the one before that, which is derived anew: two are held then.
 pub fn count(alloc: Global, texts: &RoundsTexts, most: u8) -> Result<Counted, NoMemory>
     requires beside { IsBeside (unnamed texts.now.problem) (option_map unnamed texts.now.input) }
     requires most { most ≤ 64 }

@@ -1,6 +1,15 @@
 -- How far the searches go.
-use Rattle.std.specs.Prelude.{ℕ, ◌+◌, ◌*◌, nat_lt, if◌then◌else◌}
+use Rattle.std.specs.Prelude.{ℕ, ◌+◌, ◌*◌, ◌≤◌, length, nat_lt, if◌then◌else◌}
 use Rattle.re_problem.specs.NamedProblems.{NamedProblem}
+use Rattle.re_problem.specs.Problems.{Problem}
+
+-- how many configurations a problem has, active and passive ones together
+abbrev pub size_of : Problem → ℕ
+size_of problem = length problem.active.configs + length problem.passive.configs
+
+-- it has at most so many, so many times
+abbrev pub IsSmall : Problem → ℕ → ℕ → Type 0
+IsSmall problem most times = size_of problem ≤ most * times
 
 -- how often a number is doubled from 1 on: not at all for 1, once for 2 and 3, and so on up to 6 times for 64
 abbrev pub doublings : ℕ → ℕ

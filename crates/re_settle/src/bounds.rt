@@ -4,9 +4,9 @@ ghost use Rattle.re_chain_parts.specs.Chains.{chain_with};
 ghost use Rattle.re_chain_texts.specs.ChainTexts.{problem_chain};
 ghost use Rattle.re_problem.specs.NamedProblems.{unnamed};
 ghost use Rattle.re_problem.specs.Zero.{zero_place};
-ghost use Rattle.re_settle.specs.Measures.{doublings, greatest_degree, shortest_labels, shortest_steps};
+ghost use Rattle.re_settle.specs.Measures.{IsSmall, doublings, greatest_degree, shortest_labels, shortest_steps};
 ghost use Rattle.re_settle.specs.Ways.{IsKnown, IsTried};
-ghost use Rattle.std.specs.Prelude.{◌≡◌, ◌≤◌, [], IfOk, IfSome, None, length};
+ghost use Rattle.std.specs.Prelude.{◌≡◌, ◌↔◌, ◌≤◌, [], IfOk, IfSome, IsTrue, None, length};
 
 use crate::measures::{
     doublings, greatest_degree, is_small, longest_labels, longest_steps, shortest_labels,
@@ -216,8 +216,10 @@ fn brief_way(
     shortest_way(alloc, problem, steps, ALL_LABELS, times)
 }
 
-/// Whether patterns may lead to an upper bound. Nothing rests on it.
-pub fn has_patterns(problem: &Problem, times: u8) -> bool {
+/// Whether patterns may lead to an upper bound: in degrees 5 and 2, where the problem has few configurations.
+pub fn has_patterns(problem: &Problem, times: u8) -> bool
+    ensures { IsTrue result ↔ (problem.now.active.degree ≡ 5) × (problem.now.passive.degree ≡ 2) × IsSmall (unnamed problem.now) 8 times }
+{
     problem.active().degree() == 5
         && problem.passive().degree() == 2
         && is_small(problem, PATTERN_SIZE, times)

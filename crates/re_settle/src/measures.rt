@@ -1,19 +1,23 @@
 //! How far the searches go, and how large the problems are from which they begin.
-ghost use Rattle.re_settle.specs.Measures.{coloured_steps, doublings, greatest_degree, longest_labels, longest_steps, shortest_labels, shortest_steps};
-ghost use Rattle.std.specs.Prelude.{◌≡◌, ◌≤◌};
+ghost use Rattle.re_problem.specs.NamedProblems.{unnamed};
+ghost use Rattle.re_settle.specs.Measures.{IsSmall, coloured_steps, doublings, greatest_degree, longest_labels, longest_steps, shortest_labels, shortest_steps, size_of};
+ghost use Rattle.re_table.specs.declared.constraint_table.TheConstants.{MAX_CONFIGURATIONS};
+ghost use Rattle.std.specs.Prelude.{◌≡◌, ◌↔◌, ◌*◌, ◌≤◌, IsTrue};
 
 use re_problem::Problem;
 
-/// How many configurations a problem has, active and passive ones together.
-pub(crate) fn size_of(problem: &Problem) -> usize {
-    problem
-        .active()
-        .len()
-        .saturating_add(problem.passive().len())
+// How many configurations a problem has, active and passive ones together.
+fn size_of(problem: &Problem) -> usize
+    ensures size { result ≡ size_of (unnamed problem.now) }
+    ensures most { result ≤ 2 * MAX_CONFIGURATIONS }
+{
+    problem.active().len() + problem.passive().len()
 }
 
-/// Whether the problem has at most so many configurations, so many times. Nothing rests on it.
-pub fn is_small(problem: &Problem, most: usize, times: u8) -> bool {
+/// Whether the problem has at most so many configurations, so many times.
+pub fn is_small(problem: &Problem, most: usize, times: u8) -> bool
+    ensures { IsTrue result ↔ IsSmall (unnamed problem.now) most times }
+{
     size_of(problem) <= most.saturating_mul(usize::from(times))
 }
 

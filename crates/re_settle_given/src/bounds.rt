@@ -27,6 +27,9 @@ const LONGEST_STEPS: usize = 2;
 /// Up to how many configurations the input problem has that is then given.
 const LONGEST_INPUT: usize = 12;
 
+/// Up to how many configurations a problem has whose shortest upper bound is looked for.
+const SHORTEST_SIZE: usize = 12;
+
 // Whether the two problems are so small that a longest lower bound is looked for. Nothing rests on it.
 fn is_soon(alloc: Global, problem: &Problem, input: &Problem, times: u8) -> Result<bool, NoMemory> {
     if !is_small(input, LONGEST_INPUT, times) {
@@ -125,7 +128,7 @@ fn shortest_way(
     }))
 }
 
-/// The shortest upper bound that is found, if any.
+/// The shortest upper bound that is found, if any, where the problem is small.
 pub(crate) fn short_way(
     alloc: Global,
     problem: &Problem,
@@ -135,6 +138,9 @@ pub(crate) fn short_way(
     requires { IsInput (unnamed problem.now) (unnamed input.now) }
     ensures { IfOk result (λ found. IfSome found (λ shown. IsKnownGiven times problem.now input.now (Claim.AtMost shown.rounds) shown.way)) }
 {
+    if !is_small(problem, SHORTEST_SIZE, times) {
+        return Ok(None);
+    }
     if has_patterns(problem, times) {
         if let Some(shown) = shortest_way(alloc, problem, input, 6, 20, times)? {
             return Ok(Some(shown));

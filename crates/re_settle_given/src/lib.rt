@@ -8,8 +8,8 @@
 //!    the way passes a limit or starts from a problem of more than 64 labels. As many rounds as are counted to be too few are known.
 //! 2. The fixed point of the closure of the problem, where `given` accepts it; and a graph of at most 4 active nodes on which the problem has no solution
 //!    and the input problem has one.
-//! 3. An upper bound: what `shortest` finds. Its numbers of steps and labels, and those of `longest` below, and the problems in degrees 5 and 2 on which
-//!    `shortest 6 20` comes first, are those of `re_settle`.
+//! 3. An upper bound: what `shortest` finds, where the problem has at most 12 N configurations. Its numbers of steps and labels, and those of `longest`
+//!    below, and the problems in degrees 5 and 2 on which `shortest 6 20` comes first, are those of `re_settle`.
 //! 4. Where no upper bound is found, a fixed point of at most 8 steps with at most 1 merge in each, among the first 300 N problems, where the first four
 //!    derived problems have at most 40 N configurations each; and a graph of at most 64 active nodes that gadgets make in 1,000,000 N steps,
 //!    50,000,000 at most.

@@ -50,9 +50,6 @@ pub record AreAll (rows : List (List (List ℕ))) (multisets_ : List (List ℕ))
   pub known : (o : Open) → Contains opens o → Contains multisets_ o.ports
   pub orders : (o : Open) → Contains opens o → o.rows.items ≡ all_orders rows
 
-pub all-none : (rows : List (List (List ℕ))) → AreAll rows [] []
-all-none rows = record { ports = λ ports held. absurd (Contains-none ports held); known = λ o held. absurd (Contains-none o held); orders = λ o held. absurd (Contains-none o held) }
-
 pub all-more : (rows : List (List (List ℕ))) (seen : List (List ℕ)) (opens : List Open) (ports : List ℕ) (more : Open) → AreAll rows seen opens → more.ports ≡ ports → more.rows.items ≡ all_orders rows
     → AreAll rows (seen ++ ports ∷ []) (opens ++ more ∷ [])
 all-more rows seen opens ports more are same ordered = record {

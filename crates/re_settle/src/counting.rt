@@ -13,7 +13,7 @@ use std::alloc::Global;
 /// Up to how many rounds are counted by steps.
 pub const MAX_ROUNDS: u8 = 8;
 
-/// How many rounds the problem takes, up to `MAX_ROUNDS`, as far as steps go and the problem before a step that passes a limit tells.
+/// How many rounds the problem takes, up to `MAX_ROUNDS`, as far as steps go and the problems before a step that passes a limit tell.
 pub(crate) fn counted(alloc: Global, problem: &Problem) -> Result<Counted, NoMemory>
     ensures { IfOk result (MayTell (unnamed problem.now) None 8) }
 {

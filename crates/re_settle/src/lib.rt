@@ -5,8 +5,8 @@
 //! machine. What is said of N is multiplied by N in `settle N`.
 //!
 //! 1. Whether the problem is solvable without communication.
-//! 2. Its number of rounds, where this is at most `MAX_ROUNDS` and no step on the way passes a limit, or one does and the problem before it tells
-//!    of one round more, or two.
+//! 2. Its number of rounds, where this is at most `MAX_ROUNDS` and no step on the way passes a limit, or one does and the problem before it, or
+//!    the one before that, tells of one round more, or two.
 //! 3. A fixed point of at most 4 steps without merges; of a problem of at most 32 N configurations the fixed point of its closure, and one behind
 //!    one of the first 16 N relaxations.
 //! 4. A graph of at most 4 active nodes without a solution, or one of at most 64 that gadgets make in 1,000,000 N steps, 50,000,000 at most. Where

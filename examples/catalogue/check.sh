@@ -27,8 +27,8 @@ wanted() {
     case $2 in
     're zero') echo yes;;
     'explore rounds '*) echo "$1" | sed 's/ .[0-9]* rounds of the graph)//; s/,.*//';;
-    're upper '* | 'explore shortest '*) echo "accepted: solvable in $(echo "$1" | sed 's/^exactly //; s/.*at most //; s/ .*//') rounds";;
-    're lower '* | 'explore longest '*)
+    're upper '* | 'explore shortest '* | *-upper.txt) echo "accepted: solvable in $(echo "$1" | sed 's/^exactly //; s/.*at most //; s/ .*//') rounds";;
+    're lower '* | 'explore longest '* | *-lower.txt)
         case $1 in
         exactly*) echo "accepted: not solvable in $(($(echo "$1" | sed 's/^exactly //; s/ .*//') - 1)) or fewer rounds";;
         *) echo "accepted: not solvable in $(echo "$1" | sed 's/^more than //; s/[ ,].*//') or fewer rounds";;
@@ -38,12 +38,20 @@ wanted() {
     esac
 }
 
+# What `check` says of a certificate that is held, where it begins with this problem.
+held() {
+    tar -xJOf "$here/certificates.tar.xz" "$2" > "$folder/held"
+    sed '1d; /^==/,$d' "$folder/held" | "$re" read > "$folder/first"
+    "$re" read < "$1" | cmp -s - "$folder/first" && "$re" check < "$folder/held"
+}
+
 # What is said of the answer of these words.
 judged() {
     case $2 in
     're zero') run_words "$2" < "$1" | sed 's/^yes: .*/yes/';;
     'explore rounds '*) run_words "$2" < "$1" | sed 's/,.*//';;
     'explore cover '*) run_words "$2" < "$1" | "$explore" solve;;
+    certificates/*) held "$1" "$2";;
     *) run_words "$2" < "$1" | "$re" check;;
     esac
 }

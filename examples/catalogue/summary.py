@@ -28,6 +28,7 @@ has `re check` judge what they name; `summary.py` wrote this page from the table
 
     examples/catalogue/problems.py 3 3 2 > LIST
     examples/catalogue/settle.sh EXPLORE LIST examples/catalogue/3-3-2.tsv
+    examples/catalogue/certificates.py RE examples/catalogue/3-3-2.tsv > TABLE
     examples/catalogue/given.sh RE EXPLORE examples/catalogue/3-3-2.tsv examples/catalogue/3-3-2.given
     examples/catalogue/check.sh RE EXPLORE
     examples/catalogue/summary.py > examples/catalogue/README.md
@@ -37,6 +38,10 @@ the graph where passive nodes are edges), the words that show it, the class with
 nodes that know nothing but port numbers, on trees; the class is for nodes with unique identifiers below N, as N grows: `constant`, `order log* N`,
 `at least order log* N` (log* N less a constant) and `at least order log N`, beyond which this model tells nothing apart. Both are proved of what `settle` says.
 What is solved in k hops may use the orientation of each edge that its ports give; from unique identifiers one comes in a round.
+
+Bounds that no words find stand in `certificates.tar.xz`, and `certificates.py` puts them into the table. An upper one goes from a derived
+problem to a solved problem that is enough for it (`explore fit`), or to sets of its labels at the ports of few nodes; a lower one to a
+problem that it solves in 0 hops (`explore bridge`), and at the last step to sets without a choice.
 
 Given an input problem (`both`, an orientation by which edges lead into each active node and out of it; two `sides`; a colouring of the `edges`; a
 proper `colouring` with 4 colours), `explore settle` answers, or `explore given` of the fixed point that is known of the problem alone.

@@ -1,0 +1,75 @@
+#!/usr/bin/env python3
+"""A table with the bounds that certificates show where no words find them.
+
+    examples/catalogue/certificates.py RE TABLE > NEW
+
+RE is the program, TABLE one that settle.sh made, as 3-3-2.tsv or 3-3-2.tsv.xz, for the problems of certificates.tar.xz. A text there has the
+name certificates/NUMBER-lower.txt or certificates/NUMBER-upper.txt, and begins with the problem of that number. A bound that `re check`
+accepts, and that says more than the table does, takes the place of the table's, and the name of the text that of its words.
+"""
+import lzma
+import pathlib
+import re
+import subprocess
+import sys
+import tarfile
+
+import problems
+
+TEXTS = pathlib.Path(__file__).parent / "certificates.tar.xz"
+KINDS = "lower", "upper"
+
+
+def bound_of(program, name, text, problem):
+    """The number of rounds that a certificate of this problem says are too few, or enough."""
+    def said(word, it):
+        return subprocess.run([program, word], input=it, capture_output=True, text=True, check=False).stdout
+
+    if said("read", re.split("^==.*\n", text, flags=re.M)[1]) != said("read", problems.text(problem)):
+        sys.exit(f"{name}: not of the problem {problem}")
+    found = re.fullmatch(r"accepted: (not )?solvable in (\d+) (?:or fewer )?rounds\n", said("check", text))
+    if not found or bool(found[1]) != ("lower" in name):
+        sys.exit(f"{name}: {said('check', text)}")
+    return int(found[2])
+
+
+def claim_of(lower, upper, graph):
+    """The answer, with the rounds of the graph or without."""
+    def hops(number, halves):
+        return f"{number} ({halves} rounds of the graph)" if graph else f"{number}"
+
+    if upper == lower + 1:
+        return f"exactly {hops(upper, (upper + 1) // 2)}"
+    return f"more than {hops(lower, lower // 2)}" + ("" if upper is None else f", at most {hops(upper, (upper + 1) // 2)}")
+
+
+def with_bounds(line, bounds):
+    """The line of a problem between two bounds, or with a lower one alone, and with those of its certificates."""
+    number, problem, claim, by, *_ = line
+    lower, upper = (re.search(words + r" (\d+)", claim) for words in ("more than", "at most"))
+    if not lower:
+        sys.exit(f"{number}: nothing is open: {claim}")
+    known, words = {"lower": int(lower[1]), "upper": upper and int(upper[1])}, dict(zip(KINDS, by.split("; ")))
+    for kind, (name, bound) in bounds.items():
+        if known[kind] is None or (bound > known[kind] if kind == "lower" else bound < known[kind]):
+            known[kind], words[kind] = bound, name
+    claims = [claim_of(*known.values(), graph) for graph in ("rounds of the graph" in claim, False)]
+    return [number, problem, claims[0], "; ".join(words[kind] for kind in KINDS if kind in words),
+            ("constant, " if known["upper"] else "") + claims[1], ""]
+
+
+def main(words):
+    if len(words) != 2:
+        sys.exit(__doc__)
+    program, table = str(pathlib.Path(words[0]).resolve()), pathlib.Path(words[1])
+    with tarfile.open(TEXTS) as held:
+        texts = {it.name: held.extractfile(it).read().decode() for it in held if it.isfile()}
+    with lzma.open(table, "rt") if table.suffix == ".xz" else open(table) as rows:
+        for line in (row.rstrip("\n").split("\t") for row in rows):
+            names = {kind: f"certificates/{line[0]}-{kind}.txt" for kind in KINDS}
+            bounds = {kind: (name, bound_of(program, name, texts[name], line[1])) for kind, name in names.items() if name in texts}
+            print("\t".join(with_bounds(line, bounds) if bounds else line))
+
+
+if __name__ == "__main__":
+    main(sys.argv[1:])

@@ -109,6 +109,14 @@ SaysCounted (counted.Passed rounds limit) claim = claim ≡ MoreThan rounds
 SaysCounted (counted.Stopped rounds steps limit) claim = claim ≡ MoreThan rounds
 SaysCounted (counted.Tried rounds) claim = ⊥
 
+-- the rounds that it says are too few, where more may be
+abbrev pub few_of : Counted → Option ℕ
+few_of (counted.MoreThan rounds) = Some rounds
+few_of (counted.Passed rounds limit) = Some rounds
+few_of (counted.Stopped rounds steps limit) = Some rounds
+few_of (counted.Exactly rounds) = None
+few_of (counted.Tried rounds) = None
+
 -- what an answer of these words shows of the problem: that of `zero` whether there is an algorithm without communication; that of a search the bound that it
 -- finds, or, of `cycle`, `relaxed`, `longest` and `shortest`, one that it may find; `rounds` what it may count; `closure` its fixed point; `cover` a graph
 -- without a solution

@@ -1,7 +1,7 @@
 //! What `rounds` counts.
 ghost use Rattle.re_given_words.specs.Counting.{MayTell};
 ghost use Rattle.re_problem.specs.NamedProblems.{unnamed};
-ghost use Rattle.re_settle.specs.Ways.{IsKnown, SaysCounted};
+ghost use Rattle.re_settle.specs.Ways.{IsKnown, SaysCounted, few_of};
 ghost use Rattle.std.specs.Prelude.{◌≡◌, ◌≤◌, IfOk, IfSome, None};
 
 use crate::types::{Claim, Shown, Way};
@@ -38,7 +38,8 @@ pub(crate) fn steps_of(counted: Counted) -> u8
 
 /// The rounds that are told to be too few, where more may be.
 pub fn few_of(counted: Counted) -> Option<u8>
-    ensures { IfSome result (λ rounds. SaysCounted counted (Claim.MoreThan rounds)) }
+    ensures few { result ≡ few_of counted }
+    ensures says { IfSome result (λ rounds. SaysCounted counted (Claim.MoreThan rounds)) }
 {
     match counted {
         Counted::MoreThan(rounds) => Some(rounds),

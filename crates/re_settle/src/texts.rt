@@ -12,21 +12,23 @@ use re_problem::Problem;
 use re_two_texts::print_given;
 use std::alloc::Global;
 
-/// Whether the text of the certificate is no longer than one that is read: then it is read as the certificate.
+/// Whether the text of the certificate is no longer than one that is read, which is where it is read as the certificate.
 pub fn has_text(alloc: Global, certificate: &Certificate) -> Result<bool, NoMemory>
-    ensures { IfOk result (λ has. has ≡ true → HasText certificate.now) }
+    ensures text { IfOk result (λ has. has ≡ true → HasText certificate.now) }
+    ensures whole { IfOk result (λ has. HasText certificate.now → has ≡ true) }
 {
     let text = print_certificate(alloc, certificate)?;
     Ok(text.len() <= MAX_BYTES)
 }
 
-/// The same of the certificate and an input problem behind it: then the text is read as both.
+/// The same of the certificate and an input problem behind it, where the text is read as both.
 pub fn has_given_text(
     alloc: Global,
     certificate: &Certificate,
     input: &Problem,
 ) -> Result<bool, NoMemory>
-    ensures { IfOk result (λ has. has ≡ true → IsGivenText certificate.now input.now (given_text certificate.now input.now)) }
+    ensures text { IfOk result (λ has. has ≡ true → IsGivenText certificate.now input.now (given_text certificate.now input.now)) }
+    ensures whole { IfOk result (λ has. IsGivenText certificate.now input.now (given_text certificate.now input.now) → has ≡ true) }
 {
     let output = print_given(alloc, certificate, input)?;
     match output.answer {

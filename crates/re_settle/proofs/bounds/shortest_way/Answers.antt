@@ -13,5 +13,5 @@ returns c =
     let chain = c.upper_chain-chain.result in
     shortest_known c.args.times c.args.problem.now chain c.in-Found.certificate c.args.steps c.args.labels c.count_of.result c.requires
     (c.upper_chain-chain.ensures ∙ ap (λ (p : NamedProblem). chain_with Upper p []) c.in_ok-copy.ensures)
-    (subst (AnswersAt (zero_place (unnamed (last_problem chain))) c.args.steps c.args.labels chain) c.in-Found.is c.in_ok-certificate.ensures) (c.in_ok-has.ensures c.if-not-has.false)
+    (subst (AnswersAt (zero_place (unnamed (last_problem chain))) c.args.steps c.args.labels chain) c.in-Found.is c.in_ok-certificate.ensures) (c.in_ok-has.ensures.text c.if-not-has.false)
     c.count_of.ensures

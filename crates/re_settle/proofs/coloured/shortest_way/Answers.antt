@@ -22,4 +22,4 @@ returns c =
     ∙ ap (shortest_labels (greatest_degree c.args.problem.now)) c.doublings-doublings.ensures.value in
     let answers = subst (AnswersGiven c.args.input.now c.coloured_steps-steps.result c.shortest_labels-labels.result c.upper_chain-chain.result) c.in-Found.is c.in_ok-certificate.ensures in
     shortened_coloured c.args.times c.args.problem.now c.args.input.now c.upper_chain-chain.result c.in-Found.certificate c.args.side c.args.colours c.coloured_steps-steps.result
-    c.shortest_labels-labels.result c.requires.colours c.requires.input (steps, labels) start answers (c.in_ok-has.ensures c.if-not-has.false)
+    c.shortest_labels-labels.result c.requires.colours c.requires.input (steps, labels) start answers (c.in_ok-has.ensures.text c.if-not-has.false)

@@ -8,7 +8,7 @@ use Rattle.re_settle.proofs.never.+closing.Goals as goal
 pub returns-then-has-clause-closes : goal.returns-then-has-clause-closes
 returns-then-has-clause-closes t c =
     let found = subst (Answers c.args.chain.now) c.in-Ok-Found.field-0-is c.in-Ok-Found.ensures.answers in
-    (c.in-Ok-Found.certificate, found.2, c.in_ok-has-in-Ok-Found.ensures c.if-has.true)
+    (c.in-Ok-Found.certificate, found.2, c.in_ok-has-in-Ok-Found.ensures.text c.if-has.true)
 
 pub returns-in-Some-clause-closes : goal.returns-in-Some-clause-closes
 returns-in-Some-clause-closes t c =

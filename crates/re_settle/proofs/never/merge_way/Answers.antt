@@ -20,4 +20,4 @@ closed_way-requires-clause-sound c =
     (c.merge_law.ensures c.args.chain.now c.args.from c.args.to sound c.in-Ok.ensures.may c.in-Ok.ensures.within).sound
 
 pub closed_way-requires-clause-text : goal.closed_way-requires-clause-text
-closed_way-requires-clause-text c = c.in_ok-has-in-Ok.ensures c.if-has.true
+closed_way-requires-clause-text c = c.in_ok-has-in-Ok.ensures.text c.if-has.true

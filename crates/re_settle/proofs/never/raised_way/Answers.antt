@@ -15,4 +15,4 @@ find_raised-requires-clause-edges c =
 pub returns-then-has : goal.returns-then-has
 returns-then-has c =
     let found = subst (RaisedAnswers ((c.args.low, c.args.high) ∷ []) c.args.chain.now) c.in-Ok-Found.field-0-is c.in-Ok-Found.ensures.answers in
-    raised_known c.args.times c.args.problem.now c.args.chain.now c.in-Ok-Found.certificate c.args.low c.args.high c.requires.chain c.requires.low c.requires.high found.2 (c.in_ok-has-in-Ok-Found.ensures c.if-has.true)
+    raised_known c.args.times c.args.problem.now c.args.chain.now c.in-Ok-Found.certificate c.args.low c.args.high c.requires.chain c.requires.low c.requires.high found.2 (c.in_ok-has-in-Ok-Found.ensures.text c.if-has.true)

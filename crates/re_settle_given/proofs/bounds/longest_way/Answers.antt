@@ -19,4 +19,4 @@ returns c =
     let labels = c.longest_labels-labels.ensures ∙ ap (λ d. longest_labels d c.doublings-doublings.result) c.greatest_degree.ensures
     ∙ ap (longest_labels (greatest_degree c.args.problem.now)) c.doublings-doublings.ensures.value in
     longest_known c.args.times c.args.problem.now c.args.input.now c.args.chain.now c.in_ok-certificate.certificate c.longest_steps-steps.result c.longest_labels-labels.result c.count_of.result (steps, labels)
-    c.requires.chain c.in_ok-certificate.ensures (c.in_ok-has.ensures c.if-not-has.false) c.count_of.ensures
+    c.requires.chain c.in_ok-certificate.ensures (c.in_ok-has.ensures.text c.if-not-has.false) c.count_of.ensures

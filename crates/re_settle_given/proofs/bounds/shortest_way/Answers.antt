@@ -11,4 +11,4 @@ returns c =
     let chain = c.upper_chain-chain.result in
     shortest_known c.args.times c.args.problem.now c.args.input.now chain c.in-Found.certificate c.args.steps c.args.labels c.count_of.result c.requires.tried
     (c.upper_chain-chain.ensures ∙ ap (λ (p : NamedProblem). chain_with Upper p []) c.in_ok-copy.ensures)
-    (subst (AnswersGiven c.args.input.now c.args.steps c.args.labels chain) c.in-Found.is c.in_ok-certificate.ensures) (c.in_ok-has.ensures c.if-not-has.false) c.count_of.ensures
+    (subst (AnswersGiven c.args.input.now c.args.steps c.args.labels chain) c.in-Found.is c.in_ok-certificate.ensures) (c.in_ok-has.ensures.text c.if-not-has.false) c.count_of.ensures

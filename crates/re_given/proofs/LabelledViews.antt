@@ -23,9 +23,6 @@ pub same_child : {back back' payload payload' : ℕ} {branch branch' : InputView
     → ◌≡◌ {A = Child ℕ} (record { back = back; payload = payload; branch = branch }) (record { back = back'; payload = payload'; branch = branch' })
 same_child e f g = cc
 
-cons_same : {x y : ℕ} {xs ys : List ℕ} → x ≡ y → xs ≡ ys → x ∷ xs ≡ y ∷ ys
-cons_same e f = cc
-
 -- ---- lists of children
 -- the children f i, f (i + 1), .., n of them
 abbrev pub listed : ℕ → (ℕ → Child ℕ) → ℕ → InputView
@@ -36,10 +33,6 @@ child_at-listed : (i : ℕ) (f : ℕ → Child ℕ) (n k : ℕ) → k < n → ch
 child_at-listed i f zero k l = absurd (omega arith)
 child_at-listed i f (suc n) zero l = rw add-zero refl
 child_at-listed i f (suc n) (suc k) l = let e : suc i + k ≡ i + suc k = omega arith in rw (← e) (child_at-listed (suc i) f n k (omega arith))
-
-backs-listed : (i : ℕ) (f : ℕ → Child ℕ) (n : ℕ) → backs (listed i f n) ≡ map (λ k. (f k).back) (count_from i n)
-backs-listed i f zero = refl
-backs-listed i f (suc n) = ap (◌∷◌ (f i).back) (backs-listed (suc i) f n)
 
 pub listed-same : (i : ℕ) (f g : ℕ → Child ℕ) (n : ℕ) → ((k : ℕ) → k < n → f (i + k) ≡ g (i + k)) → listed i f n ≡ listed i g n
 listed-same i f g zero same = refl

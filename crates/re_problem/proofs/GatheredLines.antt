@@ -46,18 +46,6 @@ run_added names labels at next label count old worded new made word power =
 pub no_power : (count : ℕ) (front : List ℕ) → count ≡ 1 → front ++ codes " " ≡ front ++ power_text count ++ codes " "
 no_power count front one = ap (λ l. l ++ codes " ") (sym (ap (λ n. front ++ power_text n) one ∙ append-nil front))
 
--- one run more, before those that are left
-pub run_gathered : (names : List (List ℕ)) (labels old new : List ℕ) (at next : ℕ) → (front : List ℕ) × PushesRun names labels at next old front × (new ≡ front ++ codes " ")
-    → new ++ begun_text names (runs (drop next labels)) ≡ old ++ begun_text names (runs (drop at labels))
-run_gathered names labels old new at next (front, pushed, ended) =
-    let rest = begun_text names (runs (drop next labels)) in
-    let run = run_text names pushed.0 in
-    ap (λ l. l ++ rest) (ended ∙ ap (λ l. l ++ codes " ") pushed.2)
-    ∙ append_assoc (old ++ run) (codes " ") rest
-    ∙ append_assoc old run (codes " " ++ rest)
-    ∙ ap (λ l. old ++ l) (sym (append_assoc run (codes " ") rest))
-    ∙ ap (λ r. old ++ begun_text names r) (sym pushed.1)
-
 -- all runs
 pub config_gathered : (names : List (List ℕ)) (labels old lines : List ℕ) (at : ℕ) → 0 < length labels → length labels ≤ at
     → lines ++ begun_text names (runs (drop at labels)) ≡ old ++ begun_text names (runs labels) → lines ≡ old ++ config_text names labels ++ codes " "

@@ -11,7 +11,7 @@ use Rattle.re_labels.proofs.Membership.{AllByRecursion-weaker, In-Contains}
 use Rattle.re_labels.specs.Lists.{IsRising}
 use Rattle.re_labels.specs.ListSets.{list_set, with_list}
 use Rattle.re_table.proofs.Behind.{found_behind}
-use Rattle.re_labels.specs.Sets.{IsLabelSet, first_of}
+use Rattle.re_labels.specs.Sets.{IsLabelSet}
 use Rattle.re_table.proofs.TreeCounts.{labels-prefix, prefix-labels}
 use Rattle.re_table.proofs.TreeSteps.{length-with_list_new}
 use Rattle.re_table.specs.Constraints.{with_each}
@@ -94,10 +94,6 @@ pub set_rest : (n last : ℕ) (rest : List ℕ) → IsLabelSet n (last ∷ rest)
 set_rest n last [] h = (tt, h.1.1)
 set_rest n last (x ∷ rest) h = (h.0.1, h.1.1)
 
-pub none_left : (set : List ℕ) → first_of set ≡ None → set ≡ []
-none_left [] e = refl
-none_left (x ∷ set) e = cc
-
 -- ---- what is held
 -- nothing more
 pub held_none : (nodes : List Node) (labels : List ℕ) → held_configs nodes ≡ list_set (held_configs nodes ++ with_each labels [])
@@ -116,10 +112,6 @@ pub held_others : (old now new : List (List ℕ)) (labels begun left lasts : Lis
 held_others old now new labels begun left lasts before both e =
     e ∙ ap (λ l. list_set (l ++ with_each labels left)) before ∙ sym (list_set_append (old ++ with_each labels begun) (with_each labels left)) ∙ ap list_set (append_assoc old (with_each labels begun) (with_each labels left))
     ∙ ap (λ w. list_set (old ++ w)) (sym (map-append (λ x. sorted (labels ++ x ∷ [])) begun left)) ∙ ap (λ l. list_set (old ++ with_each labels l)) both
-
--- where none is left, all are held
-pub held_all : (old now : List (List ℕ)) (labels left lasts : List ℕ) → first_of left ≡ None → (begun : List ℕ) × (begun ++ left ≡ lasts) × (now ≡ list_set (old ++ with_each labels begun)) → now ≡ list_set (old ++ with_each labels lasts)
-held_all old now labels left lasts none (begun, both, is) = is ∙ ap (λ l. list_set (old ++ with_each labels l)) (sym (append-nil begun) ∙ ap (λ l. begun ++ l) (sym (none_left left none)) ∙ both)
 
 -- where so many are held and the next one isn't, all are more
 pub held_over : (most : ℕ) (old now : List (List ℕ)) (labels config begun left rest lasts : List ℕ) (last : ℕ) → now ≡ list_set (old ++ with_each labels begun) → left ≡ last ∷ rest → begun ++ left ≡ lasts

@@ -9,7 +9,7 @@ ghost use Rattle.std.specs.List.{AllByRecursion};
 ghost use Rattle.std.specs.Prelude.{◌≡◌, ◌++◌, ◌∷◌, ◌<◌, ◌≤◌, [], IfOk, IfSome, IsTrue, List, None, false, length, true};
 
 use crate::standing::Standing;
-use crate::stopping::{Stop, spend};
+use crate::stopping::{TryFault, spend};
 use arrayvec::ArrayVec;
 use re_config::Row;
 use re_labels::LabelSet;
@@ -61,7 +61,7 @@ fn are_allowed(
     new: &Standing,
     drawn: &[LabelSet],
     tries: &mut usize,
-) -> Result<bool, Stop>
+) -> Result<bool, TryFault>
     requires { length drawn.now ≤ active.now.degree }
     ensures yes { IfOk result (λ all. all ≡ true → AreAllowed active.now standing.now new.now drawn.now) }
     ensures no { IfOk result (λ all. all ≡ false → IsMissed active.now standing.now new.now drawn.now) }
@@ -104,7 +104,7 @@ fn let_stand(
     standing: &mut Vec<Standing>,
     new: Standing,
     tries: &mut usize,
-) -> Result<bool, Stop>
+) -> Result<bool, TryFault>
     requires { HaveChoices active.now standing.old.items }
     ensures { IfOk result (λ fits. IsAdded active.now (new.port ∷ []) (new.set ∷ []) standing.old.items fits standing.new.items) }
 {
@@ -125,7 +125,7 @@ fn add(
     ports: &[u8],
     sets: &[LabelSet],
     tries: &mut usize,
-) -> Result<bool, Stop>
+) -> Result<bool, TryFault>
     requires { HaveChoices active.now standing.old.items }
     ensures { IfOk result (λ fits. IsAdded active.now ports.now sets.now standing.old.items fits standing.new.items) }
 {
@@ -153,7 +153,7 @@ pub(crate) fn added(
     ports: &[u8],
     sets: &[LabelSet],
     tries: &mut usize,
-) -> Result<Option<Vec<Standing>>, Stop>
+) -> Result<Option<Vec<Standing>>, TryFault>
     requires { HaveChoices active.now standing.now }
     ensures some { IfOk result (λ found. IfSome found (λ more. IsAdded active.now ports.now sets.now standing.now true more.items)) }
     ensures none { IfOk result (λ found. found ≡ None → IsRefused active.now ports.now sets.now standing.now) }
@@ -175,7 +175,7 @@ pub(crate) fn fits(
     ports: &[u8],
     sets: &[LabelSet],
     tries: &mut usize,
-) -> Result<bool, Stop>
+) -> Result<bool, TryFault>
     requires { HaveChoices active.now standing.now }
     ensures { IfOk result (λ fits. (more : List Stands) × IsAdded active.now ports.now sets.now standing.now fits more) }
 {

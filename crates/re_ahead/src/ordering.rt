@@ -4,7 +4,7 @@ ghost use Rattle.re_config.specs.Rows.{placed};
 ghost use Rattle.std.specs.Prelude.{◌≡◌, ◌++◌, ◌≤◌, IfOk, length};
 
 use crate::one::sets_at;
-use crate::stopping::{Stop, spend};
+use crate::stopping::{TryFault, spend};
 use arrayvec::ArrayVec;
 use re_config::{Placement, Placements, Row};
 use re_labels::LabelSet;
@@ -58,7 +58,7 @@ fn ordered(row: &Row, order: &Placement) -> PortSets
 }
 
 // Appends the sets of the row in each order.
-fn push_orders(row: &Row, all: &mut Vec<PortSets>, room: &mut usize) -> Result<(), Stop>
+fn push_orders(row: &Row, all: &mut Vec<PortSets>, room: &mut usize) -> Result<(), TryFault>
     ensures { IfOk result (λ _. all.new.items ≡ all.old.items ++ orders_of row.now) }
 {
     let sets = row.sets();
@@ -74,7 +74,7 @@ pub(crate) fn orders_of(
     alloc: Global,
     rows: &[Row],
     room: &mut usize,
-) -> Result<Vec<PortSets>, Stop>
+) -> Result<Vec<PortSets>, TryFault>
     ensures { IfOk result (λ all. all.items ≡ all_orders rows.now) }
 {
     let mut all = Vec::new(alloc);

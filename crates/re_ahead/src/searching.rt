@@ -9,7 +9,7 @@ ghost use Rattle.std.specs.Prelude.{◌≡◌, ◌≤◌, ◌∷◌, Contains, I
 use crate::drawing::{added, fits};
 use crate::ordering::PortSets;
 use crate::standing::Standing;
-use crate::stopping::Stop;
+use crate::stopping::TryFault;
 use re_config::{Config, Row};
 use re_labels::LabelSet;
 use re_problem::Problem;
@@ -37,7 +37,7 @@ fn left_of(
     standing: &[Standing],
     before: &Open,
     tries: &mut usize,
-) -> Result<Open, Stop>
+) -> Result<Open, TryFault>
     requires { HaveChoices active.now standing.now }
     ensures { IfOk result (IsLeft active.now standing.now before.now) }
 {
@@ -66,7 +66,7 @@ fn place_of(opens: &[Open], more: &Open) -> usize
 }
 
 // Puts one more among those that are open, in front where it has fewer rows than the first.
-fn put(opens: &mut Vec<Open>, more: Open) -> Result<(), Stop>
+fn put(opens: &mut Vec<Open>, more: Open) -> Result<(), TryFault>
     ensures { IfOk result (λ _. Rearranged (more ∷ opens.old.items) opens.new.items) }
 {
     let place = place_of(opens.as_slice(), &more);
@@ -82,7 +82,7 @@ fn all_left(
     standing: &[Standing],
     opens: &[Open],
     tries: &mut usize,
-) -> Result<Option<Vec<Open>>, Stop>
+) -> Result<Option<Vec<Open>>, TryFault>
     requires { HaveChoices active.now standing.now }
     ensures some { IfOk result (λ found. IfSome found (λ left. AreLeft active.now standing.now opens.now left.items)) }
     ensures none { IfOk result (λ found. found ≡ None → (whole : List Stands) → HaveChoices active.now whole → IsPart standing.now whole → ((open_ : Open) → Contains opens.now open_ → IsSupplied whole open_) → ⊥) }
@@ -108,7 +108,7 @@ fn served(
     standing: &[Standing],
     sets: &[LabelSet],
     tries: &mut usize,
-) -> Result<Option<Next>, Stop>
+) -> Result<Option<Next>, TryFault>
     requires under_way { IsUnderWay (unnamed problem.now) rows.now (first.now ∷ others.now) standing.now }
     requires row { Contains first.now.rows.items sets.now }
     ensures some { IfOk result (λ found. IfSome found (λ more. IsUnderWay (unnamed problem.now) rows.now more.opens.items more.standing.items)) }
@@ -135,7 +135,7 @@ pub(crate) fn serve(
     opens: &[Open],
     standing: &[Standing],
     tries: &mut usize,
-) -> Result<bool, Stop>
+) -> Result<bool, TryFault>
     requires { IsUnderWay (unnamed problem.now) rows.now opens.now standing.now }
     ensures yes { IfOk result (λ found. found ≡ true → (whole : List Stands) × ShowsTwoBy (unnamed problem.now) rows.now whole) }
     ensures no { IfOk result (λ found. found ≡ false → (whole : List Stands) → ShowsTwoBy (unnamed problem.now) rows.now whole → IsPart standing.now whole → ⊥) }

@@ -9,7 +9,7 @@ ghost use Rattle.re_ahead.specs.declared.two.Told.TheVariants.{Enough, TooFew};
 use crate::listing::multisets_of;
 use crate::ordering::orders_of;
 use crate::searching::{Open, serve};
-use crate::stopping::Stop;
+use crate::stopping::TryFault;
 use re_config::Row;
 use re_labels::NoMemory;
 use re_problem::Problem;
@@ -38,7 +38,7 @@ fn all_open(
     problem: &Problem,
     rows: &[Row],
     room: &mut usize,
-) -> Result<Vec<Open>, Stop>
+) -> Result<Vec<Open>, TryFault>
     ensures { IfOk result (λ opens. IsUnderWay (unnamed problem.now) rows.now opens.items []) }
 {
     let _names = problem.names();
@@ -55,7 +55,7 @@ fn all_open(
 }
 
 // Whether some sets at the ports show two rounds by these rows.
-fn search(alloc: Global, problem: &Problem, rows: &[Row]) -> Result<bool, Stop>
+fn search(alloc: Global, problem: &Problem, rows: &[Row]) -> Result<bool, TryFault>
     requires rows { rows.now ≡ max_rows problem.now.passive (length problem.now.names) }
     ensures yes { IfOk result (λ found. found ≡ true → Solvable (unnamed problem.now) 2) }
     ensures no { IfOk result (λ found. found ≡ false → Solvable (unnamed problem.now) 2 → ⊥) }
@@ -79,7 +79,7 @@ pub fn find_rows(alloc: Global, problem: &Problem, rows: &[Row]) -> Result<Told,
     match search(alloc, problem, rows) {
         Ok(true) => Ok(Told::Enough),
         Ok(false) => Ok(Told::TooFew),
-        Err(Stop::TooMany) => Ok(Told::Untold),
-        Err(Stop::NoMemory) => Err(NoMemory),
+        Err(TryFault::TooMany) => Ok(Told::Untold),
+        Err(TryFault::NoMemory) => Err(NoMemory),
     }
 }

@@ -3,7 +3,7 @@ ghost use Rattle.re_given.specs.Inputs.{IsInput};
 ghost use Rattle.re_problem.specs.NamedProblems.{unnamed};
 
 use re_fit::{FitFault, find_fit, input_fault};
-use re_inputs::turned;
+use re_inputs::exchanged;
 use re_labels::{LabelSet, NoMemory};
 use re_problem::Problem;
 use std::alloc::Global;
@@ -74,7 +74,7 @@ impl Given {
         tries: u32,
     ) -> Result<Given, NoMemory> {
         let even = input.copy()?;
-        let odd = turned(alloc, input)?;
+        let odd = exchanged(alloc, input)?;
         let inputs = if steps % 2 == 0 {
             Inputs { even, odd, tries }
         } else {

@@ -12,7 +12,7 @@ use Rattle.re_closure_laws.proofs.Generated.{closure_families_law}
 use Rattle.re_closure_laws.proofs.Itself.{renamed_itself}
 use Rattle.re_closure_laws.proofs.Returning.{fixed_law, other_way}
 use Rattle.re_closure_laws.proofs.Steps.{step_law}
-use Rattle.re_closure_laws.specs.Laws.{ChainLaw, ZeroLinesLaw}
+use Rattle.re_closure_laws.specs.Laws.{ClosureBoundLaw, ZeroLinesLaw}
 use Rattle.re_closure_laws.specs.Lines.{AreOpposed, Family, IsFamily, below, entries_within, problem_of}
 
 -- what is solvable without communication is so after a lower step too
@@ -27,8 +27,8 @@ along_step active passive a p opposed zero_here =
 pub zero_lines_law : ZeroLinesLaw
 zero_lines_law active passive a p opposed = (along_step active passive a p opposed, along_step passive active p a (other_way active passive opposed))
 
-pub chain_law : ChainLaw
-chain_law problem active passive is closure =
+pub closure_bound_law : ClosureBoundLaw
+closure_bound_law problem active passive is closure =
     let families = closure_families_law problem active passive is closure in
     let a = families.0 in
     let p = families.1 in

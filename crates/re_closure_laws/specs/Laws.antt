@@ -62,12 +62,12 @@ ClosureFamiliesLaw = (problem : Problem) (active passive : Family) → IsProblem
 
 -- the chain of a problem P and its closure P*: lower steps from P to Q, from Q to P*, and back to Q, under the same labels; and where P* isn't solvable without
 -- communication, no number of rounds solves P
-pub record IsChain (problem : Problem) (active passive : Family) : Type 0 where
+pub record IsClosureBound (problem : Problem) (active passive : Family) : Type 0 where
   pub first : IsLowerStep problem (problem_of passive active) (max_rows problem.passive problem.labels) (by_set (entries_to problem passive))
   pub out : IsLowerStep (problem_of passive active) (problem_of active passive) (max_rows (below active) (length active.sets)) (by_set (entries_within active))
   pub back : IsLowerStep (problem_of active passive) (problem_of passive active) (max_rows (below passive) (length passive.sets)) (by_set (entries_within passive))
   pub renamed : IsRenamed (problem_of passive active) (problem_of passive active) (count_from 0 (length active.sets))
   pub means : (T : ℕ) → (Zero (problem_of active passive) → ⊥) → Solvable problem T → ⊥
 
-abbrev pub ChainLaw : Type 0
-ChainLaw = (problem : Problem) (active passive : Family) → IsProblem problem → AreClosure problem active passive → IsChain problem active passive
+abbrev pub ClosureBoundLaw : Type 0
+ClosureBoundLaw = (problem : Problem) (active passive : Family) → IsProblem problem → AreClosure problem active passive → IsClosureBound problem active passive

@@ -1,7 +1,7 @@
 //! Why closed lists of lines give fixed points: laws alone, no code.
 #![tactic(auto)]
 
-ghost use Rattle.re_closure_laws.specs.Laws.{ChainLaw, ClosureExistsLaw, ClosureFamiliesLaw, ClosureUniqueLaw, FirstStepLaw, FixedLaw, GeneratedLaw, MarkedLaw, MaximalLinesLaw, StepLaw, ZeroLinesLaw};
+ghost use Rattle.re_closure_laws.specs.Laws.{ClosureBoundLaw, ClosureExistsLaw, ClosureFamiliesLaw, ClosureUniqueLaw, FirstStepLaw, FixedLaw, GeneratedLaw, MarkedLaw, MaximalLinesLaw, StepLaw, ZeroLinesLaw};
 
 /// The maximal rows over labels that stand for sets are those of the lines.
 pub fn maximal_lines_law()
@@ -54,6 +54,6 @@ pub fn closure_families_law()
 {}
 
 /// From a problem lower steps lead to its closure and back, whatever the problem is.
-pub fn chain_law()
-    ensures { ChainLaw }
+pub fn closure_bound_law()
+    ensures { ClosureBoundLaw }
 {}

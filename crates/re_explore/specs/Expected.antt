@@ -1,5 +1,5 @@
 -- What `explore` answers to words and bytes.
-use Rattle.std.specs.Prelude.{◌≡◌, ℕ, Bool, List, Option, None, Some, IsTrue}
+use Rattle.std.specs.Prelude.{◌≡◌, ℕ, Bool, List, Option, None, Some}
 use Rattle.re_frame.specs.Outcomes.{Outcome}
 use Rattle.re_frame.specs.Runs.{MaySay}
 use Rattle.re_frame.specs.declared.status.Status.{Status}
@@ -14,10 +14,6 @@ IsExpected words bytes outcome = IsOutcome (command_of words) bytes outcome
 -- the words name a command that reads its input
 abbrev pub reads_input : List (List ℕ) → Bool
 reads_input words = is_reading (command_of words)
-
--- the bytes that a source tells are these, or the command reads none
-abbrev pub IsInput : List (List ℕ) → Option (List ℕ) → List ℕ → Type 0
-IsInput words left bytes = IsTrue (reads_input words) → left ≡ Some bytes
 
 -- BadWords where there is no command, and else what that may answer
 abbrev pub Says : Status → Option Command → Type 0

@@ -3,13 +3,13 @@ ghost use Rattle.std.specs.Prelude.{◌≡◌, ◌≤◌, ◌↔◌, List, ℕ, 
 ghost use Rattle.std.specs.Io.KnownBytes.{Appends, Keeps};
 ghost use Rattle.re_io.specs.Faults.{Rose};
 ghost use Rattle.re_explore.specs.Commands.{command_of, is_judging};
-ghost use Rattle.re_explore.specs.Expected.{IsExpected, IsInput, Says, reads_input};
+ghost use Rattle.re_explore.specs.Expected.{IsExpected, Says, reads_input};
 ghost use Rattle.re_explore.specs.Worth.{TextWorth};
 ghost use Rattle.re_frame.specs.Outcomes.{IsAnswer, Outcome, outcome_of, status_of};
-ghost use Rattle.re_frame.specs.Runs.{Answers, StopsWithin, TakesInput};
+ghost use Rattle.re_frame.specs.Runs.{Answers, StopsWithin, TakesInput, Tells};
 
 use crate::command::{Command, bad_words, command_from, help};
-use re_frame::{Output, Status, Stop, answer_input, find_input, put_output};
+use re_frame::{Output, OutputFault, Status, answer_input, find_input, put_output};
 use re_inputs::input_output;
 use re_io::{MAX_BYTES, Sink, Source};
 use re_settle_given::SettleText;
@@ -17,13 +17,17 @@ use re_why::Why;
 use std::alloc::Global;
 
 // The output for the words, from the source where the command reads.
-fn output_from<S: Source>(alloc: Global, words: &[String], source: &mut S) -> Result<Output, Stop>
-    ensures output { IfOk result (λ output. (bytes : List ℕ) → IsInput (map string_bytes words.now) (S.left source.old) bytes →
+fn output_from<S: Source>(
+    alloc: Global,
+    words: &[String],
+    source: &mut S,
+) -> Result<Output, OutputFault>
+    ensures output { IfOk result (λ output. (bytes : List ℕ) → Tells (reads_input (map string_bytes words.now)) (S.left source.old) bytes →
         IsExpected (map string_bytes words.now) bytes (outcome_of output)) }
     ensures says { IfOk result (λ output. Says (status_of output.answer) (command_of (map string_bytes words.now))) }
-    ensures read_fault { IsErrOf result Stop.ReadFault →
+    ensures read_fault { IsErrOf result OutputFault.ReadFault →
         IsTrue (reads_input (map string_bytes words.now)) × Rose (S.faults source.old) (S.faults source.new) }
-    ensures read_within { IsErrOf result Stop.ReadFault → TakesInput (S.left source.old) (S.left source.new) }
+    ensures read_within { IsErrOf result OutputFault.ReadFault → TakesInput (S.left source.old) (S.left source.new) }
     ensures emptied { IsOk result → IsTrue (reads_input (map string_bytes words.now)) →
         (bytes : List ℕ) → S.left source.old ≡ Some bytes → length bytes ≤ MAX_BYTES → S.left source.new ≡ Some [] }
     ensures not_read { IsFalse (reads_input (map string_bytes words.now)) → source.new ≡ source.old }
@@ -54,7 +58,7 @@ pub fn run<S: Source, K: Sink>(
     sink: &mut K,
 ) -> Status
     // Done, No, BadWords, BadInput and Limit come as the words and the bytes say, with exactly the text of that outcome.
-    ensures answer { IsAnswer result → (bytes : List ℕ) → IsInput (map string_bytes words.now) (S.left source.old) bytes →
+    ensures answer { IsAnswer result → (bytes : List ℕ) → Tells (reads_input (map string_bytes words.now)) (S.left source.old) bytes →
         (outcome : Outcome) × IsExpected (map string_bytes words.now) bytes outcome × Answers result (K.written sink.old) (K.written sink.new) outcome }
 
     // Whatever the source tells: BadWords exactly where the words are no command, and No only to a command that judges.
@@ -66,7 +70,7 @@ pub fn run<S: Source, K: Sink>(
         IsTrue (reads_input (map string_bytes words.now)) × Rose (S.faults source.old) (S.faults source.new) }
     ensures read_within { result ≡ Status.ReadFault → TakesInput (S.left source.old) (S.left source.new) }
     ensures write_fault { result ≡ Status.WriteFault → Rose (K.faults sink.old) (K.faults sink.new) }
-    ensures partly { result ≡ Status.WriteFault → (bytes : List ℕ) → IsInput (map string_bytes words.now) (S.left source.old) bytes →
+    ensures partly { result ≡ Status.WriteFault → (bytes : List ℕ) → Tells (reads_input (map string_bytes words.now)) (S.left source.old) bytes →
         (outcome : Outcome) × IsExpected (map string_bytes words.now) bytes outcome × StopsWithin (K.written sink.old) (K.written sink.new) outcome.text }
     ensures read_nothing_written { result ≡ Status.ReadFault → sink.new ≡ sink.old }
     ensures memory_nothing_written { result ≡ Status.NoMemory → Keeps (K.written sink.old) (K.written sink.new) }
@@ -74,7 +78,7 @@ pub fn run<S: Source, K: Sink>(
     // What is written with Done by the words that make certificates: it is read again as the certificate that was made, which is a sound
     // chain or, where it was searched for, one that goes on from the given chain and that `check` accepts, or that `given` accepts behind a
     // line `== given`.
-    ensures text_worth { result ≡ Status.Done → (bytes : List ℕ) → IsInput (map string_bytes words.now) (S.left source.old) bytes →
+    ensures text_worth { result ≡ Status.Done → (bytes : List ℕ) → Tells (reads_input (map string_bytes words.now)) (S.left source.old) bytes →
         (text : List ℕ) × Appends (K.written sink.old) (K.written sink.new) text × TextWorth (command_of (map string_bytes words.now)) bytes text }
 
     // What is left of the input.
@@ -88,7 +92,7 @@ pub fn run<S: Source, K: Sink>(
 {
     match output_from(alloc, words, source) {
         Ok(output) => put_output(&output, sink),
-        Err(Stop::ReadFault) => Status::ReadFault,
-        Err(Stop::NoMemory) => Status::NoMemory,
+        Err(OutputFault::ReadFault) => Status::ReadFault,
+        Err(OutputFault::NoMemory) => Status::NoMemory,
     }
 }

@@ -1,5 +1,5 @@
 -- What a run takes from its source, and what it leaves in its sink.
-use Rattle.std.specs.Prelude.{◌≡◌, ◌≢◌, ◌≤◌, ℕ, Bool, List, [], length, Option, IsTrue}
+use Rattle.std.specs.Prelude.{◌≡◌, ◌≢◌, ◌≤◌, ℕ, Bool, List, [], length, Option, Some, IsTrue}
 use Rattle.std.specs.Io.KnownBytes.{Appends, Consumes}
 use Rattle.re_io.specs.declared.read.TheConstants.{MAX_BYTES}
 use Rattle.re_io.specs.Sink.{AppendsPrefix}
@@ -10,6 +10,10 @@ use Rattle.re_frame.specs.declared.status.Status.TheVariants.{BadWords, No}
 -- the bytes that were taken are no more than an input may have
 abbrev pub TakesInput : Option (List ℕ) → Option (List ℕ) → Type 0
 TakesInput before after = (bytes : List ℕ) × Consumes before after bytes × (length bytes ≤ MAX_BYTES)
+
+-- the bytes that a source tells are these, where any are read
+abbrev pub Tells : Bool → Option (List ℕ) → List ℕ → Type 0
+Tells reading left bytes = IsTrue reading → left ≡ Some bytes
 
 -- what a command may answer: it is one, and No only where it judges
 abbrev pub MaySay : Status → Bool → Type 0

@@ -4,7 +4,7 @@ ghost use Rattle.re_io.specs.Faults.{Rose};
 ghost use Rattle.re_frame.specs.Outcomes.{Outcome, outcome_of, status_of, within_limit};
 ghost use Rattle.re_frame.specs.Runs.{MaySay, TakesInput};
 
-use crate::output::{Output, Stop, too_long};
+use crate::output::{Output, OutputFault, too_long};
 use crate::status::Answer;
 use re_io::{LineFault, MAX_BYTES, Source, read_all};
 use re_labels::NoMemory;
@@ -39,7 +39,7 @@ pub fn answer_input<C: Answering, S: Source>(
     alloc: Global,
     command: &C,
     source: &mut S,
-) -> Result<Output, Stop>
+) -> Result<Output, OutputFault>
     requires { C.fits command.now }
     ensures output { IfOk result (λ output. (bytes : List ℕ) → S.left source.old ≡ Some bytes →
         outcome_of output ≡ within_limit (C.outcome command.now) bytes) }
@@ -47,15 +47,15 @@ pub fn answer_input<C: Answering, S: Source>(
     ensures worth { IfOk result (λ output. output.answer ≡ Answer.Done → C.worth command.now output.text.items) }
     ensures emptied { IfOk result (λ _. (bytes : List ℕ) → S.left source.old ≡ Some bytes →
         length bytes ≤ MAX_BYTES → S.left source.new ≡ Some []) }
-    ensures fault { IsErrOf result Stop.ReadFault → Rose (S.faults source.old) (S.faults source.new) }
-    ensures within { IsErrOf result Stop.ReadFault → TakesInput (S.left source.old) (S.left source.new) }
+    ensures fault { IsErrOf result OutputFault.ReadFault → Rose (S.faults source.old) (S.faults source.new) }
+    ensures within { IsErrOf result OutputFault.ReadFault → TakesInput (S.left source.old) (S.left source.new) }
     ensures later { S.faults source.old ≤ S.faults source.new }
 {
     let bytes = match read_all(alloc, source) {
         Ok(bytes) => bytes,
-        Err(LineFault::ReadFault) => return Err(Stop::ReadFault),
+        Err(LineFault::ReadFault) => return Err(OutputFault::ReadFault),
         Err(LineFault::InputTooLong) => return Ok(too_long(alloc)?),
-        Err(LineFault::NoMemory) => return Err(Stop::NoMemory),
+        Err(LineFault::NoMemory) => return Err(OutputFault::NoMemory),
     };
     Ok(command.answer(alloc, bytes)?)
 }

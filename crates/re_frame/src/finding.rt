@@ -5,7 +5,7 @@ ghost use Rattle.re_frame.specs.Answers.{MayAnswer};
 ghost use Rattle.re_frame.specs.Outcomes.{Outcome, outcome_of, status_of};
 ghost use Rattle.re_frame.specs.Runs.{MaySay, TakesInput};
 
-use crate::{Output, Stop, too_long};
+use crate::{Output, OutputFault, too_long};
 use re_io::{LineFault, MAX_BYTES, Source, read_all};
 use re_labels::NoMemory;
 use std::alloc::Global;
@@ -34,22 +34,22 @@ pub fn find_input<F: Finding, S: Source>(
     alloc: Global,
     command: &F,
     source: &mut S,
-) -> Result<Output, Stop>
+) -> Result<Output, OutputFault>
     requires { F.fits command.now }
     ensures output { IfOk result (λ output. (bytes : List ℕ) → S.left source.old ≡ Some bytes →
         MayAnswer (F.may command.now) bytes (outcome_of output)) }
     ensures says { IfOk result (λ output. MaySay (status_of output.answer) (F.judging command.now)) }
     ensures emptied { IfOk result (λ _. (bytes : List ℕ) → S.left source.old ≡ Some bytes →
         length bytes ≤ MAX_BYTES → S.left source.new ≡ Some []) }
-    ensures fault { IsErrOf result Stop.ReadFault → Rose (S.faults source.old) (S.faults source.new) }
-    ensures within { IsErrOf result Stop.ReadFault → TakesInput (S.left source.old) (S.left source.new) }
+    ensures fault { IsErrOf result OutputFault.ReadFault → Rose (S.faults source.old) (S.faults source.new) }
+    ensures within { IsErrOf result OutputFault.ReadFault → TakesInput (S.left source.old) (S.left source.new) }
     ensures later { S.faults source.old ≤ S.faults source.new }
 {
     let bytes = match read_all(alloc, source) {
         Ok(bytes) => bytes,
-        Err(LineFault::ReadFault) => return Err(Stop::ReadFault),
+        Err(LineFault::ReadFault) => return Err(OutputFault::ReadFault),
         Err(LineFault::InputTooLong) => return Ok(too_long(alloc)?),
-        Err(LineFault::NoMemory) => return Err(Stop::NoMemory),
+        Err(LineFault::NoMemory) => return Err(OutputFault::NoMemory),
     };
     Ok(command.find(alloc, bytes)?)
 }

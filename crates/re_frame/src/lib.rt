@@ -15,7 +15,7 @@ mod verdicts;
 
 pub use answering::{Answering, answer_input};
 pub use finding::{Finding, find_input};
-pub use output::{Output, Stop, done, limit_of, limited, refused, too_long};
+pub use output::{Output, OutputFault, done, limit_of, limited, refused, too_long};
 pub use putting::put_output;
 pub use search_lines::{not_found_output, not_lower_output, not_upper_output, solvable_output};
 pub use status::{Answer, Status};

@@ -1,7 +1,7 @@
 // What a command makes: an answer and its text.
 ghost use Rattle.std.specs.Prelude.{◌≡◌, IfOk};
 ghost use Rattle.re_frame.specs.Outcomes.{done as done_with, limit as limit_with, limit_of as limit_of_with, outcome_of, refused as refused_with, too_long as is_too_long};
-ghost use Rattle.re_frame.specs.declared.output.Stop.TheVariants.{NoMemory as no_memory};
+ghost use Rattle.re_frame.specs.declared.output.OutputFault.TheVariants.{NoMemory as no_memory};
 
 use crate::status::Answer;
 use crate::text::{begun, push_number, push_words};
@@ -17,24 +17,24 @@ pub struct Output {
 
 /// Why there is no output.
 #[derive(Clone, Copy, Debug, PartialEq, Eq)]
-pub enum Stop {
+pub enum OutputFault {
     ReadFault,
     NoMemory,
 }
 
-impl From<AllocError> for Stop {
+impl From<AllocError> for OutputFault {
     ghost from_gives = { λ _ e. e ≡ no_memory };
 
     fn from(_: AllocError) -> Self {
-        Stop::NoMemory
+        OutputFault::NoMemory
     }
 }
 
-impl From<NoMemory> for Stop {
+impl From<NoMemory> for OutputFault {
     ghost from_gives = { λ _ e. e ≡ no_memory };
 
     fn from(_: NoMemory) -> Self {
-        Stop::NoMemory
+        OutputFault::NoMemory
     }
 }
 

@@ -1,6 +1,6 @@
 //! Gadgets: parts of graphs with free ends, each an edge that leads out of the part.
 use crate::multisets::{Multiset, is_part, set_of, split_at_own};
-use crate::relations::{relation_of, turned};
+use crate::relations::{relation_of, transposed};
 use re_labels::{LabelSet, NoMemory, Side};
 use std::alloc::Global;
 
@@ -20,7 +20,7 @@ pub(crate) enum Allowed {
 #[derive(Clone, Copy)]
 pub(crate) struct Turn {
     pub place: usize,
-    pub turned: bool,
+    pub reversed: bool,
 }
 
 /// How a gadget, or a graph without free ends, is made of others, which have these numbers.
@@ -73,31 +73,31 @@ pub(crate) fn views(place: usize, gadget: &Gadget) -> Option<(View<'_>, View<'_>
     let straight = View {
         turn: Turn {
             place,
-            turned: false,
+            reversed: false,
         },
         left: *left,
         right: *right,
         rows: rows.as_slice(),
         columns: columns.as_slice(),
     };
-    let turned = View {
+    let reversed = View {
         turn: Turn {
             place,
-            turned: true,
+            reversed: true,
         },
         left: *right,
         right: *left,
         rows: columns.as_slice(),
         columns: rows.as_slice(),
     };
-    Some((straight, turned))
+    Some((straight, reversed))
 }
 
 /// The strand the other way round.
 pub(crate) fn other_way(turn: Turn) -> Turn {
     Turn {
         place: turn.place,
-        turned: !turn.turned,
+        reversed: !turn.reversed,
     }
 }
 
@@ -108,7 +108,7 @@ pub(crate) fn strand_of(
     right: Side,
     rows: Vec<LabelSet>,
 ) -> Result<Allowed, NoMemory> {
-    let columns = turned(alloc, rows.as_slice())?;
+    let columns = transposed(alloc, rows.as_slice())?;
     Ok(Allowed::Strand(left, right, rows, columns))
 }
 

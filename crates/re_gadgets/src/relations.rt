@@ -42,7 +42,7 @@ pub(crate) fn relation_of(
 }
 
 /// The relation the other way round.
-pub(crate) fn turned(alloc: Global, rows: &[LabelSet]) -> Result<Vec<LabelSet>, NoMemory> {
+pub(crate) fn transposed(alloc: Global, rows: &[LabelSet]) -> Result<Vec<LabelSet>, NoMemory> {
     let labels = rows.len().min(MAX_LABELS as usize) as u8;
     let mut columns = nothing(alloc, labels)?;
     for (first, row) in (0..labels).zip(rows) {

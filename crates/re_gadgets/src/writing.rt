@@ -67,7 +67,7 @@ impl Draft {
 
     // Asks for a strand from the first edge to the second one.
     fn ask_strand(&mut self, turn: Turn, from: u16, to: u16) -> Result<(), NoMemory> {
-        if turn.turned {
+        if turn.reversed {
             self.ask(turn.place, &[to, from])
         } else {
             self.ask(turn.place, &[from, to])

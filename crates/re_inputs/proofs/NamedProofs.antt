@@ -20,7 +20,7 @@ use Rattle.re_problem.proofs.Building.{all_occur-facts, constraint_named}
 use Rattle.re_problem.specs.NamedProblems.{IsNamedProblem, NamedProblem, built, unnamed}
 use Rattle.re_problem.specs.Problems.{IsProblem, Problem}
 use Rattle.re_table.specs.Constraints.{Constraint}
-use Rattle.re_inputs.specs.NamedInputs.{ColouringFamilyLaw, InputsLaw, NamedInputsLaw, edge_colours, fits, input_of, named, oriented, turned}
+use Rattle.re_inputs.specs.NamedInputs.{ColouringFamilyLaw, InputsLaw, NamedInputsLaw, edge_colours, fits, input_of, named, oriented, named_exchanged}
 use Rattle.re_inputs.specs.declared.kinds.InputKind.{InputKind}
 use Rattle.re_inputs.specs.declared.kinds.InputKind.TheVariants.{Both, Colouring, Edges, Nothing, Orientation, Sides}
 
@@ -45,8 +45,8 @@ named_built names active passive is =
 pub named_input : (problem : Problem) (given : NamedProblem) → IsNames given.names → IsInput problem (unnamed given) → IsNamedProblem given
 named_input problem given names is = record { names = names; problem = is.is_problem; occur = λ label l. inl ((is.occurs label l).0) }
 
-pub named_turned : (problem : NamedProblem) → IsNamedProblem problem → IsNamedProblem (turned problem)
-named_turned problem is = record {
+pub named_exchanged-named : (problem : NamedProblem) → IsNamedProblem problem → IsNamedProblem (named_exchanged problem)
+named_exchanged-named problem is = record {
   names = is.names;
   problem = record { active = is.problem.passive; passive = is.problem.active };
   occur = λ label l. elim (is.occur label l) [ inl h ↦ inr h | inr h ↦ inl h ];
@@ -152,8 +152,8 @@ inputs Both problem n is e = input_oriented true problem is
 inputs Nothing problem n is e = input_nothing n problem is
 
 -- ---- each is the input problem of the laws
-pub turned_colouring : (a p n : ℕ) → unnamed (turned (family_of family.Colouring p a n)) ≡ examples.edge_colouring a p n
-turned_colouring a p n = ap exchanged (colouring_family p a n)
+pub exchanged_colouring : (a p n : ℕ) → unnamed (named_exchanged (family_of family.Colouring p a n)) ≡ examples.edge_colouring a p n
+exchanged_colouring a p n = ap exchanged (colouring_family p a n)
 
 oriented_is : (mixed : Bool) (a p : ℕ) → unnamed (oriented mixed a p) ≡ cond mixed (examples.oriented_both a p) (examples.oriented a p)
 unfolding family_of
@@ -176,7 +176,7 @@ nothing_is number problem is =
 pub named_inputs : NamedInputsLaw
 named_inputs Colouring problem n is e = colouring_family problem.active.degree problem.passive.degree n
 named_inputs Sides problem n is e = colouring_family problem.active.degree 2 2
-named_inputs Edges problem n is e = turned_colouring problem.active.degree problem.passive.degree (edge_colours problem.active.degree n)
+named_inputs Edges problem n is e = exchanged_colouring problem.active.degree problem.passive.degree (edge_colours problem.active.degree n)
 named_inputs Orientation problem n is e = oriented_is false problem.active.degree problem.passive.degree
 named_inputs Both problem n is e = oriented_is true problem.active.degree problem.passive.degree
 named_inputs Nothing problem n is e = nothing_is n problem is

@@ -27,8 +27,8 @@ abbrev pub named : List (List ℕ) → Constraint → Constraint → NamedProble
 named names active passive = record { names = names; active = active; passive = passive }
 
 -- the problem with its sides exchanged
-abbrev pub turned : NamedProblem → NamedProblem
-turned problem = record { names = problem.names; active = problem.passive; passive = problem.active }
+abbrev pub named_exchanged : NamedProblem → NamedProblem
+named_exchanged problem = record { names = problem.names; active = problem.passive; passive = problem.active }
 
 -- whether edges of these labels may be those of an active node: in any way, or of both labels
 abbrev pub may_stand : Bool → List ℕ → Bool
@@ -51,7 +51,7 @@ edge_colours active number = if number == 0 then active else number
 -- one of the passive nodes with its sides exchanged
 abbrev pub input_of : InputKind → ℕ → ℕ → ℕ → NamedProblem
 input_of Colouring active passive number = family_of family.Colouring active passive number
-input_of Edges active passive number = turned (family_of family.Colouring passive active (edge_colours active number))
+input_of Edges active passive number = named_exchanged (family_of family.Colouring passive active (edge_colours active number))
 input_of Sides active passive number = family_of family.Colouring active 2 2
 input_of Orientation active passive number = oriented false active passive
 input_of Both active passive number = oriented true active passive

@@ -12,7 +12,7 @@ ghost use Rattle.re_inputs.specs.NamedProducts.{NamedProductLaw};
 
 pub use input_words::{InputWord, input_help, input_output, input_word};
 pub use kinds::{InputKind, fits};
-pub use making::{input, turned};
+pub use making::{exchanged, input};
 pub use products::{ProductFault, pair_name, product};
 
 /// Each of them is an input problem of each problem of its degrees.

@@ -2,7 +2,7 @@
 ghost use Rattle.re_config.specs.Configs.{sorted};
 ghost use Rattle.re_config.specs.Orders.{multisets};
 ghost use Rattle.re_families.specs.Families.{family_of, out_of_range};
-ghost use Rattle.re_inputs.specs.NamedInputs.{edge_colours, fits, input_of, may_stand, named, oriented, oriented_constraint, turned};
+ghost use Rattle.re_inputs.specs.NamedInputs.{edge_colours, fits, input_of, may_stand, named, oriented, oriented_constraint, named_exchanged};
 ghost use Rattle.re_labels.specs.ListSets.{with_list};
 ghost use Rattle.re_problem.specs.NamedProblems.{IsNamedProblem};
 ghost use Rattle.std.specs.List.{AllByRecursion};
@@ -99,8 +99,8 @@ pub(crate) fn problem_of(active: Constraint, passive: Constraint, names: Names) 
 }
 
 /// The problem with its two sides exchanged.
-pub fn turned(alloc: Global, problem: &Problem) -> Result<Problem, NoMemory>
-    ensures { IfOk result (λ next. next ≡ turned problem.now) }
+pub fn exchanged(alloc: Global, problem: &Problem) -> Result<Problem, NoMemory>
+    ensures { IfOk result (λ next. next ≡ named_exchanged problem.now) }
 {
     let active = problem.passive().copy()?;
     let passive = problem.active().copy()?;
@@ -121,7 +121,7 @@ fn edges(alloc: Global, active: u8, passive: u8, number: u8) -> Result<Problem, 
 {
     let colours = edge_colours(active, number);
     let nodes = family_problem(alloc, Family::Colouring, passive, active, colours)?;
-    turned(alloc, &nodes)
+    exchanged(alloc, &nodes)
 }
 
 fn oriented(alloc: Global, mixed: bool, active: u8, passive: u8) -> Result<Problem, NoMemory>

@@ -24,14 +24,14 @@ unfoldable pub problem_mark : NamedProblem → ℕ
 problem_mark problem = (3 * constraint_mark problem.active + constraint_mark problem.passive) % 2 ^ 64
 
 -- the configuration with one label in place of another
-abbrev pub exchanged : ℕ → ℕ → List ℕ → List ℕ
-exchanged from to config = map (λ label. if label == from then to else label) config
+abbrev pub replaced : ℕ → ℕ → List ℕ → List ℕ
+replaced from to config = map (λ label. if label == from then to else label) config
 
 -- where a change makes the number of one label that of another, it makes the number of a configuration, once for each time that the one label stands there,
 -- that of the configuration in which it has become the other
 abbrev pub MovedMarkLaw : Type 0
 MovedMarkLaw = (config : List ℕ) (from to change : ℕ) → (label_mark from + change) % 2 ^ 64 ≡ label_mark to % 2 ^ 64 →
-    (config_mark config + times_in config from change) % 2 ^ 64 ≡ config_mark (exchanged from to config)
+    (config_mark config + times_in config from change) % 2 ^ 64 ≡ config_mark (replaced from to config)
 
 -- problems of which the one is the other under other names have colours of one mark
 abbrev pub ColoursLaw : Type 0

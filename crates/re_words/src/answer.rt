@@ -10,7 +10,7 @@ ghost use Rattle.re_frame.specs.Runs.{MaySay, TakesInput};
 
 use crate::check::check;
 use crate::command::{Command, Streaming};
-use re_frame::{Answer, Output, Stop};
+use re_frame::{Answer, Output, OutputFault};
 use re_io::{MAX_BYTES, Source};
 use std::alloc::Global;
 
@@ -20,7 +20,7 @@ pub fn stream<S: Source>(
     alloc: Global,
     streaming: Streaming,
     source: &mut S,
-) -> Result<Output, Stop>
+) -> Result<Output, OutputFault>
     ensures output { IfOk result (λ output. (bytes : List ℕ) → S.left source.old ≡ Some bytes →
         outcome_of output ≡ within_limit (streaming_outcome streaming) bytes) }
     ensures says { IfOk result (λ output. MaySay (status_of output.answer) (judges (Command.Streams streaming))) }
@@ -28,8 +28,8 @@ pub fn stream<S: Source>(
         (bytes : List ℕ) → S.left source.old ≡ Some bytes → WritesBound bytes (certificate_of (text_lines bytes)).kind (length (certificate_of (text_lines bytes)).steps)) }
     ensures emptied { IfOk result (λ _. (bytes : List ℕ) → S.left source.old ≡ Some bytes →
         length bytes ≤ MAX_BYTES → S.left source.new ≡ Some []) }
-    ensures fault { IsErrOf result Stop.ReadFault → Rose (S.faults source.old) (S.faults source.new) }
-    ensures within { IsErrOf result Stop.ReadFault → TakesInput (S.left source.old) (S.left source.new) }
+    ensures fault { IsErrOf result OutputFault.ReadFault → Rose (S.faults source.old) (S.faults source.new) }
+    ensures within { IsErrOf result OutputFault.ReadFault → TakesInput (S.left source.old) (S.left source.new) }
     ensures later { S.faults source.old ≤ S.faults source.new }
 {
     match streaming {

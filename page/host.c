@@ -93,57 +93,7 @@ const void *__x86_get_cpuid_feature_leaf(i32 leaf) {
     return features;
 }
 
-// ---- Numbers of 128 bits.
+// ---- Numbers of 128 bits are calculated by compiler-rt, whose functions were compiled to watch over their stack by these two names.
 
-typedef unsigned __int128 u128;
-typedef union { u128 all; struct { u64 low, high; } part; } Halves;
-
-u128 __ashlti3(u128 a, i32 n) {
-    Halves x = { a }, y;
-    if (n == 0) return a;
-    y.part.low = n < 64 ? x.part.low << n : 0;
-    y.part.high = n < 64 ? x.part.high << n | x.part.low >> (64 - n) : x.part.low << (n - 64);
-    return y.all;
-}
-
-u128 __lshrti3(u128 a, i32 n) {
-    Halves x = { a }, y;
-    if (n == 0) return a;
-    y.part.high = n < 64 ? x.part.high >> n : 0;
-    y.part.low = n < 64 ? x.part.low >> n | x.part.high << (64 - n) : x.part.high >> (n - 64);
-    return y.all;
-}
-
-// The product of the low halves by their halves of 32 bits, and what the high halves add.
-u128 __multi3(u128 a, u128 b) {
-    Halves x = { a }, y = { b }, product;
-    const u64 half = 0xffffffffUL;
-    u64 x0 = x.part.low & half, x1 = x.part.low >> 32, y0 = y.part.low & half, y1 = y.part.low >> 32;
-    u64 lowest = x0 * y0, cross = x1 * y0 + (lowest >> 32), other = x0 * y1 + (cross & half);
-    product.part.low = other << 32 | (lowest & half);
-    product.part.high = x1 * y1 + (cross >> 32) + (other >> 32) + x.part.high * y.part.low + x.part.low * y.part.high;
-    return product.all;
-}
-
-// The quotient of a by b, bit after bit, and what is left of a. No program divides by 0: that is proved.
-static u128 divided(u128 a, u128 b, u128 *left) {
-    Halves x = { a }, y = { b }, quotient = { 0 };
-    if (!x.part.high && !y.part.high) {
-        *left = x.part.low % y.part.low;
-        return x.part.low / y.part.low;
-    }
-    u128 rest = 0;
-    for (i32 n = 127; n >= 0; n--) {
-        u64 bit = (n < 64 ? x.part.low >> n : x.part.high >> (n - 64)) & 1, carry = rest >> 127;
-        rest = rest << 1 | bit;
-        if (!carry && rest < b) continue;
-        rest -= b;
-        if (n < 64) quotient.part.low |= 1UL << n;
-        else quotient.part.high |= 1UL << (n - 64);
-    }
-    *left = rest;
-    return quotient.all;
-}
-
-u128 __udivti3(u128 a, u128 b) { u128 left; return divided(a, b, &left); }
-u128 __umodti3(u128 a, u128 b) { u128 left; divided(a, b, &left); return left; }
+u64 __stack_chk_guard;
+void __stack_chk_fail(void) { __builtin_trap(); }

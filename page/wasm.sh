@@ -6,7 +6,8 @@
 # The crate is checked and built as `rt ci` builds a program, over the libraries that `rt ci` proved and left in their out/. With
 # --unproved `rt try` builds it without its proof, for work on the page, and NATIVE becomes the program of the same module for this
 # machine. On the way the compiler puts the program together as one LLVM module. This is kept and compiled once more, for WebAssembly
-# with 64-bit memory, linked with host.c, and lowered to 32-bit memory by Binaryen.
+# with 64-bit memory, linked with host.c and with compiler-rt of Debian's package libclang-rt-dev-wasm64, and lowered to 32-bit memory by
+# Binaryen.
 set -euo pipefail
 here=$(cd "$(dirname "$0")" && pwd)
 crate=$(realpath "${1:?the folder of a crate}") out=$(realpath -m "${2:?the module to write}") how=${3:-} native=${4:+$(realpath -m "$4")}
@@ -57,9 +58,11 @@ target=(--target=wasm64-unknown-unknown -mbulk-memory -O2)
 quiet() { "$@" 2> >(grep -v 'not a recognized processor' >&2); }
 quiet "$clang" "${target[@]}" -Wno-override-module -c -x ir "$folder/module.bc" -o "$folder/program.o"
 "$clang" "${target[@]}" -nostdlib -ffreestanding -c "$here/host.c" -o "$folder/host.o"
+builtins=$(find /usr/lib -path '*/wasi/libclang_rt.builtins-wasm64.a' | sort -V | tail -n 1)
+[ -n "$builtins" ] || { echo "wasm.sh: Debian's package libclang-rt-dev-wasm64 is needed" >&2; exit 1; }
 # The linker is the one for WebAssembly by its name. `__original_main` is what clang calls `main` without parameters.
 ln -s "$kit/toolchain/bin/ld.lld" "$folder/wasm-ld"
-"$folder/wasm-ld" -mwasm64 --no-entry --export=__original_main --stack-first -z stack-size=8388608 "$folder/program.o" "$folder/host.o" -o "$folder/wide.wasm"
+"$folder/wasm-ld" -mwasm64 --no-entry --export=__original_main --stack-first -z stack-size=8388608 "$folder/program.o" "$folder/host.o" "$builtins" -o "$folder/wide.wasm"
 wasm-opt "$folder/wide.wasm" --enable-memory64 --enable-bulk-memory --enable-sign-ext --enable-mutable-globals --memory64-lowering -O3 -o "$out"
 
 [ -n "$native" ] || exit 0

@@ -200,7 +200,6 @@ export class CardView {
         }
         show(this.facts.plain());
         await this.facts.grouped().then(show, () => {});
-        await this.facts.condensed().then(show, () => {});
     }
 
     // Rows and map of the step that leads to this card, out of the certificate that was judged.

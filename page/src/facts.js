@@ -1,10 +1,9 @@
 // What the program says of a problem, asked once for each canonical text.
-import {blockOf, problemText, SIDES, sideText} from './problems.js';
-import {textWithRowsOf} from './groups.js';
+import {blockOf, SIDES, sideText} from './problems.js';
 import {filledLines, labelsIn} from './texts.js';
 
 // Past so many configurations diagrams are asked for by a button, and past so many a problem isn't written in groups.
-const MANY = 20000, MOST_GROUPED = 200000, GROUPING_LIMIT = 10000, ROWS_LIMIT = 3000;
+const MANY = 20000, MOST_GROUPED = 200000, GROUPING_LIMIT = 10000;
 
 export class Facts {
     constructor(engine) {
@@ -71,41 +70,18 @@ class ProblemFacts {
         return {active: block('active'), passive: block('passive'), text: this.text};
     }
 
-    // The same in groups, by the simple rule.
+    // The same in groups, as `explore condense` writes it.
     async grouped() {
-        if (this.count > MOST_GROUPED) return this.plain();
-        return this.once('grouped',
-            async () =>
-                this.sameProblem(await this.engine.startWork('grouped', [this.text], {limit: GROUPING_LIMIT, title: 'groups'}).answer));
-    }
-
-    // The same in fewer lines: the maximal rows of a side spell exactly its configurations, and a few of them are often enough.
-    async condensed() {
-        if (this.isLarge) return this.grouped();
-        return this.once('condensed', async () => {
-            const {active, passive} = await this.grouped(), blocks = {active, passive};
-            for (const side of SIDES) {
-                const few = blocks[side].count < 3 ? null : await this.fewRows(side).catch(() => null);
-                if (few && few.length < blocks[side].count) blocks[side] = blockOf(few);
-            }
-            return this.sameProblem(blocks);
+        if (this.count > MOST_GROUPED || !this.engine.programs.explore) return this.plain();
+        return this.once('grouped', async () => {
+            const {status, text} =
+                await this.engine.ask('explore', ['condense'], this.text, {quiet: true, limit: GROUPING_LIMIT, title: 'groups'});
+            if (status !== 0) return this.plain();
+            const [active, passive] = SIDES.map(side => blockOf(filledLines(sideText(text, side))));
+            return {active, passive, text};
         });
     }
 
-    async fewRows(side) {
-        const {status, text} =
-            await this.engine.ask('re', ['universal'], textWithRowsOf(this.text, side), {quiet: true, limit: ROWS_LIMIT, title: 'groups'});
-        if (status !== 0) return null;
-        return this.engine.startWork('coveringLines', [this.text, side, text], {limit: ROWS_LIMIT, title: 'groups'}).answer;
-    }
-
-    // What certificates and copies hold: short texts, without a long wait.
-    written() { return this.count > 400 ? this.grouped() : this.condensed(); }
-
-    // Groups are used only where `re read` says that they spell this very problem.
-    async sameProblem({active, passive}) {
-        const text = problemText(this.problem, active, passive);
-        const read = await this.engine.ask('re', ['read'], text, {quiet: true});
-        return read.text === this.text ? {active, passive, text} : this.plain();
-    }
+    // What certificates and copies hold: groups, unless they take long.
+    written() { return this.grouped().catch(() => this.plain()); }
 }

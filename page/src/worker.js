@@ -1,7 +1,6 @@
 // A worker: runs the programs, and the page's own work on texts that may be large. The page sends the programs first.
 import {runProgram} from './program.js';
 import {describe, lineStarts, mapped, without, withArrow} from './problems.js';
-import {coveringLines, grouped} from './groups.js';
 import {findRelaxation, findRenaming} from './maps.js';
 import {layout} from './layout.js';
 import {packSession, readSession, sessionText, unpackSession} from './sessions.js';
@@ -16,8 +15,6 @@ const WORK = {
     mapped,
     without,
     withArrow,
-    grouped,
-    coveringLines,
     findRelaxation,
     findRenaming,
     layout,

@@ -1,7 +1,6 @@
 // The modules that handle texts alone, against the native program.
 import * as texts from '../src/texts.js';
 import * as problems from '../src/problems.js';
-import * as groups from '../src/groups.js';
 import * as certificates from '../src/certificates.js';
 import * as chains from '../src/chains.js';
 import * as sessions from '../src/sessions.js';
@@ -67,20 +66,12 @@ await about('problems', () => {
             text);
         const starts = problems.lineStarts(text);
         is('lines', [...starts.slice(0, -1)].map((start, i) => text.slice(start, starts[i + 1] - 1)), text.split('\n'));
-        // Groups spell the same problem, by either rule.
-        const {active: a, passive: p} = groups.grouped(text);
-        is('groups', answer(['read'], problems.problemText({active, passive}, a, p)), text);
-        for (const side of problems.SIDES) {
-            const rows = re(['universal'], groups.textWithRowsOf(text, side)),
-                  few = rows.status === 0 && rows.text.trim() ? groups.coveringLines(text, side, rows.text) : null;
-            if (few)
-                is('a few rows',
-                    answer(['read'],
-                        problems.problemText({active, passive},
-                            ...problems.SIDES.map(
-                                which => problems.blockOf(which === side ? few : filled(problems.sideText(text, which)))))),
-                    text);
-        }
+        // Groups spell the same problem, in no more lines.
+        const {status, text: few} = natively('explore', ['condense'], text);
+        is('groups', [status, answer(['read'], few)], [0, text]);
+        is('few lines', filled(few).length <= filled(text).length, true);
+        is('sides in groups', problems.SIDES.map(side => problems.sideText(few, side)),
+            few.trim().split('\n\n').map(block => block.startsWith('%') ? '' : block));
     }
     const lines = problems.mappedLines({active: ['A [BC]^2', 'B A^2'], passive: []}, [['A', 'B'], ['B', 'B'], ['C', 'C']]);
     is('a map of lines as written', lines, {active: ['B [BC]^2', 'B^3'], passive: []});

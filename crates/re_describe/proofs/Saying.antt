@@ -6,18 +6,20 @@ use Rattle.re_chain_texts.specs.ChainTexts.{chain_fault, text_bound}
 use Rattle.re_frame.proofs.Said.{fault_says}
 use Rattle.re_frame.specs.Outcomes.{Outcome}
 use Rattle.re_frame.specs.Runs.{MaySay}
-use Rattle.re_describe.specs.DescribeWords.{IsReportIn, MayDescribe, MayReport}
+use Rattle.re_describe.specs.DescribeWords.{IsGivenBy, MayDescribe, MayReport}
 use Rattle.re_describe.specs.declared.answering.DescribeWord.{DescribeWord}
-use Rattle.re_describe.specs.declared.answering.DescribeWord.TheVariants.{Latex, Markdown}
+use Rattle.re_describe.specs.declared.answering.DescribeWord.TheVariants.{Groups, Latex, Markdown}
 
-in_form_says : (word : DescribeWord) (bound : Bound) (outcome : Outcome) → IsReportIn word bound outcome → MaySay outcome.status false
-in_form_says Markdown bound outcome may = subst (λ status. MaySay status false) (sym may.status) tt
-in_form_says Latex bound outcome may = subst (λ status. MaySay status false) (sym may.status) tt
+given_says : (word : DescribeWord) (bytes : List ℕ) (bound : Bound) (outcome : Outcome) → IsGivenBy word bytes bound outcome → MaySay outcome.status false
+given_says Markdown bytes bound outcome may = subst (λ status. MaySay status false) (sym may.status) tt
+given_says Latex bytes bound outcome may = subst (λ status. MaySay status false) (sym may.status) tt
+given_says Groups bytes bound outcome may = subst (λ status. MaySay status false) (sym may.status) tt
 
-report_says : (word : DescribeWord) (fault : Option InputFault) (bound : Bound) (outcome : Outcome) → MayReport word fault bound outcome → MaySay outcome.status false
-report_says word (Some fault) bound outcome may = subst (λ (o : Outcome). MaySay o.status false) (sym may) (fault_says fault false)
-report_says word None bound outcome may = in_form_says word bound outcome may
+report_says : (word : DescribeWord) (fault : Option InputFault) (bytes : List ℕ) (bound : Bound) (outcome : Outcome) → MayReport word fault bytes bound outcome
+    → MaySay outcome.status false
+report_says word (Some fault) bytes bound outcome may = subst (λ (o : Outcome). MaySay o.status false) (sym may) (fault_says fault false)
+report_says word None bytes bound outcome may = given_says word bytes bound outcome may
 
 pub describe_says : (word : DescribeWord) (bytes : List ℕ) (outcome : Outcome) → MayDescribe word bytes outcome → MaySay outcome.status false
 unfolding MayDescribe
-describe_says word bytes outcome may = report_says word (chain_fault bytes) (text_bound bytes) outcome may
+describe_says word bytes outcome may = report_says word (chain_fault bytes) bytes (text_bound bytes) outcome may

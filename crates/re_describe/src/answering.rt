@@ -1,9 +1,11 @@
-//! The word, and what it answers.
-ghost use Rattle.re_describe.specs.DescribeWords.{IsReportIn, MayDescribe, describe_help, describe_word_of};
+//! The words, and what they answer.
+ghost use Rattle.re_chain_texts.specs.ChainTexts.{chain_fault, text_bound};
+ghost use Rattle.re_describe.specs.DescribeWords.{IsGivenBy, IsLatexReport, MayDescribe, describe_help, describe_word_of};
 ghost use Rattle.re_frame.specs.Outcomes.{outcome_of};
 ghost use Rattle.re_io.specs.declared.read.TheConstants.{MAX_BYTES};
-ghost use Rattle.std.specs.Prelude.{◌≡◌, ◌≤◌, IfOk, length, map, string_bytes};
+ghost use Rattle.std.specs.Prelude.{◌≡◌, ◌≤◌, IfOk, None, length, map, string_bytes};
 
+use crate::groups::in_groups;
 use crate::latex::in_latex;
 use crate::report;
 use re_cert::Certificate;
@@ -13,13 +15,16 @@ use re_labels::NoMemory;
 use re_problem::TextFault;
 use std::alloc::Global;
 
-/// The word `describe`, by the form of the report. It reads a certificate or a problem as a whole, and takes the time of `crate::report`.
+/// The word `describe`, by the form of the report, and the word `condense`. Each reads a certificate or a problem as a whole. It takes the
+/// time of `crate::report`, or that of `crate::condensed` for each constraint.
 #[derive(Clone, Copy, Debug, PartialEq, Eq)]
 pub enum DescribeWord {
     /// In Markdown.
     Markdown,
     /// In LaTeX, a part of a document.
     Latex,
+    /// No report, but the same certificate or problem with its configurations in groups.
+    Groups,
 }
 
 /// The word that the words are.
@@ -31,6 +36,8 @@ pub fn describe_word(words: &[String]) -> Option<DescribeWord>
         [word] => {
             if "describe" == word.as_str() {
                 Some(DescribeWord::Markdown)
+            } else if "condense" == word.as_str() {
+                Some(DescribeWord::Groups)
             } else {
                 None
             }
@@ -46,26 +53,38 @@ pub fn describe_word(words: &[String]) -> Option<DescribeWord>
     }
 }
 
-/// The line of help.
+/// The lines of help.
 #[tactic(auto, unfolding(crate::specs::DescribeWords::describe_help))]
 pub fn describe_help() -> &'static str
     ensures { result.now ≡ describe_help }
 {
-    "describe, describe latex: reads a certificate or a problem, gives a report on it in Markdown, or in LaTeX\n"
+    "describe, describe latex: reads a certificate or a problem, gives a report on it in Markdown, or in LaTeX\ncondense: reads a certificate or a problem, gives the same with its configurations in groups\n"
 }
 
-// The report on the certificate, in this form.
-fn reported(
-    alloc: Global,
-    certificate: &Certificate,
-    word: DescribeWord,
-) -> Result<Output, NoMemory>
-    ensures { IfOk result (λ output. IsReportIn word certificate.now (outcome_of output)) }
+// The report on the certificate, in LaTeX.
+fn latex_report(alloc: Global, certificate: &Certificate) -> Result<Output, NoMemory>
+    ensures { IfOk result (λ output. IsLatexReport certificate.now (outcome_of output)) }
 {
     let text = report(alloc, certificate)?;
+    Ok(done(in_latex(alloc, text.as_slice())?))
+}
+
+// What the word gives to the text of this certificate.
+fn given(
+    alloc: Global,
+    word: DescribeWord,
+    text: &[u8],
+    certificate: &Certificate,
+) -> Result<Output, NoMemory>
+    requires short { length text.now ≤ MAX_BYTES }
+    requires right { chain_fault text.now ≡ None }
+    requires written { text_bound text.now ≡ certificate.now }
+    ensures { IfOk result (λ output. IsGivenBy word text.now certificate.now (outcome_of output)) }
+{
     match word {
-        DescribeWord::Markdown => Ok(done(text)),
-        DescribeWord::Latex => Ok(done(in_latex(alloc, text.as_slice())?)),
+        DescribeWord::Markdown => Ok(done(report(alloc, certificate)?)),
+        DescribeWord::Latex => latex_report(alloc, certificate),
+        DescribeWord::Groups => Ok(done(in_groups(alloc, text, certificate)?)),
     }
 }
 
@@ -76,7 +95,7 @@ fn text_output(alloc: Global, word: DescribeWord, text: &[u8]) -> Result<Output,
     ensures { IfOk result (λ output. MayDescribe word text.now (outcome_of output)) }
 {
     match read_bound(alloc, text) {
-        Ok(certificate) => reported(alloc, &certificate, word),
+        Ok(certificate) => given(alloc, word, text, &certificate),
         Err(TextFault::Bad(fault)) => Ok(fault_output(alloc, fault)?),
         Err(TextFault::NoMemory) => Err(NoMemory),
     }

@@ -176,8 +176,8 @@ fn push_change(text: &mut Vec<u8>, before: Form, form: Form) -> Result<(), NoMem
     push_words(text, opening(form))
 }
 
-// The lines of the report.
-fn lines_of(alloc: Global, report: &[u8]) -> Result<Vec<&[u8]>, AllocError>
+/// The lines of the report: what stands before, between and behind its line feeds.
+pub(crate) fn lines_of(alloc: Global, report: &[u8]) -> Result<Vec<&[u8]>, AllocError>
     ensures { IfOk result (λ lines. map (λ line. line.now) lines.items ≡ slice_split (λ byte. byte == 10) report.now) }
 {
     report.split(|byte| *byte == b'\n').collect(alloc)

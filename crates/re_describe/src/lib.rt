@@ -1,10 +1,12 @@
 //! A report on a certificate, in Markdown or in LaTeX: what `check` says of it, in words too, its problems in few rows, and what the labels of its
-//! steps stand for; and the word `describe`.
+//! steps stand for; the word `describe`; and the word `condense`, which writes the same in groups.
 #![tactic(auto)]
 
 mod answering;
 mod condensing;
+mod groups;
 mod heads;
+mod joining;
 mod latex;
 mod marks;
 mod meanings;

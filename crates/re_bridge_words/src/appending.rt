@@ -1,13 +1,13 @@
 //! A step behind the steps of a chain, with the maps of all in one form.
 ghost use Rattle.re_bridge_words.specs.Bridged.{in_one_form};
 ghost use Rattle.re_cert.specs.Bounds.{has_row_maps as have_row_maps, is_by_row as is_map_by_row, last_problem, one_form, step_fits};
-ghost use Rattle.re_chain_parts.specs.Chains.{IsSound, IsSoundChain, chain_kind, chain_with};
+ghost use Rattle.re_chain_parts.specs.Chains.{IsSound, chain_kind, chain_with};
 ghost use Rattle.re_chain_steps.specs.RowForms.{step_by_rows as rows_of_step};
 ghost use Rattle.re_clauses.specs.Clauses.{step_fault};
 ghost use Rattle.std.specs.Prelude.{◌≡◌, ◌<◌, ◌||◌, ◌++◌, ◌∷◌, [], IfOk, None, length, true};
 
 use re_cert::{Certificate, Kind, MAX_STEPS, Step, is_by_row};
-use re_chain_parts::{copied_step, copied_steps, have_row_maps, over_problems};
+use re_chain_parts::{LowerChain, copied_step, copied_steps, have_row_maps};
 use re_chain_steps::by_rows;
 use re_labels::NoMemory;
 use re_problem::Problem;
@@ -80,17 +80,16 @@ pub(crate) fn appended(
 /// form: where some map is by rows, the others are written by rows. It copies the steps.
 pub(crate) fn with_step(
     alloc: Global,
-    chain: &Certificate,
+    chain: &LowerChain,
     step: Step,
 ) -> Result<Certificate, NoMemory>
-    requires kind { chain.now.kind ≡ Kind.Lower }
-    requires sound { IsSound chain.now }
-    requires room { length chain.now.steps < MAX_STEPS }
-    requires fits { step_fits Kind.Lower (last_problem chain.now) step ≡ true }
-    requires meets { step_fault (last_problem chain.now) step ≡ None }
-    ensures chain { IfOk result (λ longer. longer ≡ chain_with Kind.Lower chain.now.first (in_one_form (chain.now.steps ++ step ∷ []))) }
+    requires room { length chain.now.certificate.steps < MAX_STEPS }
+    requires fits { step_fits Kind.Lower (last_problem chain.now.certificate) step ≡ true }
+    requires meets { step_fault (last_problem chain.now.certificate) step ≡ None }
+    ensures chain { IfOk result (λ longer. longer ≡ chain_with Kind.Lower chain.now.certificate.first (in_one_form (chain.now.certificate.steps ++ step ∷ []))) }
     ensures sound { IfOk result (λ longer. IsSound longer) }
 {
+    let chain = &chain.certificate;
     let _kind = chain.kind();
     if has_row_maps(chain, &step) {
         let rows = by_rows(alloc, chain)?;

@@ -1,7 +1,7 @@
 //! A chain of kind upper led on to a given problem.
 ghost use Rattle.re_bridge_words.specs.Bridged.{IsUpperBridged, upper_bridged, upper_walk};
 ghost use Rattle.re_cert.specs.Bounds.{last_problem, one_form, step_fits, step_with};
-ghost use Rattle.re_chain_parts.specs.Chains.{IsSound, IsSoundChain, chain_with};
+ghost use Rattle.re_chain_parts.specs.Chains.{IsSoundChain, chain_with};
 ghost use Rattle.re_clauses.specs.Clauses.{step_fault};
 ghost use Rattle.re_fit.specs.Fits.{entries_of};
 ghost use Rattle.re_labels.specs.declared.TheConstants.{MAX_LABELS};
@@ -12,7 +12,7 @@ ghost use Rattle.std.specs.Prelude.{◌≡◌, ◌<◌, ◌≤◌, ◌++◌, ◌
 
 use crate::appending::appended;
 use re_cert::{Certificate, Kind, MAX_STEPS, SetEntry, Step, StepParts};
-use re_chain_parts::over_problems;
+use re_chain_parts::{UpperChain, over_problems};
 use re_clauses::{are_exchanged, upper_step_law};
 use re_fit::{FitFault, find_upper};
 use re_labels::{LabelSet, NoMemory};
@@ -38,18 +38,17 @@ fn entries_of(alloc: Global, sets: &[LabelSet]) -> Result<Vec<SetEntry>, NoMemor
 // The chain with the step to the next problem by these sets.
 fn over(
     alloc: Global,
-    chain: &Certificate,
+    chain: &UpperChain,
     next: &Problem,
     sets: &[LabelSet],
 ) -> Result<Certificate, NoMemory>
-    requires kind { chain.now.kind ≡ Kind.Upper }
-    requires sound { IsSound chain.now }
-    requires room { length chain.now.steps < MAX_STEPS }
+    requires room { length chain.now.certificate.steps < MAX_STEPS }
     requires few { length sets.now ≤ MAX_LABELS }
-    requires leads { IsUpperStep (unnamed (last_problem chain.now)) (unnamed next.now) (entries_of sets.now) }
-    ensures chain { IfOk result (λ longer. longer ≡ upper_bridged chain.now next.now sets.now) }
+    requires leads { IsUpperStep (unnamed (last_problem chain.now.certificate)) (unnamed next.now) (entries_of sets.now) }
+    ensures chain { IfOk result (λ longer. longer ≡ upper_bridged chain.now.certificate next.now sets.now) }
     ensures sound { IfOk result IsSoundChain }
 {
+    let chain = &chain.certificate;
     upper_step_law();
     let _kind = chain.kind();
     let map = entries_of(alloc, sets)?;
@@ -62,21 +61,19 @@ fn over(
 }
 
 /// The chain with one step more, to the next problem, by the sets that `find_upper` of `re_fit` finds for its labels. None exactly where no
-/// upper step leads there from the last problem of the chain. The chain is of kind upper, sound, and has fewer than `re_cert::MAX_STEPS`
-/// steps; with the step it is sound, too. `TooManyTries` comes as `find_upper` tells. Beside what that costs, the steps are copied.
+/// upper step leads there from the last problem of the chain. The chain has fewer than `re_cert::MAX_STEPS` steps;
+/// with the step it is sound, too. `TooManyTries` comes as `find_upper` tells. Beside what that costs, the steps are copied.
 pub fn bridge_upper(
     alloc: Global,
-    chain: &Certificate,
+    chain: &UpperChain,
     next: &Problem,
     tries: u32,
 ) -> Result<Option<Certificate>, FitFault>
-    requires kind { chain.now.kind ≡ Kind.Upper }
-    requires sound { IsSound chain.now }
-    requires room { length chain.now.steps < MAX_STEPS }
-    ensures bridged { IfOk result (IsUpperBridged chain.now next.now tries) }
-    ensures tries { result ≡ Err FitFault.TooManyTries → upper_walk (last_problem chain.now) next.now tries ≡ cut }
+    requires { length chain.now.certificate.steps < MAX_STEPS }
+    ensures bridged { IfOk result (IsUpperBridged chain.now.certificate next.now tries) }
+    ensures tries { result ≡ Err FitFault.TooManyTries → upper_walk (last_problem chain.now.certificate) next.now tries ≡ cut }
 {
-    let last = chain.last();
+    let last = chain.certificate.last();
     let _next = next.names();
     if !are_exchanged(last, next) {
         return Ok(None);

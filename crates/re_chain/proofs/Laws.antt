@@ -94,6 +94,14 @@ module _ (kind : Kind) (back : ℕ) (first : NamedProblem) (renaming : List (ℕ
 pub merge_law : MergeLaw
 merge_law bound x y is may limit = merge_sound_of bound.kind bound.back bound.first bound.renaming x y bound.steps is may limit
 
+-- its kind is that of a chain
+either_kind : (b : Bool) (one other : Bound) (kind : Kind) → one.kind ≡ kind → other.kind ≡ kind → (if b then one else other).kind ≡ kind
+either_kind true one other kind is is_other = is
+either_kind false one other kind is is_other = is_other
+
+pub merged-kind : (x y : ℕ) (bound : Bound) → (merged x y bound).kind ≡ chain_kind bound.kind
+merged-kind x y bound = either_kind (is_nil bound.steps) _ _ (chain_kind bound.kind) refl refl
+
 -- what the chain becomes, with a step and without one
 pub whole-merged : (x y : ℕ) (bound : Bound) → is_nil bound.steps ≡ false → with_last (merged_step x y) bound ≡ merged x y bound
 whole-merged x y bound some = ap (λ b. if b then chain_with bound.kind bound.first (first_merged x y bound.first ∷ []) else with_last (merged_step x y) bound) (sym some)

@@ -17,7 +17,7 @@ ghost use Rattle.re_chain.specs.Laws.{DerivedRelaxationLaw, DropLaw, MergeLaw, N
 ghost use Rattle.re_chain.specs.Ordered.{OrderLaw, SoundOrderLaw, ValidOrderLaw};
 
 pub use dropping::drop_label;
-pub use merging::{first_merged, merge};
+pub use merging::{first_merged, merge, merge_lower};
 pub use naming::name_label;
 pub use refusal::{ChainFault, MergeFault, Refusal};
 pub use relaxing::{relaxed_step, top_labels};

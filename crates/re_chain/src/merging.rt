@@ -13,12 +13,13 @@ ghost use Rattle.re_step.specs.declared.derivation.StepLimit.{StepLimit as Passe
 ghost use Rattle.std.specs.Prelude.{◌≡◌, ◌≢◌, ◌<◌, ◌≤◌, ◌∷◌, [], Err, IfOk, None, Some, false, length, map, true};
 
 use crate::last_step::with_last;
+use crate::merge_law;
 use crate::refusal::{MergeFault, Refusal};
 use crate::relaxing::relaxed_step;
 use crate::sending::step_along;
 use arrayvec::ArrayVec;
 use re_cert::{Certificate, Kind, Step};
-use re_chain_parts::{chain_kind, over_problems};
+use re_chain_parts::{LowerChain, chain_kind, over_problems};
 use re_changes::{number_among, renumbered};
 use re_labels::{MAX_LABELS, NoMemory};
 use re_problem::Problem;
@@ -224,5 +225,28 @@ pub fn merge(
         Ok(merged) => Ok(merged),
         Err(StepFault::Limit(limit)) => Err(MergeFault::Limit(limit)),
         Err(StepFault::NoMemory) => Err(MergeFault::NoMemory),
+    }
+}
+
+/// The same of a chain of kind lower.
+pub fn merge_lower(
+    alloc: Global,
+    chain: &LowerChain,
+    from: u8,
+    to: u8,
+) -> Result<LowerChain, MergeFault>
+    ensures merged { IfOk result (λ made. made.certificate ≡ merged from to chain.now.certificate) }
+    ensures may { IfOk result (λ _. merge_refusal from to chain.now.certificate ≡ None) }
+    ensures within { IfOk result (λ _. merge_limit from to chain.now.certificate ≡ None) }
+    ensures refused { (refusal : Refusal) → result ≡ Err (MergeFault.Refused refusal) → merge_refusal from to chain.now.certificate ≡ Some refusal }
+    ensures limit { (limit : Passed) → result ≡ Err (MergeFault.Limit limit) → (merge_refusal from to chain.now.certificate ≡ None) × (merge_limit from to chain.now.certificate ≡ Some limit) }
+{
+    let certificate = &chain.certificate;
+    let _kind = certificate.kind();
+    over_problems(certificate);
+    merge_law();
+    match merge(alloc, certificate, from, to) {
+        Ok(made) => Ok(LowerChain::new(made)),
+        Err(fault) => Err(fault),
     }
 }

@@ -35,6 +35,16 @@ pub record IsSoundChain (chain : Bound) : Type 0 where
   pub problems : IsOverProblems chain
   pub sound : IsSound chain
 
+-- it is of kind lower, and each of its steps meets its clauses
+pub record IsSoundLower (chain : Bound) : Type 0 where
+  pub lower : chain.kind ≡ Lower
+  pub sound : IsSound chain
+
+-- it is of kind upper, and each of its steps meets its clauses
+pub record IsSoundUpper (chain : Bound) : Type 0 where
+  pub upper : chain.kind ≡ Upper
+  pub sound : IsSound chain
+
 -- the chain that a bound stands for is as sound as the bound
 abbrev pub ChainLaw : Type 0
 ChainLaw = (bound : Bound) → IsSoundChain bound → IsSoundChain (chain_of bound)

@@ -8,7 +8,7 @@ mod stepping;
 ghost use Rattle.re_chain_steps.specs.Laws.{ByRowsLaw, RowFormLaw, StepLaw};
 
 pub use row_form::by_rows;
-pub use stepping::{ChainStepFault, lower_map, step};
+pub use stepping::{ChainStepFault, lower_map, step, step_lower};
 
 /// A sound chain stays sound with one step more, to the derived problem of its last problem: whatever its kind is, and whether its maps
 /// are by sets or by rows.

@@ -2,6 +2,7 @@
 ghost use Rattle.re_cert.specs.Bounds.{has_row_maps as have_row_maps, is_lower, map_of};
 ghost use Rattle.re_chain_parts.specs.Chains.{IsSound, IsSoundChain};
 ghost use Rattle.re_chain_steps.specs.RowForms.{map_by_rows, step_by_rows as rows_of_step};
+ghost use Rattle.re_chain_steps.specs.declared.stepping.ChainStepFault.{ChainStepFault as WhyNoStep};
 ghost use Rattle.re_chain_steps.specs.Stepped.{derived_step as step_of_problem, next_step, own_entries as entries_of_sets, stepped, stepping_fault};
 ghost use Rattle.re_entry_clauses.specs.StepClauses.{HasRowSets};
 ghost use Rattle.re_problem.specs.NamedProblems.{unnamed};
@@ -13,7 +14,7 @@ ghost use Rattle.std.specs.Prelude.{◌≡◌, ◌≤◌, Err, IfOk, None, Some,
 use crate::building::built;
 use crate::row_form::row_form;
 use re_cert::{Certificate, Kind, LowerMap, MAX_STEPS, SetEntry, Step, StepParts};
-use re_chain_parts::{chain_kind, copied_steps, have_row_maps, over_problems};
+use re_chain_parts::{LowerChain, chain_kind, copied_steps, have_row_maps, over_problems};
 use re_config::Row;
 use re_labels::{LabelSet, MAX_LABELS, NoMemory};
 use re_problem::Problem;
@@ -159,4 +160,16 @@ pub fn step(alloc: Global, certificate: &Certificate) -> Result<Certificate, Cha
     let by_row = have_row_maps(certificate.steps());
     let step = step_to_derived(alloc, certificate.kind(), by_row, last, derived)?;
     Ok(with_step(alloc, certificate, step)?)
+}
+
+/// The same of a chain of kind lower.
+pub fn step_lower(alloc: Global, chain: &LowerChain) -> Result<LowerChain, ChainStepFault>
+    ensures stepped { IfOk result (λ next. next.certificate ≡ stepped chain.now.certificate) }
+    ensures none { IfOk result (λ _. stepping_fault chain.now.certificate ≡ None) }
+    ensures stop { (fault : WhyNoStep) → result ≡ Err fault → (fault ≡ ChainStepFault.NoMemory → ⊥) → stepping_fault chain.now.certificate ≡ Some fault }
+{
+    match step(alloc, &chain.certificate) {
+        Ok(next) => Ok(LowerChain::new(next)),
+        Err(fault) => Err(fault),
+    }
 }

@@ -22,9 +22,9 @@ use Rattle.re_frame.specs.declared.status.Status.TheVariants as status
 use Rattle.re_io.specs.declared.read.TheConstants.{MAX_BYTES}
 use Rattle.re_chain_parts.specs.Chains.{IsSoundChain}
 use Rattle.re_chain_texts.specs.ChainTexts.{chain_fault, text_chain}
-use Rattle.re_chain_texts.specs.OverChains.{GivesSound, GivesText, IsAnswered, IsJudged, IsTextOf, ReadsSound, certificate_outcome, or_fault, or_refusal, over_any, over_sound, problem_outcome, refusal_of, steps_refusal}
+use Rattle.re_chain_texts.specs.OverChains.{GivesSound, GivesText, IsAnswered, IsTextOf, Judges, ReadsSound, certificate_outcome, or_fault, or_refusal, over_any, over_sound, problem_outcome, refusal_of, steps_refusal}
 use Rattle.re_chain_texts.specs.declared.over_chains.ChainRead.{ChainRead}
-use Rattle.re_chain_texts.specs.declared.over_chains.ChainRead.TheVariants.{Answered, Chain}
+use Rattle.re_chain_texts.specs.declared.over_chains.ChainRead.TheVariants as read
 
 -- ---- faults and refusals aren't Done
 pub fault_not_done : (fault : InputFault) → fault_status fault ≡ status.Done → ⊥
@@ -92,11 +92,11 @@ answered_any bytes output is = record {
   says = says_more (status_of output.answer) is.says;
 }
 
-pub judged_read : (bytes : List ℕ) (given : Bound) (read : ChainRead) → given ≡ text_chain bytes → ((word : Bound → Outcome) → over_any word bytes ≡ word given) → IsJudged given read
+pub judged_read : (bytes : List ℕ) (given : Bound) (read : ChainRead) → given ≡ text_chain bytes → ((word : Bound → Outcome) → over_any word bytes ≡ word given) → Judges given read
     → ReadsSound bytes read
-judged_read bytes given (Chain chain) of_text any is =
-    (is.0, is.1 ∙ of_text, λ word. sound_is word bytes ∙ any (λ c. or_refusal (steps_refusal c) (word c)) ∙ ap (λ refusal. or_refusal refusal (word given)) is.2 ∙ ap word (sym is.1))
-judged_read bytes given (Answered output) of_text any is = record {
+judged_read bytes given (read.Chain chain) of_text any is =
+    (is.0 ∙ of_text, λ word. sound_is word bytes ∙ any (λ c. or_refusal (steps_refusal c) (word c)) ∙ ap (λ refusal. or_refusal refusal (word given)) is.1 ∙ ap word (sym is.0))
+judged_read bytes given (read.Answered output) of_text any is = record {
   outcome = λ word. is.outcome word ∙ sym (any (λ c. or_refusal (steps_refusal c) (word c))) ∙ sym (sound_is word bytes);
   not_done = is.not_done;
   says = is.says;

@@ -1,5 +1,5 @@
 -- What a word gives to a text, by what it gives to the chain of the text.
-use Rattle.std.specs.Prelude.{◌≡◌, ◌≤◌, ℕ, length, Bool, true, false, List, Option, Some, None, option_map}
+use Rattle.std.specs.Prelude.{◌≡◌, ◌≤◌, ℕ, length, Bool, true, false, List, Option, Some, None, Result, Ok, Err, option_map}
 use Rattle.re_problem.specs.CanonicalTexts.{canonical}
 use Rattle.re_problem.specs.NamedProblems.{NamedProblem}
 use Rattle.re_problem.specs.declared.fault.InputFault.{InputFault}
@@ -18,9 +18,13 @@ use Rattle.re_frame.specs.declared.output.Output.{Output}
 use Rattle.re_frame.specs.declared.status.Status.TheVariants.{Done}
 use Rattle.re_io.specs.declared.read.TheConstants.{MAX_BYTES}
 use Rattle.re_chain_parts.specs.Chains.{IsSoundChain}
+use Rattle.re_chain_parts.specs.HeldBounds.{held_bound}
+use Rattle.re_chain_parts.specs.declared.chains.Chain.{Chain}
 use Rattle.re_chain_texts.specs.ChainTexts.{chain_fault, text_chain}
 use Rattle.re_chain_texts.specs.declared.over_chains.ChainRead.{ChainRead}
-use Rattle.re_chain_texts.specs.declared.over_chains.ChainRead.TheVariants.{Answered, Chain}
+use Rattle.re_chain_texts.specs.declared.over_chains.ChainRead.TheVariants as read
+use Rattle.re_chain_texts.specs.declared.over_chains.StepsRead.{StepsRead}
+use Rattle.re_chain_texts.specs.declared.over_chains.StepsRead.TheVariants as steps
 
 -- ---- what a word gives
 -- the verdict of `check` on a step that fails
@@ -58,19 +62,24 @@ pub record IsAnswered (given : (Bound → Outcome) → Outcome) (judging : Bool)
   pub says : MaySay (status_of output.answer) judging
 
 -- the chain of the text, and what each word gives is what it gives to this chain; or the output that each word gives
-abbrev pub ReadsAny : List ℕ → ChainRead → Type 0
-ReadsAny bytes (Chain chain) = (chain ≡ text_chain bytes) × ((word : Bound → Outcome) → over_any word bytes ≡ word chain)
-ReadsAny bytes (Answered output) = IsAnswered (λ word. over_any word bytes) false output
+abbrev pub ReadsAny : List ℕ → StepsRead → Type 0
+ReadsAny bytes (steps.Steps chain) = (chain ≡ text_chain bytes) × ((word : Bound → Outcome) → over_any word bytes ≡ word chain)
+ReadsAny bytes (steps.Answered output) = IsAnswered (λ word. over_any word bytes) false output
 
 -- the same of words that take sound chains
 abbrev pub ReadsSound : List ℕ → ChainRead → Type 0
-ReadsSound bytes (Chain chain) = IsSoundChain chain × (chain ≡ text_chain bytes) × ((word : Bound → Outcome) → over_sound word bytes ≡ word chain)
-ReadsSound bytes (Answered output) = IsAnswered (λ word. over_sound word bytes) true output
+ReadsSound bytes (read.Chain chain) = (held_bound chain ≡ text_chain bytes) × ((word : Bound → Outcome) → over_sound word bytes ≡ word (held_bound chain))
+ReadsSound bytes (read.Answered output) = IsAnswered (λ word. over_sound word bytes) true output
 
--- a chain that was judged: it is sound, or the output is the line of `check`
-abbrev pub IsJudged : Bound → ChainRead → Type 0
-IsJudged given (Chain chain) = IsSoundChain chain × (chain ≡ given) × (steps_refusal given ≡ None)
-IsJudged given (Answered output) = IsAnswered (λ word. or_refusal (steps_refusal given) (word given)) true output
+-- steps that were judged: their chain where none fails, and else the verdict on the first that does
+abbrev pub IsJudged : Bound → Result Chain Verdict → Type 0
+IsJudged given (Ok chain) = (held_bound chain ≡ given) × (steps_refusal given ≡ None)
+IsJudged given (Err verdict) = steps_refusal given ≡ Some verdict
+
+-- the chain, or the output that is the line of `check`
+abbrev pub Judges : Bound → ChainRead → Type 0
+Judges given (read.Chain chain) = (held_bound chain ≡ given) × (steps_refusal given ≡ None)
+Judges given (read.Answered output) = IsAnswered (λ word. or_refusal (steps_refusal given) (word given)) true output
 
 -- ---- certificates as answers
 -- the text of the certificate, where it is no longer than a text that is read may be

@@ -7,7 +7,7 @@ ghost use Rattle.re_problem.specs.ProblemTexts.{first_fault, lines_of, problem_o
 ghost use Rattle.std.specs.Prelude.{◌≡◌, ◌≤◌, IfOk, length};
 
 use re_cert::{Certificate, Kind, read_certificate};
-use re_chain_parts::chain;
+use re_chain_parts::{LowerChain, chain};
 use re_items::is_empty_line;
 use re_labels::NoMemory;
 use re_problem::{Problem, TextFault, cut_line, read_problem};
@@ -31,11 +31,11 @@ pub fn is_certificate_text(text: &[u8]) -> bool
 }
 
 /// The chain that a problem stands for: of kind lower, without steps. It takes no memory.
-pub fn problem_chain(alloc: Global, problem: Problem) -> Certificate
-    ensures { result ≡ problem_chain problem }
+pub fn problem_chain(alloc: Global, problem: Problem) -> LowerChain
+    ensures { result.certificate ≡ problem_chain problem }
 {
     match Certificate::build(Kind::Lower, 0, problem, Vec::new(alloc), Vec::new(alloc)) {
-        Some(chain) => chain,
+        Some(chain) => LowerChain::new(chain),
         None => unreachable!(),
     }
 }
@@ -70,7 +70,7 @@ fn read_start(alloc: Global, text: &[u8]) -> Result<Certificate, TextFault>
     ensures { ReadGives (first_fault 0 1 (lines_of text.now)) (problem_chain (problem_of (lines_of text.now))) result }
 {
     match read_problem(alloc, text) {
-        Ok(problem) => Ok(problem_chain(alloc, problem)),
+        Ok(problem) => Ok(problem_chain(alloc, problem).certificate),
         Err(fault) => Err(fault),
     }
 }

@@ -7,5 +7,6 @@ mod over_chains;
 
 pub use chain_text::{is_certificate_text, problem_chain, read_bound, read_chain};
 pub use over_chains::{
-    ChainRead, certificate_output, problem_output, read_any, read_sound, steps_refusal,
+    ChainRead, StepsRead, certificate_output, judged_chain, problem_output, read_any, read_sound,
+    steps_refusal,
 };

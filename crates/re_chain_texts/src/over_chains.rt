@@ -1,5 +1,6 @@
 //! Words over chains: what all of them answer where the text has a fault or a step fails, and the text of a certificate as an answer.
-ghost use Rattle.re_chain_texts.specs.OverChains.{GivesText, IsJudged, ReadsAny, ReadsSound, certificate_outcome, problem_outcome, refusal_of, steps_refusal};
+ghost use Rattle.re_cert.specs.declared.certificate.Kind.TheVariants.{Fixed};
+ghost use Rattle.re_chain_texts.specs.OverChains.{GivesText, IsJudged, Judges, ReadsAny, ReadsSound, certificate_outcome, problem_outcome, refusal_of, steps_refusal};
 ghost use Rattle.re_check.specs.Verdicts.{steps_fault};
 ghost use Rattle.re_frame.specs.Outcomes.{outcome_of};
 ghost use Rattle.re_frame.specs.declared.status.Status.TheVariants.{Done};
@@ -10,7 +11,7 @@ ghost use Rattle.std.specs.Prelude.{◌≡◌, ◌≤◌, ◌+◌, IfOk, length,
 use crate::chain_text::read_chain;
 use re_cert::{Certificate, MAX_STEPS, Step};
 use re_cert_text::print_certificate;
-use re_chain_parts::over_problems;
+use re_chain_parts::Chain;
 use re_check::{Verdict, step_clause};
 use re_frame::{Output, done, fault_output, too_long, verdict_output};
 use re_io::MAX_BYTES;
@@ -18,10 +19,18 @@ use re_labels::NoMemory;
 use re_problem::{Problem, TextFault, print_problem};
 use std::alloc::Global;
 
+/// What is read of a text for a word that takes any steps: the certificate of the chain on which the word goes on, whether its steps
+/// meet their clauses or not, or the output that is the word's answer already.
+#[derive(Drop)]
+pub enum StepsRead {
+    Steps(Certificate),
+    Answered(Output),
+}
+
 /// What is read of a text for a word: the chain on which the word goes on, or the output that is its answer already.
 #[derive(Drop)]
 pub enum ChainRead {
-    Chain(Certificate),
+    Chain(Chain),
     Answered(Output),
 }
 
@@ -50,26 +59,38 @@ pub fn steps_refusal(certificate: &Certificate) -> Option<Verdict>
     refusal_from(certificate.first(), 1, certificate.steps())
 }
 
-/// The chain that a text writes, whether its steps meet their clauses or not, or the line of the first fault of the text.
-pub fn read_any(alloc: Global, text: &[u8]) -> Result<ChainRead, NoMemory>
+/// The chain of these steps, or the verdict of `check` on the first that fails a clause. It takes no memory, and costs what
+/// `steps_refusal` costs.
+pub fn judged_chain(certificate: Certificate) -> Result<Chain, Verdict>
+    requires { certificate.kind ≡ Fixed → ⊥ }
+    ensures { IsJudged certificate result }
+{
+    match steps_refusal(&certificate) {
+        None => Ok(Chain::new(certificate)),
+        Some(verdict) => Err(verdict),
+    }
+}
+
+/// The certificate of the chain that a text writes, whether its steps meet their clauses or not, or the line of the first fault of the text.
+pub fn read_any(alloc: Global, text: &[u8]) -> Result<StepsRead, NoMemory>
     requires { length text.now ≤ MAX_BYTES }
     ensures { IfOk result (ReadsAny text.now) }
 {
     match read_chain(alloc, text) {
-        Ok(chain) => Ok(ChainRead::Chain(chain)),
-        Err(TextFault::Bad(fault)) => Ok(ChainRead::Answered(fault_output(alloc, fault)?)),
+        Ok(chain) => Ok(StepsRead::Steps(chain)),
+        Err(TextFault::Bad(fault)) => Ok(StepsRead::Answered(fault_output(alloc, fault)?)),
         Err(TextFault::NoMemory) => Err(NoMemory),
     }
 }
 
-// The chain where each of its steps meets its clauses, or the line of `check` for the first that doesn't.
-fn judged(alloc: Global, chain: Certificate) -> Result<ChainRead, NoMemory>
-    ensures { IfOk result (IsJudged chain) }
+// The chain of these steps, or the line of `check` for the first that fails a clause.
+fn judged(alloc: Global, certificate: Certificate) -> Result<ChainRead, NoMemory>
+    requires { certificate.kind ≡ Fixed → ⊥ }
+    ensures { IfOk result (Judges certificate) }
 {
-    over_problems(&chain);
-    match steps_refusal(&chain) {
-        None => Ok(ChainRead::Chain(chain)),
-        Some(verdict) => Ok(ChainRead::Answered(verdict_output(alloc, verdict)?)),
+    match judged_chain(certificate) {
+        Ok(chain) => Ok(ChainRead::Chain(chain)),
+        Err(verdict) => Ok(ChainRead::Answered(verdict_output(alloc, verdict)?)),
     }
 }
 
@@ -80,8 +101,8 @@ pub fn read_sound(alloc: Global, text: &[u8]) -> Result<ChainRead, NoMemory>
     ensures { IfOk result (ReadsSound text.now) }
 {
     match read_any(alloc, text)? {
-        ChainRead::Chain(chain) => judged(alloc, chain),
-        ChainRead::Answered(output) => Ok(ChainRead::Answered(output)),
+        StepsRead::Steps(chain) => judged(alloc, chain),
+        StepsRead::Answered(output) => Ok(ChainRead::Answered(output)),
     }
 }
 

@@ -15,7 +15,9 @@ use crate::words::{ChainWord, Shaping};
 use re_cert::{Certificate, Kind, read_certificate};
 use re_chain::tidy;
 use re_chain_parts::{chain_kind, over_problems};
-use re_chain_texts::{ChainRead, certificate_output, problem_output, read_any, read_sound};
+use re_chain_texts::{
+    ChainRead, StepsRead, certificate_output, problem_output, read_any, read_sound,
+};
 use re_frame::{Finding, Output, fault_output};
 use re_labels::NoMemory;
 use re_problem::{Problem, TextFault, read_problem};
@@ -74,8 +76,8 @@ fn last_output(alloc: Global, text: &[u8]) -> Result<Output, NoMemory>
     ensures { IfOk result (λ output. outcome_of output ≡ over_any last_outcome text.now) }
 {
     match read_any(alloc, text)? {
-        ChainRead::Chain(chain) => last_problem(alloc, &chain),
-        ChainRead::Answered(output) => Ok(output),
+        StepsRead::Steps(chain) => last_problem(alloc, &chain),
+        StepsRead::Answered(output) => Ok(output),
     }
 }
 
@@ -101,7 +103,7 @@ fn shape_output(alloc: Global, shaping: &Shaping, text: &[u8]) -> Result<Output,
     ensures text { IfOk result (λ output. GivesSound (shaped shaping.now (text_chain text.now)) (outcome_of output)) }
 {
     match read_sound(alloc, text)? {
-        ChainRead::Chain(chain) => shaped_output(alloc, shaping, &chain),
+        ChainRead::Chain(chain) => shaped_output(alloc, shaping, chain.certificate()),
         ChainRead::Answered(output) => Ok(output),
     }
 }

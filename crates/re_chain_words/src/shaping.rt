@@ -10,7 +10,7 @@ ghost use Rattle.re_chain_words.specs.Answers.{shaped, shaped_outcome, step_outc
 ghost use Rattle.re_chain_words.specs.LabelWords.{given_text};
 ghost use Rattle.re_chain_words.specs.Shapings.{drop_outcome, label_in, merge_outcome, name_outcome, refusal_line};
 ghost use Rattle.re_frame.specs.Outcomes.{outcome_of, refused as refused_with};
-ghost use Rattle.std.specs.Prelude.{◌≡◌, ◌++◌, IfOk, codes, length, suc};
+ghost use Rattle.std.specs.Prelude.{◌≡◌, ◌++◌, IfOk, codes};
 
 use crate::labels::{LabelWord, push_given};
 use crate::words::Shaping;
@@ -18,6 +18,7 @@ use re_cert::{Certificate, MAX_STEPS};
 use re_chain::{
     ChainFault, MergeFault, Refusal, drop_label, drop_law, merge, merge_law, name_label, name_law,
 };
+use re_chain_parts::next_number;
 use re_chain_steps::{ChainStepFault, step, step_law};
 use re_chain_texts::certificate_output;
 use re_frame::{Output, begun, limit_of, limit_output, push_words, refused};
@@ -141,13 +142,6 @@ fn drop_output(alloc: Global, chain: &Certificate, label: &LabelWord) -> Result<
         Err(ChainFault::Refused(refusal)) => refusal_output(alloc, label, label, from, refusal),
         Err(ChainFault::NoMemory) => Err(NoMemory),
     }
-}
-
-// The number of the step that would come next.
-fn next_number(chain: &Certificate) -> u8
-    ensures { result ≡ suc (length chain.now.steps) }
-{
-    chain.steps().len() as u8 + 1
 }
 
 // The chain with one more step, to the derived problem, or why not.

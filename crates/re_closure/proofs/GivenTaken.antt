@@ -10,10 +10,9 @@ use Rattle.re_cert.specs.Bounds.{Bound, is_bound, is_lower, last_problem, next_p
 use Rattle.re_cert.specs.declared.certificate.Kind.{Kind}
 use Rattle.re_cert.specs.declared.certificate.Kind.TheVariants.{Fixed}
 use Rattle.re_cert.specs.declared.certificate.TheConstants.{MAX_STEPS}
-use Rattle.re_chain_parts.specs.Chains.{IsOverProblems}
+use Rattle.re_chain_parts.specs.Chains.{IsOverProblems, IsSoundLower}
 use Rattle.re_chain_texts.specs.OverChains.{or_refusal, refusal_of, steps_refusal}
 use Rattle.re_check.proofs.Meaning.{lower_chain, named-last}
-use Rattle.re_extend.specs.Extensions.{IsSoundChain}
 use Rattle.re_fit.proofs.Judged.{judged-none}
 use Rattle.re_fit.specs.InputProblems.{input_fault}
 use Rattle.re_fit.specs.declared.inputs.InputFault.{InputFault}
@@ -49,21 +48,21 @@ module _ (input : NamedProblem) (chain : Bound) where
   no_sets cut says = absurd (cc)
 
   -- so its last problem isn't solvable without communication
-  pub taken_not_zero : AnswerLaw → IsNamedProblem input → is_bound chain ≡ true → IsOverProblems chain → IsSoundChain chain → IsTaken input chain → (place : ℕ) → zero_place (unnamed (last_problem chain)) ≡ Some place → ⊥
+  pub taken_not_zero : AnswerLaw → IsNamedProblem input → is_bound chain ≡ true → IsOverProblems chain → IsSoundLower chain → IsTaken input chain → (place : ℕ) → zero_place (unnamed (last_problem chain)) ≡ Some place → ⊥
   taken_not_zero law names fits problems sound taken place there =
       let last : NamedProblem = last_problem chain in
       let w : Walk = walk_at input chain (length chain.steps) in
       let two = no_fault (input_fault chain.first input) (or_refusal (steps_refusal chain) (end_outcome chain.kind input chain)) (ap (λ (o : Outcome). o.status) taken) in
       let ended : (end_outcome chain.kind input chain).status ≡ Done
-      = subst (λ f. (or_refusal (option_map refusal_of f) (end_outcome chain.kind input chain)).status ≡ Done) sound.meets two.1 in
+      = subst (λ f. (or_refusal (option_map refusal_of f) (end_outcome chain.kind input chain)).status ≡ Done) sound.sound two.1 in
       let none : fit_with input chain w ≡ refused (codes "no\n") = no_sets w (subst (λ (k : Kind). (end_outcome k input chain).status ≡ Done) sound.lower ended) in
       let told : given_outcome Fit input chain ≡ refused (codes "no\n")
-      = ap (λ f. or_input_fault input f (or_refusal (steps_refusal chain) (fit_with input chain w))) two.0 ∙ ap (λ f. or_refusal (option_map refusal_of f) (fit_with input chain w)) sound.meets ∙ none in
+      = ap (λ f. or_input_fault input f (or_refusal (steps_refusal chain) (fit_with input chain w))) two.0 ∙ ap (λ f. or_refusal (option_map refusal_of f) (fit_with input chain w)) sound.sound ∙ none in
       let over : IsOver chain = record { fits = fits; first = problems.first; next = problems.next } in
       let parts = and-true (nat_le (length chain.steps) MAX_STEPS && steps_fit chain.kind chain.first chain.steps && one_form chain.steps) (renaming_fits chain) fits in
       let few = and-true (nat_le (length chain.steps) MAX_STEPS && steps_fit chain.kind chain.first chain.steps) (one_form chain.steps) parts.0 in
       let fit : steps_fit chain.kind chain.first chain.steps ≡ true = (and-true (nat_le (length chain.steps) MAX_STEPS) (steps_fit chain.kind chain.first chain.steps) few.0).1 in
-      let steps : IsLowerChain (unnamed chain.first) (length chain.steps) (unnamed last) = lower_chain chain.kind chain.first 1 chain.steps (ap is_lower sound.lower) fit problems.next sound.meets in
+      let steps : IsLowerChain (unnamed chain.first) (length chain.steps) (unnamed last) = lower_chain chain.kind chain.first 1 chain.steps (ap is_lower sound.lower) fit problems.next sound.sound in
       let is : IsInput (unnamed last) (input_at input (length chain.steps)) = IsInput-lower steps (judged-none chain.first input names two.0) in
       let last_is = (named-last chain.first (next_problems chain.steps) problems.first problems.next).problem in
       let solvable : Solvable (unnamed last) 0 = (Solvable-zero (unnamed last) last_is).1 ((some-place (unnamed last) (Some place) (sym there)).0 refl) in

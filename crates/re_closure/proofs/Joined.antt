@@ -42,13 +42,13 @@ use Rattle.re_check.proofs.Meaning.{verdict_means, named-last}
 use Rattle.re_check.specs.Verdicts.{Means, end_fault, fault_at, fault_or, goes_back, is_yes, meets_back, meets_end, steps_fault, verdict_of, verdict_with}
 use Rattle.re_check.specs.declared.verdict.Verdict.{Verdict}
 use Rattle.re_check.specs.declared.verdict.Verdict.TheVariants.{Accepted}
-use Rattle.re_chain_parts.specs.Chains.{IsOverProblems}
+use Rattle.re_chain_parts.specs.Chains.{IsOverProblems, IsSoundLower}
 use Rattle.re_tree.proofs.Entries.{rows-fit, set-is}
 use Rattle.re_tree.proofs.Paths.{fits-more, valid-more}
 use Rattle.re_chain_steps.proofs.RowForms.{step-fits, step-form, step-sound}
 use Rattle.re_step.proofs.NameLemmas.{length-label_names}
-use Rattle.re_extend.specs.Extensions.{GoesOn, IsSoundChain}
-use Rattle.re_closure_laws.proofs.Closing.{chain_law, zero_lines_law}
+use Rattle.re_extend.specs.Extensions.{GoesOn}
+use Rattle.re_closure_laws.proofs.Closing.{closure_bound_law, zero_lines_law}
 use Rattle.re_closure_laws.proofs.Entries.{sets_by}
 use Rattle.re_closure_laws.proofs.FirstSteps.{of_maximal}
 use Rattle.re_closure_laws.proofs.Generated.{closure_families_law}
@@ -206,8 +206,8 @@ module _ (chain : Bound) (over : IsOverProblems chain) (problem : Problem) (is_p
   fam : IsFamily active × IsFamily passive × AreAround problem active passive
   fam = closure_families_law problem active passive is_problem small.closure
 
-  law : Rattle.re_closure_laws.specs.Laws.IsChain problem active passive
-  law = chain_law problem active passive is_problem small.closure
+  law : Rattle.re_closure_laws.specs.Laws.IsClosureBound problem active passive
+  law = closure_bound_law problem active passive is_problem small.closure
 
   counts : length active.sets ≡ length passive.sets
   counts = same_count problem active passive is_problem small.closure
@@ -348,7 +348,7 @@ module _ (chain : Bound) (over : IsOverProblems chain) (problem : Problem) (is_p
   }
 
 -- ---- the chain and the steps to the closure of its last problem
-module _ (chain : Bound) (is : is_bound chain ≡ true) (sound : IsSoundChain chain) (over : IsOverProblems chain) (active passive : Family)
+module _ (chain : Bound) (is : is_bound chain ≡ true) (sound : IsSoundLower chain) (over : IsOverProblems chain) (active passive : Family)
     (small : IsSmallClosure (unnamed (last_problem chain)) active passive) (room : length chain.steps + 3 ≤ MAX_STEPS)
     (few : length (max_rows (last_problem chain).passive (length (last_problem chain).names)) ≤ MAX_ROWS) (few_active : length (max_rows (below active) (length active.sets)) ≤ MAX_ROWS)
     (few_passive : length (max_rows (below passive) (length passive.sets)) ≤ MAX_ROWS) (not_zero : zero_place (problem_of active passive) ≡ None) where
@@ -365,7 +365,7 @@ module _ (chain : Bound) (is : is_bound chain ≡ true) (sound : IsSoundChain ch
   s1 = first_step (unnamed P) active passive
 
   met1 : step_fault (last_problem chain) (first_step (unnamed (last_problem chain)) active passive) ≡ None
-  met1 = (lower_clauses P s1 refl).1 (subst (λ q. IsLowerStep (unnamed P) q s1.rows s1.map) (sym (unnamed_of passive active)) (chain_law (unnamed P) active passive problem.problem small.closure).first)
+  met1 = (lower_clauses P s1 refl).1 (subst (λ q. IsLowerStep (unnamed P) q s1.rows s1.map) (sym (unnamed_of passive active)) (closure_bound_law (unnamed P) active passive problem.problem small.closure).first)
 
   low1 : (set : List ℕ) → Contains (max_sets (last_problem chain).passive (length (last_problem chain).names)) set → place_of passive.sets set < length (named_of passive active).names
   low1 set held =
@@ -384,7 +384,7 @@ module _ (chain : Bound) (is : is_bound chain ≡ true) (sound : IsSoundChain ch
       (ap (λ k. steps_fit k chain.first chain.steps) (sym sound.lower) ∙ (and-true (leb (length chain.steps) MAX_STEPS) (steps_fit chain.kind chain.first chain.steps) fitting).1, form)
 
   begun : IsLonger chain.first (has_row_maps chain.steps) chain.steps (last_problem chain)
-  begun = record { fits = fits_fixed chain.first chain.steps parts.0; valid = sound.meets; formed = all_formed chain.steps (has_row_maps chain.steps) refl parts.1; ends = refl }
+  begun = record { fits = fits_fixed chain.first chain.steps parts.0; valid = sound.sound; formed = all_formed chain.steps (has_row_maps chain.steps) refl parts.1; ends = refl }
 
   one : IsLonger chain.first (has_row_maps chain.steps) (chain.steps ++ in_form (has_row_maps chain.steps) (first_step (unnamed (last_problem chain)) active passive) ∷ []) (named_of passive active)
   one = one_longer chain.first chain.steps P s1 refl fit1 met1 (has_row_maps chain.steps) begun
@@ -438,10 +438,10 @@ module _ (chain : Bound) (over : IsOverProblems chain) (closure : Closure) (of :
   few_back : length (max_rows (below of.passive) (length of.passive.sets)) ≤ MAX_ROWS
   few_back = subst (λ l. length l ≤ MAX_ROWS) of.computed.back_is.rows of.computed.back_is.few
 
-  pub surely_fits : is_bound chain ≡ true → IsSoundChain chain → length chain.steps + 3 ≤ MAX_STEPS → zero_place (unnamed closure.closed) ≡ None → is_bound (closed_bound chain of.active of.passive) ≡ true
+  pub surely_fits : is_bound chain ≡ true → IsSoundLower chain → length chain.steps + 3 ≤ MAX_STEPS → zero_place (unnamed closure.closed) ≡ None → is_bound (closed_bound chain of.active of.passive) ≡ true
   surely_fits is sound room none = closed_fits chain is sound over of.active of.passive of.computed.small room few_first few_out few_back (not_zero_closed none)
 
-  pub surely_closed : is_bound chain ≡ true → IsSoundChain chain → length chain.steps + 3 ≤ MAX_STEPS → zero_place (unnamed closure.closed) ≡ None → IsClosed chain (closed_bound chain of.active of.passive)
+  pub surely_closed : is_bound chain ≡ true → IsSoundLower chain → length chain.steps + 3 ≤ MAX_STEPS → zero_place (unnamed closure.closed) ≡ None → IsClosed chain (closed_bound chain of.active of.passive)
   surely_closed is sound room none = closed chain is sound over of.active of.passive of.computed.small room few_first few_out few_back (not_zero_closed none)
 
 -- the closure is solvable without communication

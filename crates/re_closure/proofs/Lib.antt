@@ -18,3 +18,4 @@ mod EdgeLines
 mod GivenTaken
 mod GivenWithin
 mod GivenSaying
+mod Judged

@@ -7,14 +7,14 @@ use Rattle.re_cert.specs.Bounds.{Bound, BoundStep, is_bound, is_by_row, last_pro
 use Rattle.re_cert.specs.declared.certificate.Kind.TheVariants.{Fixed}
 use Rattle.re_cert.specs.declared.certificate.TheConstants.{MAX_STEPS}
 use Rattle.re_chain.proofs.FirstSteps.{row_step-fits}
-use Rattle.re_chain_parts.specs.Chains.{IsOverProblems}
+use Rattle.re_chain_parts.specs.Chains.{IsOverProblems, IsSoundLower}
 use Rattle.re_chain_steps.proofs.RowForms.{next-same, step-form, steps-fit, steps-sound}
 use Rattle.re_chain_steps.specs.RowForms.{by_rows, step_by_rows}
 use Rattle.re_check.proofs.Meaning.{named-last}
 use Rattle.re_clauses.proofs.StepMeaning.{lower_clauses}
 use Rattle.re_clauses.specs.Clauses.{step_fault}
 use Rattle.re_config.specs.declared.TheConstants.{MAX_ROWS}
-use Rattle.re_extend.specs.Extensions.{GoesOn, IsSoundChain}
+use Rattle.re_extend.specs.Extensions.{GoesOn}
 use Rattle.re_labels.proofs.Membership.{AllByRecursion-from_contains, length-map'}
 use Rattle.re_labels.proofs.Tests.{and-true, true-and}
 use Rattle.re_labels.specs.declared.TheConstants.{MAX_LABELS}
@@ -45,7 +45,7 @@ rows_formed before (s ∷ steps) fit =
     let two = and-true (step_fits Fixed before s) (steps_fit Fixed s.next steps) fit in
     true-and (is_by_row (step_by_rows s).map) (list_all (is_formed true) (map step_by_rows steps)) (step-form Fixed before s two.0) (rows_formed s.next steps two.1)
 
-module _ (chain : Bound) (is : is_bound chain ≡ true) (sound : IsSoundChain chain) (over : IsOverProblems chain) where
+module _ (chain : Bound) (is : is_bound chain ≡ true) (sound : IsSoundLower chain) (over : IsOverProblems chain) where
   fit : steps_fit Fixed chain.first chain.steps ≡ true
   fit =
       let (front, back) = and-true (leb (length chain.steps) MAX_STEPS && steps_fit chain.kind chain.first chain.steps && one_form chain.steps) (renaming_fits chain) is in
@@ -56,13 +56,13 @@ module _ (chain : Bound) (is : is_bound chain ≡ true) (sound : IsSoundChain ch
   -- the chain with its maps by rows
   pub written_begun : IsLonger chain.first true (map step_by_rows chain.steps) (last_problem chain)
   written_begun = record {
-    fits = steps-fit Fixed 1 chain.first chain.steps fit sound.meets;
-    valid = steps-sound 1 chain.first chain.steps sound.meets;
+    fits = steps-fit Fixed 1 chain.first chain.steps fit sound.sound;
+    valid = steps-sound 1 chain.first chain.steps sound.sound;
     formed = rows_formed chain.first chain.steps fit;
     ends = ap (last_or chain.first) (next-same chain.steps);
   }
 
-module _ (chain : Bound) (is : is_bound chain ≡ true) (sound : IsSoundChain chain) (over : IsOverProblems chain) (relaxed : NamedProblem) (fine : IsNamedProblem relaxed)
+module _ (chain : Bound) (is : is_bound chain ≡ true) (sound : IsSoundLower chain) (over : IsOverProblems chain) (relaxed : NamedProblem) (fine : IsNamedProblem relaxed)
     (labels : length (last_problem chain).names ≡ length relaxed.names) (rel : IsRelaxed (unnamed (last_problem chain)) (unnamed relaxed) (λ x. x))
     (few : length (max_rows (last_problem chain).passive (length (last_problem chain).names)) ≤ MAX_ROWS) where
   abbrev P : NamedProblem
@@ -109,7 +109,7 @@ module _ (chain : Bound) (is : is_bound chain ≡ true) (sound : IsSoundChain ch
     raised-goes_on = goes_on (by_rows chain) over_written (unnamed relaxed) fine.problem active passive small room_written few_active few_passive not_zero true t1 refl one
 
 -- ---- what is computed of the closure
-module _ (chain : Bound) (is : is_bound chain ≡ true) (sound : IsSoundChain chain) (over : IsOverProblems chain) (relaxed : NamedProblem) (fine : IsNamedProblem relaxed)
+module _ (chain : Bound) (is : is_bound chain ≡ true) (sound : IsSoundLower chain) (over : IsOverProblems chain) (relaxed : NamedProblem) (fine : IsNamedProblem relaxed)
     (labels : length (last_problem chain).names ≡ length relaxed.names) (rel : IsRelaxed (unnamed (last_problem chain)) (unnamed relaxed) (λ x. x))
     (few : length (max_rows (last_problem chain).passive (length (last_problem chain).names)) ≤ MAX_ROWS) (room : length chain.steps + 3 ≤ MAX_STEPS)
     (closure : Closure) (of : IsClosureOf (unnamed relaxed) closure) (none : zero_place (unnamed closure.closed) ≡ None) where

@@ -20,7 +20,7 @@ use Rattle.re_problem.specs.Steps.LowerMap.{by_row}
 use Rattle.re_problem.specs.Steps.{IsLowerStepByRow, IsRelaxed, SetEntry, label_at}
 use Rattle.re_table.proofs.MaxSets.{max_sets-row}
 use Rattle.re_table.specs.GoodRows.{max_rows, max_sets}
-use Rattle.re_closure_laws.proofs.Closing.{chain_law}
+use Rattle.re_closure_laws.proofs.Closing.{closure_bound_law}
 use Rattle.re_closure_laws.proofs.Entries.{label_at_by}
 use Rattle.re_closure_laws.proofs.Generated.{same_set}
 use Rattle.re_closure_laws.specs.Closures.{AreClosure}
@@ -66,7 +66,7 @@ module _ (problem relaxed : Problem) (same : problem.labels ≡ relaxed.labels) 
     first = derived_relaxation problem relaxed (λ x. x) low is
 
     between : IsRelaxed (derived relaxed) (problem_of passive active) (label_at (entries_to relaxed passive))
-    between = IsRelaxed-lower relaxed (problem_of passive active) tops entries (chain_law relaxed active passive fine closure).first
+    between = IsRelaxed-lower relaxed (problem_of passive active) tops entries (closure_bound_law relaxed active passive fine closure).first
 
     -- the entry at the place of a set has its label
     one_label : (set : List ℕ) → Contains (max_sets relaxed.passive relaxed.labels) set → label_at (entries_to relaxed passive) (place_of (max_sets relaxed.passive relaxed.labels) set) ≡ place_of passive.sets set

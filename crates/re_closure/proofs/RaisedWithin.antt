@@ -10,13 +10,11 @@ use Rattle.re_cert.specs.declared.certificate.TheConstants.{MAX_STEPS}
 use Rattle.re_chain.proofs.FirstSteps.{relaxed-fits, relaxed-meets}
 use Rattle.re_chain.proofs.LastSteps.{chain_with-bound}
 use Rattle.re_chain.specs.Relaxing.{relaxed_limit}
-use Rattle.re_chain_parts.specs.Chains.{IsOverProblems}
+use Rattle.re_chain_parts.specs.Chains.{IsOverProblems, IsSound, IsSoundLower}
 use Rattle.re_chain_steps.specs.RowForms.{step_by_rows}
 use Rattle.re_check.proofs.Meaning.{named-last}
-use Rattle.re_check.specs.Verdicts.{steps_fault}
 use Rattle.re_clauses.specs.Clauses.{step_fault}
 use Rattle.re_config.specs.Configs.{IsConfig, image_at}
-use Rattle.re_extend.specs.Extensions.{IsSoundChain}
 use Rattle.re_frame.specs.Outcomes.{Outcome}
 use Rattle.re_labels.proofs.Membership.{AllByRecursion-contains, get_or-count_from, length-map'}
 use Rattle.re_labels.proofs.Tests.{and-true, true-and}
@@ -66,7 +64,7 @@ module _ (problem relaxed : NamedProblem) (fine : IsNamedProblem problem) (is : 
     passive = own_held problem.passive relaxed.passive fine.problem.passive is.passive;
   }
 
-module _ (edges : List (ℕ × ℕ)) (chain : Bound) (is : is_bound chain ≡ true) (sound : IsSoundChain chain) (over : IsOverProblems chain) (room : length chain.steps + 3 ≤ MAX_STEPS)
+module _ (edges : List (ℕ × ℕ)) (chain : Bound) (is : is_bound chain ≡ true) (sound : IsSoundLower chain) (over : IsOverProblems chain) (room : length chain.steps + 3 ≤ MAX_STEPS)
     (limit : relaxed_limit (last_problem chain) (raised edges (last_problem chain)) ≡ None) where
   abbrev P : NamedProblem
   P = last_problem chain
@@ -92,11 +90,8 @@ module _ (edges : List (ℕ × ℕ)) (chain : Bound) (is : is_bound chain ≡ tr
   begun : IsLonger chain.first true (map step_by_rows chain.steps) (last_problem chain)
   begun = written_begun chain is sound over
 
-  valid : steps_fault chain.first 1 (raised_chain edges chain).steps ≡ None
-  valid = valid-more 1 chain.first (map step_by_rows chain.steps) s begun.valid (subst (λ p. step_fault p s ≡ None) (sym begun.ends) met)
-
-  pub raised_chain-sound : IsSoundChain (raised_chain edges chain)
-  raised_chain-sound = record { lower = refl; meets = valid }
+  pub raised_chain-sound : IsSound (raised_chain edges chain)
+  raised_chain-sound = valid-more 1 chain.first (map step_by_rows chain.steps) s begun.valid (subst (λ p. step_fault p s ≡ None) (sym begun.ends) met)
 
   pub raised_chain-bound : is_bound (raised_chain edges chain) ≡ true
   raised_chain-bound =

@@ -27,12 +27,10 @@ use Rattle.re_closure.specs.declared.answering.TheConstants.{MAX_FURTHER}
 use Rattle.re_closure.specs.declared.types.ClosureLimit.{ClosureLimit}
 use Rattle.re_closure.specs.declared.types.ClosureLimit.TheVariants.{Combinations, Configurations, Labels, Rows, Steps}
 use Rattle.re_frame.specs.Check.{verdict_outcome}
-use Rattle.re_extend.specs.Extensions.{IsSoundChain}
-use Rattle.re_frame.specs.Outcomes.{Outcome, limit, limit_of, outcome_of, refused}
+use Rattle.re_frame.specs.Outcomes.{Outcome, limit, limit_of, refused}
 use Rattle.re_frame.specs.SearchLines.{not_lower_line, solvable_line}
 use Rattle.re_frame.specs.StepLimits.{limit_line as step_line}
 use Rattle.re_frame.specs.TextFaults.{fault_outcome}
-use Rattle.re_frame.specs.declared.output.Output.{Output}
 use Rattle.re_printing.specs.SetTexts.{row_text}
 
 -- the number of steps, if it is one of at most eight
@@ -179,8 +177,3 @@ MayGiveBy false word bytes outcome = MayGiveRead (chain_fault bytes) None word.s
 -- what it may give to a text, which has a diagram where it has the line of one
 unfoldable pub MayGive : ClosureWord → List ℕ → Outcome → Type 0
 MayGive word bytes outcome = MayGiveBy (has_diagram bytes) word bytes outcome
-
--- what is said at once to a chain, with a diagram or without: nothing exactly where it is a sound chain of kind lower
-abbrev pub Refuses : Bound → Option Output → Type 0
-Refuses chain None = IsSoundChain chain
-Refuses chain (Some output) = (diagram : Option (List (ℕ × ℕ))) (more : ℕ) → MayGiveSound (steps_refusal chain) diagram more chain (outcome_of output)

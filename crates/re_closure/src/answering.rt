@@ -1,14 +1,11 @@
 //! The word, and what it answers.
-ghost use Rattle.re_cert.specs.Bounds.{last_problem};
-ghost use Rattle.re_cert.specs.declared.certificate.Kind.TheVariants.{Fixed};
+ghost use Rattle.re_cert.specs.Bounds.{Bound, last_problem};
+ghost use Rattle.re_chain_parts.specs.HeldBounds.{held_bound};
 ghost use Rattle.re_chain_texts.specs.ChainTexts.{chain_fault, text_chain};
-ghost use Rattle.re_chain_texts.specs.OverChains.{steps_refusal};
-ghost use Rattle.re_chain_steps.specs.Stepped.{stepped, stepping_fault};
-ghost use Rattle.re_chain_steps.specs.declared.stepping.ChainStepFault.{ChainStepFault as WhyNoStep};
-ghost use Rattle.re_closure.specs.ClosureWords.{MayFindWithin, MayGive, MayGiveRead, MayGiveSound, Refuses, closure_help, closure_with, closure_word_of, stop_outcome};
+ghost use Rattle.re_chain_texts.specs.OverChains.{IsJudged, steps_refusal};
+ghost use Rattle.re_closure.specs.ClosureWords.{MayFindWithin, MayGive, MayGiveRead, MayGiveSound, closure_help, closure_with, closure_word_of, stop_outcome};
 ghost use Rattle.re_closure.specs.DiagramTexts.{AreEdges, diagram_edges, diagram_fault, front_chain};
 ghost use Rattle.re_closure.specs.GivenClosures.{MayGiveText, has_input};
-ghost use Rattle.re_extend.specs.Extensions.{IsSoundChain};
 ghost use Rattle.re_frame.specs.Outcomes.{outcome_of};
 ghost use Rattle.re_io.specs.declared.read.TheConstants.{MAX_BYTES};
 ghost use Rattle.re_two_texts.specs.TwoTexts.{IsCut};
@@ -17,11 +14,12 @@ ghost use Rattle.std.specs.Prelude.{◌≡◌, ◌<◌, ◌≤◌, ◌+◌, ℕ,
 use crate::given::given_output;
 use crate::limit_lines::{limit_output, solvable_closure};
 use crate::raised_output::raised_output;
-use crate::reading::read_diagram;
+use crate::reading::{DiagramText, read_diagram};
 use crate::{Closing, ClosureFault, ClosureLimit, find_closure};
-use re_cert::{Certificate, Kind};
-use re_chain_steps::{ChainStepFault, step};
-use re_chain_texts::{certificate_output, read_chain, steps_refusal};
+use re_chain_parts::{Chain, LowerChain};
+use re_chain_steps::{ChainStepFault, step_lower};
+use re_chain_texts::{certificate_output, judged_chain, read_chain};
+use re_check::Verdict;
 use re_frame::{
     Finding, Output, fault_output, limit_output as step_limit_output, not_lower_output,
     solvable_output, verdict_output,
@@ -106,79 +104,56 @@ pub(crate) fn stop_output(
     }
 }
 
-/// The chain with one derived step more, which is a sound chain of kind lower, too.
-pub(crate) fn next_chain(alloc: Global, chain: &Certificate) -> Result<Certificate, ChainStepFault>
-    requires { IsSoundChain chain.now }
-    ensures chain { IfOk result (λ next. next ≡ stepped chain.now) }
-    ensures sound { IfOk result IsSoundChain }
-    ensures none { IfOk result (λ _. stepping_fault chain.now ≡ None) }
-    ensures stop { (fault : WhyNoStep) → result ≡ Err fault → (fault ≡ ChainStepFault.NoMemory → ⊥) → stepping_fault chain.now ≡ Some fault }
-{
-    step(alloc, chain)
-}
-
-/// What the word gives to a sound chain of kind lower, which it goes on from by up to so many steps: the fixed point of the closure of its
+/// What the word gives to a chain of kind lower, which it goes on from by up to so many steps: the fixed point of the closure of its
 /// last problem, or of the first of the next ones whose closure isn't solvable without communication.
-pub fn closure_output(alloc: Global, chain: &Certificate, more: u8) -> Result<Output, NoMemory>
-    requires { IsSoundChain chain.now }
-    ensures { IfOk result (λ output. MayFindWithin more chain.now (outcome_of output)) }
+pub fn closure_output(alloc: Global, chain: &LowerChain, more: u8) -> Result<Output, NoMemory>
+    ensures { IfOk result (λ output. MayFindWithin more chain.now.certificate (outcome_of output)) }
 {
     let sets = match find_closure(alloc, chain) {
         Ok(Closing::Found(certificate)) => return certificate_output(alloc, &certificate),
-        Ok(Closing::Solvable(place)) => return solvable_output(alloc, chain.last(), place),
+        Ok(Closing::Solvable(place)) => {
+            return solvable_output(alloc, chain.certificate.last(), place);
+        }
         Ok(Closing::SolvableClosure(sets)) => sets,
         Err(ClosureFault::Limit(limit)) => return limit_output(alloc, limit),
         Err(ClosureFault::NoMemory) => return Err(NoMemory),
     };
     if more == 0 {
-        return solvable_closure(alloc, chain.last(), sets.as_slice());
+        return solvable_closure(alloc, chain.certificate.last(), sets.as_slice());
     }
-    match next_chain(alloc, chain) {
+    match step_lower(alloc, chain) {
         Ok(next) => closure_output(alloc, &next, more - 1),
-        Err(fault) => stop_output(alloc, chain.steps().len() as u8 + 1, fault),
+        Err(fault) => stop_output(alloc, chain.certificate.steps().len() as u8 + 1, fault),
     }
 }
 
-// The output to a chain of which a step fails, or that isn't of kind lower, and None exactly where it is a sound chain of kind lower.
-fn refusal_output(alloc: Global, chain: &Certificate) -> Result<Option<Output>, NoMemory>
-    requires { chain.now.kind ≡ Fixed → ⊥ }
-    ensures { IfOk result (Refuses chain.now) }
+// What the word gives to a chain that was judged.
+fn chain_output(alloc: Global, judged: Result<Chain, Verdict>, more: u8) -> Result<Output, NoMemory>
+    ensures { (given : Bound) → IsJudged given judged →
+        IfOk result (λ output. MayGiveSound (steps_refusal given) None more given (outcome_of output)) }
 {
-    if let Some(verdict) = steps_refusal(chain) {
-        return Ok(Some(verdict_output(alloc, verdict)?));
-    }
-    match chain.kind() {
-        Kind::Lower => Ok(None),
-        Kind::Upper => Ok(Some(not_lower_output(alloc)?)),
-        Kind::Fixed => unreachable!(),
+    match judged {
+        Ok(Chain::Lower(chain)) => closure_output(alloc, &chain, more),
+        Ok(Chain::Upper(_)) => not_lower_output(alloc),
+        Err(verdict) => Ok(verdict_output(alloc, verdict)?),
     }
 }
 
-// What the word gives to a chain.
-fn chain_output(alloc: Global, chain: &Certificate, more: u8) -> Result<Output, NoMemory>
-    requires { chain.now.kind ≡ Fixed → ⊥ }
-    ensures { IfOk result (λ output. MayGiveSound (steps_refusal chain.now) None more chain.now (outcome_of output)) }
-{
-    match refusal_output(alloc, chain)? {
-        Some(output) => Ok(output),
-        None => closure_output(alloc, chain, more),
-    }
-}
-
-// What the word gives to a chain with a diagram of its last problem.
+// What the word gives to a chain that was judged, with a diagram of its last problem.
 fn diagram_output(
     alloc: Global,
-    chain: &Certificate,
+    judged: Result<Chain, Verdict>,
     edges: &[(u8, u8)],
     more: u8,
 ) -> Result<Output, NoMemory>
-    requires open { chain.now.kind ≡ Fixed → ⊥ }
-    requires edges { AreEdges (length (last_problem chain.now).names) edges.now }
-    ensures { IfOk result (λ output. MayGiveSound (steps_refusal chain.now) (Some edges.now) more chain.now (outcome_of output)) }
+    requires { IfOk judged (λ chain. AreEdges (length (last_problem (held_bound chain)).names) edges.now) }
+    ensures { (given : Bound) → IsJudged given judged →
+        IfOk result (λ output. MayGiveSound (steps_refusal given) (Some edges.now) more given (outcome_of output)) }
 {
-    match refusal_output(alloc, chain)? {
-        Some(output) => Ok(output),
-        None => raised_output(alloc, chain, edges, more),
+    match judged {
+        Ok(Chain::Lower(chain)) => raised_output(alloc, &chain, edges, more),
+        Ok(Chain::Upper(_)) => not_lower_output(alloc),
+        Err(verdict) => Ok(verdict_output(alloc, verdict)?),
     }
 }
 
@@ -188,7 +163,7 @@ fn plain_output(alloc: Global, steps: u8, text: &[u8]) -> Result<Output, NoMemor
     ensures { IfOk result (λ output. MayGiveRead (chain_fault text.now) None steps (text_chain text.now) (outcome_of output)) }
 {
     match read_chain(alloc, text) {
-        Ok(chain) => chain_output(alloc, &chain, steps),
+        Ok(chain) => chain_output(alloc, judged_chain(chain), steps),
         Err(TextFault::Bad(fault)) => Ok(fault_output(alloc, fault)?),
         Err(TextFault::NoMemory) => Err(NoMemory),
     }
@@ -204,7 +179,10 @@ fn cut_output(alloc: Global, steps: u8, cut: Cut<'_>) -> Result<Output, NoMemory
         IfOk result (λ output. MayGiveRead (diagram_fault text) (Some (diagram_edges text)) steps (front_chain text) (outcome_of output)) }
 {
     match read_diagram(alloc, cut) {
-        Ok(text) => diagram_output(alloc, &text.chain, text.edges.as_slice(), steps),
+        Ok(text) => {
+            let DiagramText { chain, edges } = text;
+            diagram_output(alloc, judged_chain(chain), edges.as_slice(), steps)
+        }
         Err(TextFault::Bad(fault)) => Ok(fault_output(alloc, fault)?),
         Err(TextFault::NoMemory) => Err(NoMemory),
     }

@@ -5,7 +5,6 @@ ghost use Rattle.re_closure.specs.Closures.{Answers, HasRoom, IsClosed, IsSolvab
 ghost use Rattle.re_closure.specs.Sides.{IsMapOf};
 ghost use Rattle.re_config.specs.Rows.{placed, set_at};
 ghost use Rattle.re_config.specs.declared.TheConstants.{MAX_ROWS};
-ghost use Rattle.re_extend.specs.Extensions.{IsSoundChain};
 ghost use Rattle.re_labels.specs.Lists.{place_of};
 ghost use Rattle.re_problem.specs.NamedProblems.{unnamed};
 ghost use Rattle.re_problem.specs.Zero.{zero_place};
@@ -18,7 +17,7 @@ use crate::occurring::map_of;
 use crate::stepping::step_with;
 use crate::types::{Closing, ClosureFault, ClosureLimit, StepMap};
 use re_cert::{Certificate, MAX_STEPS};
-use re_chain_parts::{have_row_maps, over_problems};
+use re_chain_parts::{LowerChain, have_row_maps, over_problems};
 use re_closure_lines::set_at;
 use re_config::Row;
 use re_labels::{LabelSet, MAX_LABELS, NoMemory};
@@ -56,15 +55,15 @@ fn first_map(alloc: Global, problem: &Problem, sets: &[LabelSet]) -> Result<Step
 // The certificate that goes on from the chain by the closure of its last problem.
 fn certificate_of(
     alloc: Global,
-    chain: &Certificate,
+    chain: &LowerChain,
     closure: Closure,
 ) -> Result<Certificate, NoMemory>
-    requires sound { IsSoundChain chain.now }
-    requires room { HasRoom chain.now }
-    requires closure { IsClosureOf (unnamed (last_problem chain.now)) closure }
+    requires room { HasRoom chain.now.certificate }
+    requires closure { IsClosureOf (unnamed (last_problem chain.now.certificate)) closure }
     requires not_zero { zero_place (unnamed closure.closed) ≡ None }
-    ensures { IfOk result (IsClosed chain.now) }
+    ensures { IfOk result (IsClosed chain.now.certificate) }
 {
+    let chain = &chain.certificate;
     over_problems(chain);
     let by_rows = have_row_maps(chain.steps());
     let map = first_map(alloc, chain.last(), closure.sets.as_slice())?;
@@ -92,24 +91,24 @@ pub(crate) fn fit_at(
 }
 
 // What the closure comes to, behind a problem that isn't solvable without communication.
-fn closed(alloc: Global, chain: &Certificate) -> Result<Closing, ClosureFault>
-    requires sound { IsSoundChain chain.now }
-    requires not_zero { zero_place (unnamed (last_problem chain.now)) ≡ None }
-    ensures answers { IfOk result (Answers chain.now) }
-    ensures limit { (passed : ClosureLimit) → result ≡ Err (ClosureFault.Limit passed) → LimitIs chain.now passed }
+fn closed(alloc: Global, chain: &LowerChain) -> Result<Closing, ClosureFault>
+    requires { zero_place (unnamed (last_problem chain.now.certificate)) ≡ None }
+    ensures answers { IfOk result (Answers chain.now.certificate) }
+    ensures limit { (passed : ClosureLimit) → result ≡ Err (ClosureFault.Limit passed) → LimitIs chain.now.certificate passed }
 {
-    over_problems(chain);
-    if chain.steps().len() + CLOSURE_STEPS > MAX_STEPS {
+    let certificate = &chain.certificate;
+    over_problems(certificate);
+    if certificate.steps().len() + CLOSURE_STEPS > MAX_STEPS {
         return Err(ClosureFault::Limit(ClosureLimit::Steps));
     }
-    let closure = closure_of(alloc, chain.last())?;
+    let closure = closure_of(alloc, certificate.last())?;
     match zero_round(&closure.closed) {
         Some(place) => Ok(Closing::SolvableClosure(fit_at(alloc, &closure, place)?)),
         None => Ok(Closing::Found(certificate_of(alloc, chain, closure)?)),
     }
 }
 
-/// The fixed point that goes on from a sound chain of lower steps and shows that no algorithm solves its first problem in any number of
+/// The fixed point that goes on from a chain of lower steps and shows that no algorithm solves its first problem in any number of
 /// rounds: by the closure of its last problem (after Balliu, Brandt, Kuhn, Olivetti: Distributed Delta-coloring plays hide-and-seek,
 /// STOC 2022).
 ///
@@ -124,13 +123,12 @@ fn closed(alloc: Global, chain: &Certificate) -> Result<Closing, ClosureFault>
 /// where the closure is solvable without communication, and else `Found`: such a certificate comes of each problem whose closure passes
 /// no limit. The cost is that of `re_closure_lines::closure_families`, of `re_exist::allowed` for both sides, and of `re_universal::maximal_rows`
 /// for the last problem.
-pub fn find_closure(alloc: Global, chain: &Certificate) -> Result<Closing, ClosureFault>
-    requires { IsSoundChain chain.now }
-    ensures answers { IfOk result (Answers chain.now) }
+pub fn find_closure(alloc: Global, chain: &LowerChain) -> Result<Closing, ClosureFault>
+    ensures answers { IfOk result (Answers chain.now.certificate) }
     ensures limit { (passed : ClosureLimit) → result ≡ Err (ClosureFault.Limit passed) →
-        (zero_place (unnamed (last_problem chain.now)) ≡ None) × LimitIs chain.now passed }
+        (zero_place (unnamed (last_problem chain.now.certificate)) ≡ None) × LimitIs chain.now.certificate passed }
 {
-    match zero_round(chain.last()) {
+    match zero_round(chain.certificate.last()) {
         Some(place) => Ok(Closing::Solvable(place)),
         None => closed(alloc, chain),
     }

@@ -1,23 +1,22 @@
 //! What the word gives where a solution of an input problem is given.
-ghost use Rattle.re_cert.specs.declared.certificate.Kind.TheVariants.{Fixed};
-ghost use Rattle.re_chain_texts.specs.OverChains.{steps_refusal};
-ghost use Rattle.re_check.specs.Verdicts.{steps_fault};
+ghost use Rattle.re_cert.specs.Bounds.{Bound};
+ghost use Rattle.re_chain_texts.specs.OverChains.{IsJudged, steps_refusal};
 ghost use Rattle.re_closure.specs.Closures.{HasRoom, IsClosed};
-ghost use Rattle.re_closure.specs.GivenClosures.{Closes, Declines, MayFindGivenWithin, MayGiveGiven, MayGiveGivenAt, MayGiveGivenInput, MayGiveGivenSound};
-ghost use Rattle.re_extend.specs.Extensions.{IsSoundChain};
-ghost use Rattle.re_fit.specs.InputProblems.{input_fault as fault_of};
+ghost use Rattle.re_closure.specs.GivenClosures.{Closes, Declines, MayFindGivenWithin, MayGiveGiven, MayGiveGivenSound};
 ghost use Rattle.re_frame.specs.Outcomes.{outcome_of};
 ghost use Rattle.re_given_words.specs.Extensions.{IsTaken};
 ghost use Rattle.re_io.specs.declared.read.TheConstants.{MAX_BYTES};
 ghost use Rattle.re_two_texts.specs.TwoTexts.{has_line};
-ghost use Rattle.std.specs.Prelude.{◌≡◌, ◌≤◌, IfOk, None, codes, length, true};
+ghost use Rattle.std.specs.Prelude.{◌≡◌, ◌≤◌, IfOk, codes, length, true};
 
-use crate::answering::{ClosureWord, next_chain, stop_output};
+use crate::answering::{ClosureWord, stop_output};
 use crate::limit_lines::{limit_output, solvable_closure};
 use crate::{Closing, ClosureFault, find_closure};
-use re_cert::{Certificate, Kind};
-use re_chain_parts::over_problems;
-use re_chain_texts::steps_refusal;
+use re_cert::Certificate;
+use re_chain_parts::{Chain, LowerChain, over_problems};
+use re_chain_steps::step_lower;
+use re_chain_texts::judged_chain;
+use re_check::Verdict;
 use re_fit::input_fault;
 use re_frame::{Output, fault_output, not_lower_output, verdict_output};
 use re_given_words::{GIVEN, answer_law, given_verdict, input_fault_output, is_done, taken_law};
@@ -75,22 +74,22 @@ fn fixed_output(
 // What is said of the closure of the last problem of a chain that `given` accepts.
 fn closing_output(
     alloc: Global,
-    chain: &Certificate,
+    chain: &LowerChain,
     input: &Problem,
 ) -> Result<GivenClosing, NoMemory>
-    requires sound { IsSoundChain chain.now }
-    requires taken { IsTaken input.now chain.now }
-    ensures { IfOk result (Closes input.now chain.now) }
+    requires { IsTaken input.now chain.now.certificate }
+    ensures { IfOk result (Closes input.now chain.now.certificate) }
 {
-    over_problems(chain);
-    let _kind = chain.kind();
+    let certificate = &chain.certificate;
+    over_problems(certificate);
+    let _kind = certificate.kind();
     let _names = input.names();
     answer_law();
     match find_closure(alloc, chain) {
-        Ok(Closing::Found(fixed)) => fixed_output(alloc, chain, &fixed, input),
+        Ok(Closing::Found(fixed)) => fixed_output(alloc, certificate, &fixed, input),
         Ok(Closing::Solvable(_)) => unreachable!(),
         Ok(Closing::SolvableClosure(sets)) => {
-            let output = solvable_closure(alloc, chain.last(), sets.as_slice())?;
+            let output = solvable_closure(alloc, certificate.last(), sets.as_slice())?;
             Ok(GivenClosing::Open(output))
         }
         Err(ClosureFault::Limit(limit)) => Ok(GivenClosing::Closed(limit_output(alloc, limit)?)),
@@ -98,30 +97,28 @@ fn closing_output(
     }
 }
 
-// What is said of a sound chain of kind lower.
+// What is said of a chain of kind lower.
 fn chain_closing(
     alloc: Global,
-    chain: &Certificate,
+    chain: &LowerChain,
     input: &Problem,
 ) -> Result<GivenClosing, NoMemory>
-    requires { IsSoundChain chain.now }
-    ensures { IfOk result (Closes input.now chain.now) }
+    ensures { IfOk result (Closes input.now chain.now.certificate) }
 {
-    match given_refusal(alloc, chain, input)? {
+    match given_refusal(alloc, &chain.certificate, input)? {
         Some(output) => Ok(GivenClosing::Closed(output)),
         None => closing_output(alloc, chain, input),
     }
 }
 
-// What the word gives to a sound chain of kind lower, which it goes on from by up to so many steps.
+// What the word gives to a chain of kind lower, which it goes on from by up to so many steps.
 fn closure_output(
     alloc: Global,
-    chain: &Certificate,
+    chain: &LowerChain,
     input: &Problem,
     more: u8,
 ) -> Result<Output, NoMemory>
-    requires { IsSoundChain chain.now }
-    ensures { IfOk result (λ output. MayFindGivenWithin more input.now chain.now (outcome_of output)) }
+    ensures { IfOk result (λ output. MayFindGivenWithin more input.now chain.now.certificate (outcome_of output)) }
 {
     let why = match chain_closing(alloc, chain, input)? {
         GivenClosing::Closed(output) => return Ok(output),
@@ -130,59 +127,26 @@ fn closure_output(
     if more == 0 {
         return Ok(why);
     }
-    match next_chain(alloc, chain) {
+    match step_lower(alloc, chain) {
         Ok(next) => closure_output(alloc, &next, input, more - 1),
-        Err(fault) => stop_output(alloc, chain.steps().len() as u8 + 1, fault),
+        Err(fault) => stop_output(alloc, chain.certificate.steps().len() as u8 + 1, fault),
     }
 }
 
-// What the word gives to a chain each step of which meets its clauses.
+// What the word gives to a chain that was judged, and an input problem of its first problem.
 fn chain_output(
     alloc: Global,
-    chain: &Certificate,
+    judged: Result<Chain, Verdict>,
     input: &Problem,
     more: u8,
 ) -> Result<Output, NoMemory>
-    requires meets { steps_fault chain.now.first 1 chain.now.steps ≡ None }
-    requires open { chain.now.kind ≡ Fixed → ⊥ }
-    ensures { IfOk result (λ output. MayGiveGivenAt chain.now.kind more input.now chain.now (outcome_of output)) }
+    ensures { (given : Bound) → IsJudged given judged →
+        IfOk result (λ output. MayGiveGivenSound (steps_refusal given) more input.now given (outcome_of output)) }
 {
-    match chain.kind() {
-        Kind::Lower => closure_output(alloc, chain, input, more),
-        Kind::Upper => not_lower_output(alloc),
-        Kind::Fixed => unreachable!(),
-    }
-}
-
-// What the word gives to a chain and an input problem of its first problem.
-fn sound_output(
-    alloc: Global,
-    chain: &Certificate,
-    input: &Problem,
-    more: u8,
-) -> Result<Output, NoMemory>
-    requires { chain.now.kind ≡ Fixed → ⊥ }
-    ensures { IfOk result (λ output. MayGiveGivenSound (steps_refusal chain.now) more input.now chain.now (outcome_of output)) }
-{
-    match steps_refusal(chain) {
-        Some(verdict) => Ok(verdict_output(alloc, verdict)?),
-        None => chain_output(alloc, chain, input, more),
-    }
-}
-
-// What the word gives to a chain and a problem behind it.
-fn input_output(
-    alloc: Global,
-    chain: &Certificate,
-    input: &Problem,
-    more: u8,
-) -> Result<Output, NoMemory>
-    requires { chain.now.kind ≡ Fixed → ⊥ }
-    ensures { IfOk result (λ output. MayGiveGivenInput (fault_of chain.now.first input.now) more input.now chain.now (outcome_of output)) }
-{
-    match input_fault(chain.first(), input) {
-        Some(fault) => input_fault_output(alloc, input, fault),
-        None => sound_output(alloc, chain, input, more),
+    match judged {
+        Ok(Chain::Lower(chain)) => closure_output(alloc, &chain, input, more),
+        Ok(Chain::Upper(_)) => not_lower_output(alloc),
+        Err(verdict) => Ok(verdict_output(alloc, verdict)?),
     }
 }
 
@@ -199,7 +163,10 @@ pub(crate) fn given_output(
     match read_chain_two(alloc, GIVEN, text) {
         Ok(texts) => {
             let TwoTexts { bound, problem } = texts;
-            input_output(alloc, &bound, &problem, word.steps)
+            match input_fault(bound.first(), &problem) {
+                Some(fault) => input_fault_output(alloc, &problem, fault),
+                None => chain_output(alloc, judged_chain(bound), &problem, word.steps),
+            }
         }
         Err(TextFault::Bad(fault)) => Ok(fault_output(alloc, fault)?),
         Err(TextFault::NoMemory) => Err(NoMemory),

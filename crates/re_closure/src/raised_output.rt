@@ -10,7 +10,6 @@ ghost use Rattle.re_closure.specs.ClosureWords.{MayFindRaisedWithin};
 ghost use Rattle.re_closure.specs.DiagramTexts.{AreEdges};
 ghost use Rattle.re_closure.specs.Diagrams.{raised};
 ghost use Rattle.re_closure.specs.RaisedClosures.{raised_chain, step_to_raised};
-ghost use Rattle.re_extend.specs.Extensions.{IsSoundChain};
 ghost use Rattle.re_frame.specs.Outcomes.{outcome_of};
 ghost use Rattle.re_labels.specs.Lists.{count_from};
 ghost use Rattle.re_labels.specs.declared.TheConstants.{MAX_LABELS};
@@ -25,7 +24,7 @@ use crate::types::{Closing, ClosureFault};
 use arrayvec::ArrayVec;
 use re_cert::{Certificate, Kind, Step};
 use re_chain::relaxed_step;
-use re_chain_parts::{copied_steps, over_problems};
+use re_chain_parts::{LowerChain, copied_steps, over_problems};
 use re_chain_steps::{ChainStepFault, by_rows};
 use re_chain_texts::certificate_output;
 use re_frame::{Output, solvable_output};
@@ -86,22 +85,21 @@ fn with_step(alloc: Global, chain: &Certificate, step: Step) -> Result<Certifica
     }
 }
 
-// The chain, its maps by rows, with the step to the derived problem of the raised problem; it is a sound chain of kind lower, too.
+// The chain, its maps by rows, with the step to the derived problem of the raised problem.
 fn next_raised(
     alloc: Global,
-    chain: &Certificate,
+    chain: &LowerChain,
     edges: &[(u8, u8)],
-) -> Result<Certificate, ChainStepFault>
-    requires sound { IsSoundChain chain.now }
-    requires room { HasRoom chain.now }
-    requires edges { AreEdges (length (last_problem chain.now).names) edges.now }
-    requires few { length (raised edges.now (last_problem chain.now)).passive.configs ≤ MAX_CONFIGURATIONS }
-    ensures chain { IfOk result (λ next. next ≡ raised_chain edges.now chain.now) }
-    ensures sound { IfOk result IsSoundChain }
-    ensures none { IfOk result (λ _. relaxed_limit (last_problem chain.now) (raised edges.now (last_problem chain.now)) ≡ None) }
+) -> Result<LowerChain, ChainStepFault>
+    requires room { HasRoom chain.now.certificate }
+    requires edges { AreEdges (length (last_problem chain.now.certificate).names) edges.now }
+    requires few { length (raised edges.now (last_problem chain.now.certificate)).passive.configs ≤ MAX_CONFIGURATIONS }
+    ensures chain { IfOk result (λ next. next.certificate ≡ raised_chain edges.now chain.now.certificate) }
+    ensures none { IfOk result (λ _. relaxed_limit (last_problem chain.now.certificate) (raised edges.now (last_problem chain.now.certificate)) ≡ None) }
     ensures stop { (fault : WhyNoStep) → result ≡ Err fault → (fault ≡ ChainStepFault.NoMemory → ⊥) →
-        option_map why.Limit (relaxed_limit (last_problem chain.now) (raised edges.now (last_problem chain.now))) ≡ Some fault }
+        option_map why.Limit (relaxed_limit (last_problem chain.now.certificate) (raised edges.now (last_problem chain.now.certificate))) ≡ Some fault }
 {
+    let chain = &chain.certificate;
     over_problems(chain);
     let _steps = chain.steps();
     let step = match derived_step(alloc, chain.last(), edges) {
@@ -112,36 +110,37 @@ fn next_raised(
         return Err(ChainStepFault::NoMemory);
     };
     match with_step(alloc, &written, step) {
-        Ok(next) => Ok(next),
+        Ok(next) => Ok(LowerChain::new(next)),
         Err(NoMemory) => Err(ChainStepFault::NoMemory),
     }
 }
 
-/// What the word gives to a sound chain of kind lower with a diagram of its last problem: the fixed point of the closure of the problem that
+/// What the word gives to a chain of kind lower with a diagram of its last problem: the fixed point of the closure of the problem that
 /// the diagram raises, or where that is solvable without communication, what it gives without a diagram, with one step less, to the
 /// chain with the step to the derived problem of the raised problem.
 pub(crate) fn raised_output(
     alloc: Global,
-    chain: &Certificate,
+    chain: &LowerChain,
     edges: &[(u8, u8)],
     more: u8,
 ) -> Result<Output, NoMemory>
-    requires sound { IsSoundChain chain.now }
-    requires edges { AreEdges (length (last_problem chain.now).names) edges.now }
-    ensures { IfOk result (λ output. MayFindRaisedWithin more edges.now chain.now (outcome_of output)) }
+    requires { AreEdges (length (last_problem chain.now.certificate).names) edges.now }
+    ensures { IfOk result (λ output. MayFindRaisedWithin more edges.now chain.now.certificate (outcome_of output)) }
 {
     let sets = match find_raised(alloc, chain, edges) {
         Ok(Closing::Found(certificate)) => return certificate_output(alloc, &certificate),
-        Ok(Closing::Solvable(place)) => return solvable_output(alloc, chain.last(), place),
+        Ok(Closing::Solvable(place)) => {
+            return solvable_output(alloc, chain.certificate.last(), place);
+        }
         Ok(Closing::SolvableClosure(sets)) => sets,
         Err(ClosureFault::Limit(limit)) => return limit_output(alloc, limit),
         Err(ClosureFault::NoMemory) => return Err(NoMemory),
     };
     if more == 0 {
-        return solvable_closure(alloc, chain.last(), sets.as_slice());
+        return solvable_closure(alloc, chain.certificate.last(), sets.as_slice());
     }
     match next_raised(alloc, chain, edges) {
         Ok(next) => closure_output(alloc, &next, more - 1),
-        Err(fault) => stop_output(alloc, chain.steps().len() as u8 + 1, fault),
+        Err(fault) => stop_output(alloc, chain.certificate.steps().len() as u8 + 1, fault),
     }
 }

@@ -8,7 +8,6 @@ ghost use Rattle.re_closure.specs.Diagrams.{raised};
 ghost use Rattle.re_closure.specs.RaisedClosures.{IsRaisedClosed, MayRise, RaisedAnswers, RaisedLimitIs};
 ghost use Rattle.re_closure.specs.declared.types.ClosureLimit.TheVariants.{Rows};
 ghost use Rattle.re_config.specs.declared.TheConstants.{MAX_ROWS};
-ghost use Rattle.re_extend.specs.Extensions.{IsSoundChain};
 ghost use Rattle.re_labels.specs.declared.TheConstants.{MAX_LABELS};
 ghost use Rattle.re_problem.specs.NamedProblems.{unnamed};
 ghost use Rattle.re_problem.specs.Steps.LowerMap.{by_row};
@@ -25,7 +24,7 @@ use crate::finding::{CLOSURE_STEPS, fit_at, rows_of};
 use crate::types::{Closing, ClosureFault, ClosureLimit};
 use re_cert::{Certificate, LowerMap, MAX_STEPS, RowImage, Step, StepParts};
 use re_chain::top_labels;
-use re_chain_parts::over_problems;
+use re_chain_parts::{LowerChain, over_problems};
 use re_chain_steps::by_rows;
 use re_config::Row;
 use re_labels::{LabelSet, NoMemory};
@@ -99,22 +98,22 @@ fn raised_step(
 // The certificate that goes on from the chain, its maps by rows, by the closure of this relaxation of its last problem.
 fn raised_certificate(
     alloc: Global,
-    chain: &Certificate,
+    chain: &LowerChain,
     relaxed: &Problem,
     rows: Vec<Row>,
     closure: Closure,
 ) -> Result<Certificate, NoMemory>
-    requires sound { IsSoundChain chain.now }
-    requires room { HasRoom chain.now }
-    requires labels { length (last_problem chain.now).names ≡ length relaxed.now.names }
-    requires relaxed { IsRelaxed (unnamed (last_problem chain.now)) (unnamed relaxed.now) (λ x. x) }
-    requires rows { rows.items ≡ max_rows (last_problem chain.now).passive (length (last_problem chain.now).names) }
-    requires few { length (max_rows (last_problem chain.now).passive (length (last_problem chain.now).names)) ≤ MAX_ROWS }
+    requires room { HasRoom chain.now.certificate }
+    requires labels { length (last_problem chain.now.certificate).names ≡ length relaxed.now.names }
+    requires relaxed { IsRelaxed (unnamed (last_problem chain.now.certificate)) (unnamed relaxed.now) (λ x. x) }
+    requires rows { rows.items ≡ max_rows (last_problem chain.now.certificate).passive (length (last_problem chain.now.certificate).names) }
+    requires few { length (max_rows (last_problem chain.now.certificate).passive (length (last_problem chain.now.certificate).names)) ≤ MAX_ROWS }
     requires closure { IsClosureOf (unnamed relaxed.now) closure }
     requires not_zero { zero_place (unnamed closure.closed) ≡ None }
-    ensures { (edges : List (ℕ × ℕ)) → relaxed.now ≡ raised edges (last_problem chain.now) → MayRise edges (last_problem chain.now) →
-        IfOk result (IsRaisedClosed edges chain.now) }
+    ensures { (edges : List (ℕ × ℕ)) → relaxed.now ≡ raised edges (last_problem chain.now.certificate) → MayRise edges (last_problem chain.now.certificate) →
+        IfOk result (IsRaisedClosed edges chain.now.certificate) }
 {
+    let chain = &chain.certificate;
     over_problems(chain);
     let _names = relaxed.names();
     let _steps = chain.steps();
@@ -126,21 +125,21 @@ fn raised_certificate(
 // What the closure of the raised problem comes to, behind a problem that isn't solvable without communication.
 fn raised_closed(
     alloc: Global,
-    chain: &Certificate,
+    chain: &LowerChain,
     edges: &[(u8, u8)],
 ) -> Result<Closing, ClosureFault>
-    requires sound { IsSoundChain chain.now }
-    requires edges { AreEdges (length (last_problem chain.now).names) edges.now }
-    requires not_zero { zero_place (unnamed (last_problem chain.now)) ≡ None }
-    ensures answers { IfOk result (RaisedAnswers edges.now chain.now) }
-    ensures limit { (passed : ClosureLimit) → result ≡ Err (ClosureFault.Limit passed) → RaisedLimitIs edges.now chain.now passed }
+    requires edges { AreEdges (length (last_problem chain.now.certificate).names) edges.now }
+    requires not_zero { zero_place (unnamed (last_problem chain.now.certificate)) ≡ None }
+    ensures answers { IfOk result (RaisedAnswers edges.now chain.now.certificate) }
+    ensures limit { (passed : ClosureLimit) → result ≡ Err (ClosureFault.Limit passed) → RaisedLimitIs edges.now chain.now.certificate passed }
 {
-    over_problems(chain);
-    if chain.steps().len() + CLOSURE_STEPS > MAX_STEPS {
+    let certificate = &chain.certificate;
+    over_problems(certificate);
+    if certificate.steps().len() + CLOSURE_STEPS > MAX_STEPS {
         return Err(ClosureFault::Limit(ClosureLimit::Steps));
     }
-    let raised = raised(alloc, chain.last(), edges)?;
-    let rows = few_rows(alloc, chain.last())?;
+    let raised = raised(alloc, certificate.last(), edges)?;
+    let rows = few_rows(alloc, certificate.last())?;
     let closure = closure_of(alloc, &raised)?;
     match zero_round(&closure.closed) {
         Some(place) => Ok(Closing::SolvableClosure(fit_at(alloc, &closure, place)?)),
@@ -148,7 +147,7 @@ fn raised_closed(
     }
 }
 
-/// The fixed point that goes on from a sound chain of lower steps by the closure of its last problem, relaxed so that its passive constraint
+/// The fixed point that goes on from a chain of lower steps by the closure of its last problem, relaxed so that its passive constraint
 /// respects a diagram: around passive nodes the second label of each edge may stand wherever the first one may. The last problem leads, each
 /// of its maximal rows going to one of the raised problem that dominates it, to that closure with its sides exchanged; so all maps are by rows.
 /// It says more than `find_closure` may, since right-closed sets of a greater order are greater, and fewer configurations of them are
@@ -160,16 +159,15 @@ fn raised_closed(
 /// `Found`. Beside what `find_closure` costs on the raised problem it takes for each maximal row of the last problem a test of the raised one's.
 pub fn find_raised(
     alloc: Global,
-    chain: &Certificate,
+    chain: &LowerChain,
     edges: &[(u8, u8)],
 ) -> Result<Closing, ClosureFault>
-    requires sound { IsSoundChain chain.now }
-    requires edges { AreEdges (length (last_problem chain.now).names) edges.now }
-    ensures answers { IfOk result (RaisedAnswers edges.now chain.now) }
+    requires { AreEdges (length (last_problem chain.now.certificate).names) edges.now }
+    ensures answers { IfOk result (RaisedAnswers edges.now chain.now.certificate) }
     ensures limit { (passed : ClosureLimit) → result ≡ Err (ClosureFault.Limit passed) →
-        (zero_place (unnamed (last_problem chain.now)) ≡ None) × RaisedLimitIs edges.now chain.now passed }
+        (zero_place (unnamed (last_problem chain.now.certificate)) ≡ None) × RaisedLimitIs edges.now chain.now.certificate passed }
 {
-    match zero_round(chain.last()) {
+    match zero_round(chain.certificate.last()) {
         Some(place) => Ok(Closing::Solvable(place)),
         None => raised_closed(alloc, chain, edges),
     }

@@ -13,11 +13,11 @@ use Rattle.re_check.specs.Verdicts.{Means, bound_fault, end_fault, fault_at, fau
 use Rattle.re_check.specs.declared.verdict.ClauseFault.{ClauseFault}
 use Rattle.re_check.specs.declared.verdict.Verdict.{Verdict}
 use Rattle.re_check.specs.declared.verdict.Verdict.TheVariants.{Accepted}
-use Rattle.re_chain_parts.specs.Chains.{IsOverProblems}
+use Rattle.re_chain_parts.specs.Chains.{IsSoundLower, IsOverProblems}
 use Rattle.re_clauses.specs.declared.clause.Clause.TheVariants.{End, Back}
 use Rattle.re_problem.specs.NamedProblems.{NamedProblem, unnamed}
 use Rattle.re_problem.specs.Zero.{zero_place}
-use Rattle.re_extend.specs.Extensions.{AreSmall, GoesOn, IsSoundChain}
+use Rattle.re_extend.specs.Extensions.{AreSmall, GoesOn}
 
 -- ---- what is built
 some-if : (b : Bool) (x y : Bound) → (if b then Some x else None) ≡ Some y → y ≡ x
@@ -100,16 +100,16 @@ ended Lower (Some p) n back e z = cc
 ended Upper place n back e z = cc
 ended Fixed place n back e z = cc
 
-no-fault : (chain : Bound) → IsSoundChain chain → zero_place (unnamed (last_problem chain)) ≡ None → bound_fault chain ≡ None
+no-fault : (chain : Bound) → IsSoundLower chain → zero_place (unnamed (last_problem chain)) ≡ None → bound_fault chain ≡ None
 no-fault chain sound end =
-    ap (λ fault. fault_or fault (end_fault chain)) sound.meets ∙ ended chain.kind (zero_place (unnamed (last_problem chain))) (length chain.steps) (meets_back chain) sound.lower end
+    ap (λ fault. fault_or fault (end_fault chain)) sound.sound ∙ ended chain.kind (zero_place (unnamed (last_problem chain))) (length chain.steps) (meets_back chain) sound.lower end
 
-chain-accepted : (chain : Bound) → IsSoundChain chain → zero_place (unnamed (last_problem chain)) ≡ None → verdict_of chain ≡ Accepted Lower (length chain.steps)
+chain-accepted : (chain : Bound) → IsSoundLower chain → zero_place (unnamed (last_problem chain)) ≡ None → verdict_of chain ≡ Accepted Lower (length chain.steps)
 chain-accepted chain sound end =
     ap (λ fault. verdict_with chain.kind (length chain.steps) fault) (no-fault chain sound end) ∙ ap (λ k. Accepted k (length chain.steps)) sound.lower
 
 -- a sound chain that ends well goes on from itself
-repeats-built : (most labels : ℕ) (chain bound : Bound) (verdict : Verdict) → built (behind Lower 0 chain [] []) ≡ Some bound → is_bound chain ≡ true → IsSoundChain chain
+repeats-built : (most labels : ℕ) (chain bound : Bound) (verdict : Verdict) → built (behind Lower 0 chain [] []) ≡ Some bound → is_bound chain ≡ true → IsSoundLower chain
     → IsOverProblems bound → zero_place (unnamed (last_problem chain)) ≡ None → verdict ≡ verdict_of bound → Means verdict (unnamed bound.first) → GoesOn Lower most labels chain bound
 repeats-built most labels chain bound verdict made is sound problems end told means =
     let same : bound ≡ behind Lower 0 chain [] [] = built-is (behind Lower 0 chain [] []) bound made in
@@ -124,7 +124,7 @@ with-nothing chain bound more renaming found none no_pairs is_built is_found =
     ap (λ m. built (behind Lower 0 chain m [])) (sym none) ∙ ap (λ r. built (behind Lower 0 chain more r)) (sym no_pairs) ∙ sym is_built ∙ is_found
 
 pub repeats : (most labels : ℕ) (chain bound : Bound) (more : List BoundStep) (renaming : List (ℕ × ℕ)) (found : Option Bound) (verdict : Verdict) → more ≡ [] → renaming ≡ []
-    → found ≡ built (behind Lower 0 chain more renaming) → found ≡ Some bound → is_bound chain ≡ true → IsSoundChain chain → IsOverProblems bound
+    → found ≡ built (behind Lower 0 chain more renaming) → found ≡ Some bound → is_bound chain ≡ true → IsSoundLower chain → IsOverProblems bound
     → zero_place (unnamed (last_problem chain)) ≡ None → verdict ≡ verdict_of bound → Means verdict (unnamed bound.first) → GoesOn Lower most labels chain bound
 repeats most labels chain bound more renaming found verdict none no_pairs is_built is_found is sound problems end told means =
     repeats-built most labels chain bound verdict (with-nothing chain bound more renaming found none no_pairs is_built is_found) is sound problems end told means

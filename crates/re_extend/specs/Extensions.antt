@@ -1,19 +1,13 @@
 -- Bounds that go on from a chain of lower steps.
-use Rattle.std.specs.Prelude.{◌≡◌, ◌≤◌, ℕ, true, List, ◌++◌, length, None}
+use Rattle.std.specs.Prelude.{◌≡◌, ◌≤◌, ℕ, true, List, ◌++◌, length}
 use Rattle.std.specs.List.{AllByRecursion}
 use Rattle.re_problem.specs.NamedProblems.{unnamed}
 use Rattle.re_cert.specs.Bounds.{Bound, BoundStep, is_bound}
 use Rattle.re_cert.specs.declared.certificate.Kind.{Kind}
-use Rattle.re_cert.specs.declared.certificate.Kind.TheVariants.{Lower}
 use Rattle.re_chain_parts.specs.Chains.{IsOverProblems}
-use Rattle.re_check.specs.Verdicts.{Means, steps_fault, verdict_of}
+use Rattle.re_check.specs.Verdicts.{Means, verdict_of}
 use Rattle.re_check.specs.declared.verdict.Verdict.TheVariants.{Accepted}
 use Rattle.re_extend.specs.declared.extending.Extension.{Extension}
-
--- a chain of kind lower, each step of which meets its clauses
-pub record IsSoundChain (chain : Bound) : Type 0 where
-  pub lower : chain.kind ≡ Lower
-  pub meets : steps_fault chain.first 1 chain.steps ≡ None
 
 -- each step leads to a problem of at most so many labels
 abbrev pub AreSmall : ℕ → List BoundStep → Type 0

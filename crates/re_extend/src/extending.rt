@@ -1,13 +1,13 @@
 //! Certificates of a chain and the steps behind it.
 ghost use Rattle.re_cert.specs.Bounds.{built, last_problem};
 ghost use Rattle.re_cert.specs.declared.certificate.Kind.TheVariants.{Lower};
-ghost use Rattle.re_extend.specs.Extensions.{AreSmall, GoesOn, IsSoundChain, continued};
+ghost use Rattle.re_extend.specs.Extensions.{AreSmall, GoesOn, continued};
 ghost use Rattle.re_problem.specs.NamedProblems.{unnamed};
 ghost use Rattle.re_problem.specs.Zero.{zero_place};
 ghost use Rattle.std.specs.Prelude.{◌≡◌, ◌≤◌, ◌↔◌, IfOk, IfSome, IsTrue, None, length};
 
 use re_cert::{Certificate, Kind, Step};
-use re_chain_parts::{copied_steps, over_problems};
+use re_chain_parts::{LowerChain, copied_steps, over_problems};
 use re_check::{Verdict, check};
 use re_labels::NoMemory;
 use std::alloc::Global;
@@ -89,15 +89,15 @@ pub fn extended(
 /// The chain as it is. Its cost is that of `check`.
 pub fn repeated(
     alloc: Global,
-    chain: &Certificate,
+    chain: &LowerChain,
     most: u8,
     labels: u8,
 ) -> Result<Certificate, NoMemory>
-    requires sound { IsSoundChain chain.now }
-    requires ends { zero_place (unnamed (last_problem chain.now)) ≡ None }
-    ensures goes_on { IfOk result (GoesOn Lower most labels chain.now) }
-    ensures same { IfOk result (λ bound. bound ≡ chain.now) }
+    requires { zero_place (unnamed (last_problem chain.now.certificate)) ≡ None }
+    ensures goes_on { IfOk result (GoesOn Lower most labels chain.now.certificate) }
+    ensures same { IfOk result (λ bound. bound ≡ chain.now.certificate) }
 {
+    let chain = &chain.certificate;
     let _kind = chain.kind();
     let extension = Extension {
         kind: Kind::Lower,

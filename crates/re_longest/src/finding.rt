@@ -1,7 +1,7 @@
 //! The certificate of the longest path.
 ghost use Rattle.re_cert.specs.Bounds.{last_problem};
 ghost use Rattle.re_cert.specs.declared.certificate.Kind.TheVariants.{Lower};
-ghost use Rattle.re_extend.specs.Extensions.{GoesOn, IsSoundChain};
+ghost use Rattle.re_extend.specs.Extensions.{GoesOn};
 ghost use Rattle.re_longest.specs.Answers.{Answers};
 ghost use Rattle.re_problem.specs.NamedProblems.{unnamed};
 ghost use Rattle.re_problem.specs.Zero.{zero_place};
@@ -10,6 +10,7 @@ ghost use Rattle.std.specs.Prelude.{◌≡◌, IfOk, IfSome, None};
 use crate::beam::{longest_merged, longest_route};
 use re_beams::Given;
 use re_cert::{Certificate, Kind, MAX_STEPS};
+use re_chain_parts::LowerChain;
 use re_extend::{Extension, Route, extended, repeated, route_steps, takes_merges};
 use re_labels::NoMemory;
 use re_zero::zero_round;
@@ -88,40 +89,39 @@ fn longer(
 // The longest lower bound that is found.
 fn searched(
     alloc: Global,
-    chain: &Certificate,
+    chain: &LowerChain,
     steps: u8,
     labels: u8,
 ) -> Result<Certificate, NoMemory>
-    requires sound { IsSoundChain chain.now }
-    requires ends { zero_place (unnamed (last_problem chain.now)) ≡ None }
-    ensures { IfOk result (GoesOn Lower steps labels chain.now) }
+    requires { zero_place (unnamed (last_problem chain.now.certificate)) ≡ None }
+    ensures { IfOk result (GoesOn Lower steps labels chain.now.certificate) }
 {
-    let levels = levels_behind(chain, steps);
-    let route = longest_route(alloc, &Given::nothing(), chain.last(), levels, labels)?;
-    if let Some(certificate) = longer(alloc, chain, route.stops.len(), steps, labels)? {
-        return Ok(certificate);
+    let certificate = &chain.certificate;
+    let levels = levels_behind(certificate, steps);
+    let route = longest_route(alloc, &Given::nothing(), certificate.last(), levels, labels)?;
+    if let Some(found) = longer(alloc, certificate, route.stops.len(), steps, labels)? {
+        return Ok(found);
     }
-    match along(alloc, chain, route, steps, labels)? {
-        Some(certificate) => Ok(certificate),
+    match along(alloc, certificate, route, steps, labels)? {
+        Some(found) => Ok(found),
         None => repeated(alloc, chain, steps, labels),
     }
 }
 
-/// The longest lower bound that the beam search finds which goes on from a sound chain: with at most so many further steps, each to a
+/// The longest lower bound that the beam search finds which goes on from a chain: with at most so many further steps, each to a
 /// problem of at most so many labels. It is never shorter than the chain. It is accepted by `check`. The answer is `Solvable` exactly where
 /// the chain's last problem is solvable without communication.
 ///
 /// The search may miss longer bounds. The crate's page says how it goes, and what memory it takes.
 pub fn find_longest(
     alloc: Global,
-    chain: &Certificate,
+    chain: &LowerChain,
     steps: u8,
     labels: u8,
 ) -> Result<Longest, NoMemory>
-    requires { IsSoundChain chain.now }
-    ensures { IfOk result (Answers steps labels chain.now) }
+    ensures { IfOk result (Answers steps labels chain.now.certificate) }
 {
-    if let Some(place) = zero_round(chain.last()) {
+    if let Some(place) = zero_round(chain.certificate.last()) {
         return Ok(Longest::Solvable(place));
     }
     Ok(Longest::Found(searched(alloc, chain, steps, labels)?))

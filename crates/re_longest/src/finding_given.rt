@@ -1,16 +1,15 @@
 //! The certificate of the longest path where a solution of an input problem is given.
 ghost use Rattle.re_cert.specs.declared.certificate.Kind.TheVariants.{Lower};
-ghost use Rattle.re_extend.specs.Extensions.{IsSoundChain};
 ghost use Rattle.re_given.specs.Inputs.{IsInput};
 ghost use Rattle.re_given_words.specs.Extensions.{GoesOnGiven, IsTaken};
 ghost use Rattle.re_problem.specs.NamedProblems.{unnamed};
-ghost use Rattle.std.specs.Prelude.{◌≡◌, IfOk, IfSome};
+ghost use Rattle.std.specs.Prelude.{IfOk, IfSome};
 
 use crate::beam::longest_route;
 use crate::finding::{levels_behind, longer_route};
 use re_beams::Given;
 use re_cert::{Certificate, Kind, Step};
-use re_chain_parts::{chain as copied, over_problems};
+use re_chain_parts::{LowerChain, chain as copied, over_problems};
 use re_extend::{Extension, Route, route_steps};
 use re_given_words::{FEW_TRIES, extended_given, taken_law};
 use re_labels::NoMemory;
@@ -77,15 +76,15 @@ fn searched(
 // The chain as it is: it goes on from itself, with any number of steps and labels.
 fn repeated(
     alloc: Global,
-    chain: &Certificate,
+    chain: &LowerChain,
     input: &Problem,
     steps: u8,
     labels: u8,
 ) -> Result<Certificate, NoMemory>
-    requires sound { IsSoundChain chain.now }
-    requires accepted { IsTaken input.now chain.now }
-    ensures { IfOk result (GoesOnGiven input.now Lower steps labels chain.now) }
+    requires { IsTaken input.now chain.now.certificate }
+    ensures { IfOk result (GoesOnGiven input.now Lower steps labels chain.now.certificate) }
 {
+    let chain = &chain.certificate;
     over_problems(chain);
     let _kind = chain.kind();
     let _names = input.names();
@@ -93,24 +92,23 @@ fn repeated(
     Ok(copied(alloc, chain)?)
 }
 
-/// The longest lower bound given the input problem that the beam search finds which goes on from a sound chain that `given` accepts given
+/// The longest lower bound given the input problem that the beam search finds which goes on from a chain that `given` accepts given
 /// it: with at most so many further steps, each to a problem of at most so many labels. It is never shorter than the chain, and `given`
 /// accepts it.
 ///
 /// The search may miss longer bounds. The crate's page says how it goes, and what memory it takes.
 pub fn find_longest_given(
     alloc: Global,
-    chain: &Certificate,
+    chain: &LowerChain,
     input: &Problem,
     steps: u8,
     labels: u8,
 ) -> Result<Certificate, NoMemory>
-    requires sound { IsSoundChain chain.now }
-    requires input { IsInput (unnamed chain.now.first) (unnamed input.now) }
-    requires accepted { IsTaken input.now chain.now }
-    ensures { IfOk result (GoesOnGiven input.now Lower steps labels chain.now) }
+    requires input { IsInput (unnamed chain.now.certificate.first) (unnamed input.now) }
+    requires accepted { IsTaken input.now chain.now.certificate }
+    ensures { IfOk result (GoesOnGiven input.now Lower steps labels chain.now.certificate) }
 {
-    match searched(alloc, chain, input, steps, labels)? {
+    match searched(alloc, &chain.certificate, input, steps, labels)? {
         Some(certificate) => Ok(certificate),
         None => repeated(alloc, chain, input, steps, labels),
     }

@@ -2,6 +2,7 @@
 ghost use Rattle.re_cert.specs.Bounds.{last_problem};
 ghost use Rattle.re_cert.specs.declared.certificate.Kind.TheVariants.{Fixed};
 ghost use Rattle.re_cert.specs.declared.certificate.TheConstants.{MAX_STEPS};
+ghost use Rattle.re_chain_parts.specs.HeldBounds.{held_bound};
 ghost use Rattle.re_chain_texts.specs.ChainTexts.{text_chain};
 ghost use Rattle.re_chain_texts.specs.OverChains.{steps_refusal};
 ghost use Rattle.re_frame.specs.Outcomes.{outcome_of};
@@ -16,8 +17,9 @@ ghost use Rattle.std.specs.Prelude.{◌≡◌, ◌≤◌, IfOk, length};
 use crate::finding::find_relaxed;
 use crate::types::Relaxed;
 use crate::words::RelaxedWord;
-use re_cert::{Certificate, Kind};
-use re_chain_texts::{certificate_output, read_chain, steps_refusal};
+use re_cert::Certificate;
+use re_chain_parts::{Chain, LowerChain};
+use re_chain_texts::{certificate_output, judged_chain, read_chain};
 use re_frame::{
     Finding, Output, fault_output, limit_of, not_found_output, not_lower_output, solvable_output,
     verdict_output,
@@ -27,37 +29,35 @@ use re_problem::TextFault;
 use std::alloc::Global;
 
 // What the word gives to a chain of kind lower.
-fn relaxed_output(alloc: Global, chain: &Certificate, nodes: u32) -> Result<Output, NoMemory>
-    ensures { IfOk result (λ output. MayFindBehind (zero_place (unnamed (last_problem chain.now))) (Cycle MAX_STEPS 0 nodes) chain.now (outcome_of output)) }
+fn relaxed_output(alloc: Global, chain: &LowerChain, nodes: u32) -> Result<Output, NoMemory>
+    ensures { IfOk result (λ output. MayFindBehind (zero_place (unnamed (last_problem chain.now.certificate))) (Cycle MAX_STEPS 0 nodes) chain.now.certificate (outcome_of output)) }
 {
     match find_relaxed(alloc, chain, nodes)? {
         Relaxed::Found(certificate) => certificate_output(alloc, &certificate),
-        Relaxed::Solvable(place) => solvable_output(alloc, chain.last(), place),
+        Relaxed::Solvable(place) => solvable_output(alloc, chain.certificate.last(), place),
         Relaxed::NotFound { nodes: seen, cut } => not_found_output(alloc, seen, cut),
         Relaxed::TooMany => limit_of(alloc, nodes as usize, "nodes"),
     }
 }
 
-// What the word gives to a chain each step of which meets its clauses.
-fn chain_output(alloc: Global, chain: &Certificate, nodes: u32) -> Result<Output, NoMemory>
-    requires { chain.now.kind ≡ Fixed → ⊥ }
-    ensures { IfOk result (λ output. MayGiveAt chain.now.kind (Cycle MAX_STEPS 0 nodes) chain.now (outcome_of output)) }
+// What the word gives to a chain.
+fn chain_output(alloc: Global, chain: &Chain, nodes: u32) -> Result<Output, NoMemory>
+    ensures { IfOk result (λ output. MayGiveAt (held_bound chain.now).kind (Cycle MAX_STEPS 0 nodes) (held_bound chain.now) (outcome_of output)) }
 {
-    match chain.kind() {
-        Kind::Lower => relaxed_output(alloc, chain, nodes),
-        Kind::Upper => not_lower_output(alloc),
-        Kind::Fixed => unreachable!(),
+    match chain {
+        Chain::Lower(chain) => relaxed_output(alloc, chain, nodes),
+        Chain::Upper(_) => not_lower_output(alloc),
     }
 }
 
-// What the word gives to a chain.
-fn sound_output(alloc: Global, chain: &Certificate, nodes: u32) -> Result<Output, NoMemory>
-    requires { chain.now.kind ≡ Fixed → ⊥ }
-    ensures { IfOk result (λ output. MayGiveSound (steps_refusal chain.now) (Cycle MAX_STEPS 0 nodes) chain.now (outcome_of output)) }
+// What the word gives to the chain of these steps.
+fn sound_output(alloc: Global, chain: Certificate, nodes: u32) -> Result<Output, NoMemory>
+    requires { chain.kind ≡ Fixed → ⊥ }
+    ensures { IfOk result (λ output. MayGiveSound (steps_refusal chain) (Cycle MAX_STEPS 0 nodes) chain (outcome_of output)) }
 {
-    match steps_refusal(chain) {
-        Some(verdict) => Ok(verdict_output(alloc, verdict)?),
-        None => chain_output(alloc, chain, nodes),
+    match judged_chain(chain) {
+        Ok(chain) => chain_output(alloc, &chain, nodes),
+        Err(verdict) => Ok(verdict_output(alloc, verdict)?),
     }
 }
 
@@ -68,7 +68,7 @@ fn text_output(alloc: Global, word: RelaxedWord, text: &[u8]) -> Result<Output, 
     ensures { IfOk result (λ output. MayGive word text.now (outcome_of output)) }
 {
     match read_chain(alloc, text) {
-        Ok(chain) => sound_output(alloc, &chain, word.nodes),
+        Ok(chain) => sound_output(alloc, chain, word.nodes),
         Err(TextFault::Bad(fault)) => Ok(fault_output(alloc, fault)?),
         Err(TextFault::NoMemory) => Err(NoMemory),
     }

@@ -14,7 +14,7 @@ use crate::returning::{chain_behind, returned};
 use crate::types::{Relaxed, Tried};
 use crate::walk::Walk;
 use re_cert::{Certificate, Kind, MAX_STEPS};
-use re_chain_parts::copied_step;
+use re_chain_parts::{LowerChain, copied_step};
 use re_extend::{Extension, extended, takes_merges};
 use re_labels::{MAX_LABELS, NoMemory};
 use re_zero::zero_round;
@@ -52,12 +52,12 @@ fn found_of(walk: &mut Walk, tried: Tried) -> Option<Certificate> {
 // What the relaxation of the chain's last problem by these classes comes to.
 fn found_by(
     alloc: Global,
-    chain: &Certificate,
+    chain: &LowerChain,
     way: Way,
     classes: &[u8],
     walk: &mut Walk,
 ) -> Result<Option<Certificate>, NoMemory> {
-    let relaxed = relaxation(alloc, chain.last(), classes)?;
+    let relaxed = relaxation(alloc, chain.certificate.last(), classes)?;
     if !walk.takes(relaxed.problem())? {
         return Ok(None);
     }
@@ -72,12 +72,12 @@ fn found_by(
 // The first that is found of those by so many classes.
 fn found_among(
     alloc: Global,
-    chain: &Certificate,
+    chain: &LowerChain,
     way: Way,
     count: u8,
     walk: &mut Walk,
 ) -> Result<Option<Certificate>, NoMemory> {
-    let mut classes = one_class(alloc, chain.last().names().len())?;
+    let mut classes = one_class(alloc, chain.certificate.last().names().len())?;
     for _ in 0..MAX_PARTITIONS {
         if has_classes(classes.as_slice(), count) {
             let found = found_by(alloc, chain, way, classes.as_slice(), walk)?;
@@ -96,7 +96,7 @@ fn found_among(
 // The first that is found of those by 2 classes, and then by 3.
 fn found_closed(
     alloc: Global,
-    chain: &Certificate,
+    chain: &LowerChain,
     walk: &mut Walk,
 ) -> Result<Option<Certificate>, NoMemory> {
     walk.begin();
@@ -112,11 +112,11 @@ fn found_closed(
 // The first that is found of those of a problem that come back, by all partitions of its labels, those into most classes first.
 fn found_returning(
     alloc: Global,
-    chain: &Certificate,
+    chain: &LowerChain,
     way: Way,
     walk: &mut Walk,
 ) -> Result<Option<Certificate>, NoMemory> {
-    let labels = chain.last().names().len();
+    let labels = chain.certificate.last().names().len();
     if labels > MAX_TRIED {
         return Ok(None);
     }
@@ -133,7 +133,7 @@ fn found_returning(
 // The same behind so many steps.
 fn found_behind(
     alloc: Global,
-    chain: &Certificate,
+    chain: &LowerChain,
     steps: u8,
     walk: &mut Walk,
 ) -> Result<Option<Certificate>, NoMemory> {
@@ -149,12 +149,12 @@ fn found_behind(
 // The first that is found behind diagrams in which this label may stand for another one.
 fn found_raised_to(
     alloc: Global,
-    chain: &Certificate,
+    chain: &LowerChain,
     high: u8,
     walk: &mut Walk,
 ) -> Result<Option<Certificate>, NoMemory> {
     for low in 0..MAX_TRIED as u8 {
-        if low == high || low as usize >= chain.last().names().len() {
+        if low == high || low as usize >= chain.certificate.last().names().len() {
             continue;
         }
         if !walk.takes_one() {
@@ -171,11 +171,11 @@ fn found_raised_to(
 // The first that is found behind diagrams of one edge.
 fn found_raised(
     alloc: Global,
-    chain: &Certificate,
+    chain: &LowerChain,
     walk: &mut Walk,
 ) -> Result<Option<Certificate>, NoMemory> {
     for high in 0..MAX_TRIED as u8 {
-        if high as usize >= chain.last().names().len() {
+        if high as usize >= chain.certificate.last().names().len() {
             return Ok(None);
         }
         let found = found_raised_to(alloc, chain, high, walk)?;
@@ -189,10 +189,10 @@ fn found_raised(
 // The first that is found behind relaxations of the chain's last problem, which has few labels.
 fn found_near(
     alloc: Global,
-    chain: &Certificate,
+    chain: &LowerChain,
     walk: &mut Walk,
 ) -> Result<Option<Certificate>, NoMemory> {
-    if chain.last().names().len() > MAX_TRIED {
+    if chain.certificate.last().names().len() > MAX_TRIED {
         return Ok(None);
     }
     let found = found_closed(alloc, chain, walk)?;
@@ -209,10 +209,10 @@ fn found_near(
 // The first that is found at all.
 fn searched(
     alloc: Global,
-    chain: &Certificate,
+    chain: &LowerChain,
     walk: &mut Walk,
 ) -> Result<Option<Certificate>, NoMemory> {
-    if !takes_merges(alloc, chain)? {
+    if !takes_merges(alloc, &chain.certificate)? {
         return Ok(None);
     }
     let found = found_near(alloc, chain, walk)?;
@@ -278,18 +278,18 @@ fn answer_of(
     })
 }
 
-/// Searches for a fixed point that goes on from a sound chain behind a relaxation, looking at so many relaxations at most; only where `takes_merges`
+/// Searches for a fixed point that goes on from a chain behind a relaxation, looking at so many relaxations at most; only where `takes_merges`
 /// holds of the chain. What is found is accepted by `check`, and shows that no algorithm solves the chain's first problem in any number of rounds.
 /// The answer is `Solvable` exactly where the chain's last problem is solvable without communication.
 ///
 /// The crate's page says which relaxations are looked at, in what order, and what is asked of them.
-pub fn find_relaxed(alloc: Global, chain: &Certificate, nodes: u32) -> Result<Relaxed, NoMemory>
-    ensures { IfOk result (Answers chain.now) }
+pub fn find_relaxed(alloc: Global, chain: &LowerChain, nodes: u32) -> Result<Relaxed, NoMemory>
+    ensures { IfOk result (Answers chain.now.certificate) }
 {
-    if let Some(place) = zero_round(chain.last()) {
+    if let Some(place) = zero_round(chain.certificate.last()) {
         return Ok(Relaxed::Solvable(place));
     }
     let mut walk = Walk::new(alloc, nodes);
     let found = searched(alloc, chain, &mut walk)?;
-    answer_of(alloc, chain, &walk, found)
+    answer_of(alloc, &chain.certificate, &walk, found)
 }

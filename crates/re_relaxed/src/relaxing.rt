@@ -7,9 +7,9 @@ ghost use Rattle.std.specs.Prelude.{◌≡◌, ◌<◌, ◌↔◌, IsTrue, lengt
 
 use crate::classes::merge_at;
 use arrayvec::ArrayVec;
-use re_cert::{Certificate, Kind, Step};
-use re_chain::{MergeFault, merge, relaxed_step};
-use re_chain_parts::chain as copied;
+use re_cert::{Kind, Step};
+use re_chain::{MergeFault, merge_lower, relaxed_step};
+use re_chain_parts::{LowerChain, chain as copied_chain};
 use re_changes::{Change, Changed};
 use re_extend::{Extension, extended};
 use re_labels::{MAX_LABELS, NoMemory};
@@ -41,16 +41,22 @@ pub(crate) fn relaxation(
     Ok(made)
 }
 
+/// The same chain in memory of its own.
+pub(crate) fn copied(alloc: Global, chain: &LowerChain) -> Result<LowerChain, NoMemory> {
+    let copied = copied_chain(alloc, &chain.certificate)?;
+    Ok(LowerChain::new(copied))
+}
+
 /// The chain in whose last problem the labels of each class have become one, if it has a step.
 pub(crate) fn merged_chain(
     alloc: Global,
-    chain: &Certificate,
+    chain: &LowerChain,
     classes: &[u8],
-) -> Result<Option<Certificate>, NoMemory> {
+) -> Result<Option<LowerChain>, NoMemory> {
     let mut made = copied(alloc, chain)?;
     for place in (0..classes.len()).rev() {
         if let Some((low, high)) = merge_at(classes, place) {
-            made = match merge(alloc, &made, high, low) {
+            made = match merge_lower(alloc, &made, high, low) {
                 Ok(next) => next,
                 Err(MergeFault::NoMemory) => return Err(NoMemory),
                 Err(_) => return Ok(None),
@@ -131,13 +137,14 @@ fn step_where_relaxed(
 /// communication.
 pub(crate) fn relaxed_chain(
     alloc: Global,
-    chain: &Certificate,
+    chain: &LowerChain,
     relaxed: &Changed,
-) -> Result<Option<Certificate>, NoMemory> {
+) -> Result<Option<LowerChain>, NoMemory> {
     let Some(map) = map_of(relaxed) else {
         return Ok(None);
     };
-    let Some(step) = step_where_relaxed(alloc, chain.last(), relaxed.problem(), &map)? else {
+    let Some(step) = step_where_relaxed(alloc, chain.certificate.last(), relaxed.problem(), &map)?
+    else {
         return Ok(None);
     };
     let mut steps = Vec::new(alloc);
@@ -148,5 +155,8 @@ pub(crate) fn relaxed_chain(
         steps,
         renaming: Vec::new(alloc),
     };
-    extended(alloc, chain, extension, 1, MAX_LABELS)
+    match extended(alloc, &chain.certificate, extension, 1, MAX_LABELS)? {
+        Some(longer) => Ok(Some(LowerChain::new(longer))),
+        None => Ok(None),
+    }
 }

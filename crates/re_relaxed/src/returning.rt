@@ -1,11 +1,11 @@
 //! Relaxations that come back to themselves.
-use crate::closing::{is_sound, next_chain};
-use crate::relaxing::{merged_chain, relaxed_chain};
+use crate::closing::next_chain;
+use crate::relaxing::{copied, merged_chain, relaxed_chain};
 use crate::types::Tried;
 use re_bridge::BridgeFault;
 use re_bridge_words::bridge;
 use re_cert::{Certificate, Kind, MAX_STEPS, Step};
-use re_chain_parts::{chain as copied, copied_step, copied_steps};
+use re_chain_parts::{LowerChain, copied_step, copied_steps};
 use re_chain_steps::by_rows;
 use re_chain_texts::problem_chain;
 use re_changes::Changed;
@@ -25,9 +25,9 @@ const MAX_TRIES: u32 = 3_000;
 /// The chain with so many steps more, if they pass no limit.
 pub(crate) fn chain_behind(
     alloc: Global,
-    chain: &Certificate,
+    chain: &LowerChain,
     steps: u8,
-) -> Result<Option<Certificate>, NoMemory> {
+) -> Result<Option<LowerChain>, NoMemory> {
     let mut longer = copied(alloc, chain)?;
     for _ in 0..steps {
         let Some(next) = next_chain(alloc, &longer, MAX_BEFORE)? else {
@@ -39,31 +39,23 @@ pub(crate) fn chain_behind(
 }
 
 // The chain with the step to this problem, all maps by rows, if it is found.
-fn bridged(alloc: Global, chain: &Certificate, to: &Problem) -> Result<Tried, NoMemory> {
-    if chain.steps().len() >= MAX_STEPS || !is_sound(chain) {
+fn bridged(alloc: Global, chain: &LowerChain, to: &Problem) -> Result<Tried, NoMemory> {
+    if chain.certificate.steps().len() >= MAX_STEPS {
         return Ok(Tried::Missing);
     }
     match bridge(alloc, chain, to, MAX_TRIES) {
-        Ok(Some(longer)) => in_rows(alloc, &longer),
+        Ok(Some(longer)) => Ok(Tried::Found(by_rows(alloc, &longer)?)),
         Ok(None) => Ok(Tried::Missing),
         Err(BridgeFault::NoMemory) => Err(NoMemory),
         Err(_) => Ok(Tried::Cut),
     }
 }
 
-// The chain with its maps by rows.
-fn in_rows(alloc: Global, chain: &Certificate) -> Result<Tried, NoMemory> {
-    if !is_sound(chain) {
-        return Ok(Tried::Missing);
-    }
-    Ok(Tried::Found(by_rows(alloc, chain)?))
-}
-
 // The chain from the problem back to it, of two steps or, behind two steps more each time, of at most so many more.
 fn back_within(
     alloc: Global,
     problem: &Problem,
-    chain: &Certificate,
+    chain: &LowerChain,
     more: u8,
 ) -> Result<Tried, NoMemory> {
     let Some(odd) = next_chain(alloc, chain, MAX_BEFORE)? else {
@@ -118,16 +110,14 @@ fn closed_by(alloc: Global, chain: &Certificate, back: Vec<Step>) -> Result<Trie
 // The fixed point that goes on from the chain, whose last problem is relaxed, by the steps from the relaxation back to it.
 fn behind_merges(
     alloc: Global,
-    chain: &Certificate,
+    chain: &LowerChain,
     classes: &[u8],
     round: &Certificate,
 ) -> Result<Tried, NoMemory> {
     let Some(merged) = merged_chain(alloc, chain, classes)? else {
         return Ok(Tried::Missing);
     };
-    let Tried::Found(rows) = in_rows(alloc, &merged)? else {
-        return Ok(Tried::Missing);
-    };
+    let rows = by_rows(alloc, &merged.certificate)?;
     let back = copied_steps(alloc, round.steps())?;
     closed_by(alloc, &rows, back)
 }
@@ -135,7 +125,7 @@ fn behind_merges(
 // The same behind the step to the derived problem of a relaxation of the last problem of the chain.
 fn behind_step(
     alloc: Global,
-    chain: &Certificate,
+    chain: &LowerChain,
     relaxed: &Changed,
     round: &Certificate,
 ) -> Result<Tried, NoMemory> {
@@ -143,13 +133,13 @@ fn behind_step(
         return Ok(Tried::Missing);
     };
     let back = rotated(alloc, round.steps())?;
-    closed_by(alloc, &longer, back)
+    closed_by(alloc, &longer.certificate, back)
 }
 
 // The fixed point that goes on from the chain by the steps from the relaxation back to it.
 fn behind(
     alloc: Global,
-    chain: &Certificate,
+    chain: &LowerChain,
     further: bool,
     classes: &[u8],
     relaxed: &Changed,
@@ -166,7 +156,7 @@ fn behind(
 /// from the chain, where `further` by its last step, to that relaxation, and else by the step to the derived problem of the relaxation.
 pub(crate) fn returned(
     alloc: Global,
-    chain: &Certificate,
+    chain: &LowerChain,
     further: bool,
     classes: &[u8],
     relaxed: &Changed,

@@ -71,22 +71,19 @@ some_more P Q (Err fault) more found = tt
 not_long : (outcome : Outcome) → outcome.status ≡ status.Done → outcome ≡ too_long → ⊥
 not_long outcome finished long = let wrong : status.Limit ≡ status.Done = sym (ap (λ (o : Outcome). o.status) long) ∙ finished in cc
 
-pub lengthened : (place : Option ℕ) (kind : Kind) (steps labels : ℕ) (chain : Bound) (outcome : Outcome) → place ≡ None → kind ≡ Lower → IsFound kind steps labels chain outcome
-    → outcome.status ≡ status.Done → MayFindBehind place (Longest steps labels) chain outcome
-lengthened place kind steps labels chain outcome none lower found finished =
-    subst (λ p. MayFindBehind p (Longest steps labels) chain outcome) (sym none)
-    (subst (λ (k : Kind). IsFound k steps labels chain outcome) lower found, λ long. absurd (not_long outcome finished long))
+pub lengthened : (place : Option ℕ) (steps labels : ℕ) (chain : Bound) (outcome : Outcome) → place ≡ None → IsFound Lower steps labels chain outcome → outcome.status ≡ status.Done
+    → MayFindBehind place (Longest steps labels) chain outcome
+lengthened place steps labels chain outcome none found finished =
+    subst (λ p. MayFindBehind p (Longest steps labels) chain outcome) (sym none) (found, λ long. absurd (not_long outcome finished long))
 
-pub shortened : (place : Option ℕ) (kind : Kind) (steps fewer labels : ℕ) (chain : Bound) (outcome : Outcome) → place ≡ None → kind ≡ Upper → fewer ≤ labels
-    → IsFound kind steps fewer chain outcome → MayShorten place steps labels chain outcome
-shortened place kind steps fewer labels chain outcome none upper within found =
-    subst (λ p. MayShorten p steps labels chain outcome) (sym none)
-    (inl (subst (λ (k : Kind). IsFound k steps labels chain outcome) upper (found_more kind steps fewer labels chain outcome within found)))
+pub shortened : (place : Option ℕ) (steps fewer labels : ℕ) (chain : Bound) (outcome : Outcome) → place ≡ None → fewer ≤ labels → IsFound Upper steps fewer chain outcome
+    → MayShorten place steps labels chain outcome
+shortened place steps fewer labels chain outcome none within found =
+    subst (λ p. MayShorten p steps labels chain outcome) (sym none) (inl (found_more Upper steps fewer labels chain outcome within found))
 
-pub shortened_given : (input : NamedProblem) (kind : Kind) (steps fewer labels : ℕ) (chain : Bound) (outcome : Outcome) → kind ≡ Upper → fewer ≤ labels
-    → IsFoundGiven input kind steps fewer chain outcome → MayFindElse (Shortest steps labels) input chain outcome
-shortened_given input kind steps fewer labels chain outcome upper within found =
-    inl (subst (λ (k : Kind). IsFoundGiven input k steps labels chain outcome) upper (given_more input kind steps fewer labels chain outcome within found))
+pub shortened_given : (input : NamedProblem) (steps fewer labels : ℕ) (chain : Bound) (outcome : Outcome) → fewer ≤ labels → IsFoundGiven input Upper steps fewer chain outcome
+    → MayFindElse (Shortest steps labels) input chain outcome
+shortened_given input steps fewer labels chain outcome within found = inl (given_more input Upper steps fewer labels chain outcome within found)
 
 -- ---- the chain itself, however long its text is
 pub stayed : (place : Option ℕ) (steps labels : ℕ) (chain bound : Bound) (outcome : Outcome) → place ≡ None → bound ≡ chain → GoesOn Lower steps labels chain bound

@@ -1,23 +1,23 @@
 //! What the words answer.
 ghost use Rattle.re_cert.specs.Bounds.{last_problem};
-ghost use Rattle.re_cert.specs.declared.certificate.Kind.TheVariants.{Fixed, Upper};
+ghost use Rattle.re_cert.specs.declared.certificate.Kind.TheVariants.{Fixed};
+ghost use Rattle.re_chain_parts.specs.HeldBounds.{held_bound};
 ghost use Rattle.re_chain_texts.specs.ChainTexts.{text_chain};
 ghost use Rattle.re_chain_texts.specs.OverChains.{steps_refusal};
-ghost use Rattle.re_extend.specs.Extensions.{IsSoundChain};
-ghost use Rattle.re_check.specs.Verdicts.{steps_fault};
 ghost use Rattle.re_frame.specs.Outcomes.{outcome_of};
 ghost use Rattle.re_io.specs.declared.read.TheConstants.{MAX_BYTES};
 ghost use Rattle.re_problem.specs.NamedProblems.{unnamed};
 ghost use Rattle.re_problem.specs.Zero.{zero_place};
 ghost use Rattle.re_search_words.specs.GivenAnswers.{MayGiveText};
 ghost use Rattle.re_search_words.specs.MayGive.{MayFindBehind, MayGive, MayGiveAt, MayGiveSound, MayShorten, upper_chain, word_chain};
-ghost use Rattle.std.specs.Prelude.{◌≡◌, ◌≤◌, IfOk, None, Some, length};
+ghost use Rattle.std.specs.Prelude.{◌≡◌, ◌≤◌, IfOk, length};
 
-use crate::fitting::{fitting_text, three_quarters};
+use crate::fitting::{fitting_lower, fitting_upper, three_quarters};
 use crate::given::given_output;
 use crate::words::SearchWord;
 use re_cert::{Certificate, Kind};
-use re_chain_texts::{certificate_output, is_certificate_text, read_chain, steps_refusal};
+use re_chain_parts::{Chain, LowerChain, UpperChain};
+use re_chain_texts::{certificate_output, is_certificate_text, judged_chain, read_chain};
 use re_cycle::{Cycle, find_cycle};
 use re_extend::repeated;
 use re_frame::{
@@ -32,27 +32,26 @@ use re_two_texts::has_line;
 use re_zero::zero_round;
 use std::alloc::Global;
 
-// What `longest` gives to a sound chain of kind lower.
+// What `longest` gives to a chain of kind lower.
 fn longest_output(
     alloc: Global,
-    chain: &Certificate,
+    chain: &LowerChain,
     steps: u8,
     labels: u8,
 ) -> Result<Output, NoMemory>
-    requires { IsSoundChain chain.now }
-    ensures { IfOk result (λ output. MayFindBehind (zero_place (unnamed (last_problem chain.now))) (SearchWord.Longest steps labels) chain.now (outcome_of output)) }
+    ensures { IfOk result (λ output. MayFindBehind (zero_place (unnamed (last_problem chain.now.certificate))) (SearchWord.Longest steps labels) chain.now.certificate (outcome_of output)) }
 {
-    if let Some(place) = zero_round(chain.last()) {
-        return solvable_output(alloc, chain.last(), place);
+    if let Some(place) = zero_round(chain.certificate.last()) {
+        return solvable_output(alloc, chain.certificate.last(), place);
     }
-    if let Some(output) = fitting_text(alloc, chain, steps, labels)? {
+    if let Some(output) = fitting_lower(alloc, chain, steps, labels)? {
         return Ok(output);
     }
     let certificate = repeated(alloc, chain, steps, labels)?;
     certificate_output(alloc, &certificate)
 }
 
-// What `cycle` gives to a sound chain of kind lower.
+// What `cycle` gives to a chain of kind lower.
 fn cycle_output(
     alloc: Global,
     chain: &Certificate,
@@ -70,16 +69,14 @@ fn cycle_output(
     }
 }
 
-// What `shortest` gives to a sound chain of kind upper, however long its text is.
+// What `shortest` gives to a chain of kind upper, however long its text is.
 fn shortest_found(
     alloc: Global,
-    chain: &Certificate,
+    chain: &UpperChain,
     steps: u8,
     labels: u8,
 ) -> Result<Output, NoMemory>
-    requires upper { chain.now.kind ≡ Upper }
-    requires meets { steps_fault chain.now.first 1 chain.now.steps ≡ None }
-    ensures { IfOk result (λ output. MayShorten (zero_place (unnamed (last_problem chain.now))) steps labels chain.now (outcome_of output)) }
+    ensures { IfOk result (λ output. MayShorten (zero_place (unnamed (last_problem chain.now.certificate))) steps labels chain.now.certificate (outcome_of output)) }
 {
     match find_shortest(alloc, chain, steps, labels)? {
         Shortest::Found(certificate) => certificate_output(alloc, &certificate),
@@ -87,100 +84,61 @@ fn shortest_found(
     }
 }
 
-// What `shortest` gives to a sound chain of kind upper.
+// What `shortest` gives to a chain of kind upper.
 fn shortest_output(
     alloc: Global,
-    chain: &Certificate,
+    chain: &UpperChain,
     steps: u8,
     labels: u8,
 ) -> Result<Output, NoMemory>
-    requires upper { chain.now.kind ≡ Upper }
-    requires meets { steps_fault chain.now.first 1 chain.now.steps ≡ None }
-    ensures { IfOk result (λ output. MayShorten (zero_place (unnamed (last_problem chain.now))) steps labels chain.now (outcome_of output)) }
+    ensures { IfOk result (λ output. MayShorten (zero_place (unnamed (last_problem chain.now.certificate))) steps labels chain.now.certificate (outcome_of output)) }
 {
     let output = shortest_found(alloc, chain, steps, labels)?;
     if output.answer != Answer::Limit {
         return Ok(output);
     }
-    if let Some(_) = zero_round(chain.last()) {
+    if let Some(_) = zero_round(chain.certificate.last()) {
         return Ok(output);
     }
-    match fitting_text(alloc, chain, steps, three_quarters(labels))? {
+    match fitting_upper(alloc, chain, steps, three_quarters(labels))? {
         Some(fitting) => Ok(fitting),
         None => Ok(output),
     }
 }
 
-// What `longest` gives to a chain each step of which meets its clauses.
-fn longest_at(alloc: Global, chain: &Certificate, steps: u8, labels: u8) -> Result<Output, NoMemory>
-    requires meets { steps_fault chain.now.first 1 chain.now.steps ≡ None }
-    requires open { chain.now.kind ≡ Fixed → ⊥ }
-    ensures { IfOk result (λ output. MayGiveAt chain.now.kind (SearchWord.Longest steps labels) chain.now (outcome_of output)) }
-{
-    match chain.kind() {
-        Kind::Lower => longest_output(alloc, chain, steps, labels),
-        Kind::Upper => not_lower_output(alloc),
-        Kind::Fixed => unreachable!(),
-    }
-}
-
-// What `cycle` gives to a chain.
-fn cycle_at(
-    alloc: Global,
-    chain: &Certificate,
-    steps: u8,
-    merges: u8,
-    nodes: u32,
-) -> Result<Output, NoMemory>
-    requires { chain.now.kind ≡ Fixed → ⊥ }
-    ensures { IfOk result (λ output. MayGiveAt chain.now.kind (SearchWord.Cycle steps merges nodes) chain.now (outcome_of output)) }
-{
-    match chain.kind() {
-        Kind::Lower => cycle_output(alloc, chain, steps, merges, nodes),
-        Kind::Upper => not_lower_output(alloc),
-        Kind::Fixed => unreachable!(),
-    }
-}
-
-// What `shortest` gives to a chain each step of which meets its clauses.
-fn shortest_at(
-    alloc: Global,
-    chain: &Certificate,
-    steps: u8,
-    labels: u8,
-) -> Result<Output, NoMemory>
-    requires meets { steps_fault chain.now.first 1 chain.now.steps ≡ None }
-    requires open { chain.now.kind ≡ Fixed → ⊥ }
-    ensures { IfOk result (λ output. MayGiveAt chain.now.kind (SearchWord.Shortest steps labels) chain.now (outcome_of output)) }
-{
-    match chain.kind() {
-        Kind::Upper => shortest_output(alloc, chain, steps, labels),
-        Kind::Lower => not_upper_output(alloc),
-        Kind::Fixed => unreachable!(),
-    }
-}
-
-// What the word gives to a chain each step of which meets its clauses.
-fn chain_output(alloc: Global, word: SearchWord, chain: &Certificate) -> Result<Output, NoMemory>
-    requires meets { steps_fault chain.now.first 1 chain.now.steps ≡ None }
-    requires open { chain.now.kind ≡ Fixed → ⊥ }
-    ensures { IfOk result (λ output. MayGiveAt chain.now.kind word chain.now (outcome_of output)) }
-{
-    match word {
-        SearchWord::Longest(steps, labels) => longest_at(alloc, chain, steps, labels),
-        SearchWord::Shortest(steps, labels) => shortest_at(alloc, chain, steps, labels),
-        SearchWord::Cycle(steps, merges, nodes) => cycle_at(alloc, chain, steps, merges, nodes),
-    }
-}
-
 // What the word gives to a chain.
-fn sound_output(alloc: Global, word: SearchWord, chain: &Certificate) -> Result<Output, NoMemory>
-    requires { chain.now.kind ≡ Fixed → ⊥ }
-    ensures { IfOk result (λ output. MayGiveSound (steps_refusal chain.now) word chain.now (outcome_of output)) }
+fn chain_output(alloc: Global, word: SearchWord, chain: &Chain) -> Result<Output, NoMemory>
+    ensures { IfOk result (λ output. MayGiveAt (held_bound chain.now).kind word (held_bound chain.now) (outcome_of output)) }
 {
-    match steps_refusal(chain) {
-        Some(verdict) => Ok(verdict_output(alloc, verdict)?),
-        None => chain_output(alloc, word, chain),
+    match (word, chain) {
+        (SearchWord::Longest(steps, labels), Chain::Lower(chain)) => {
+            longest_output(alloc, chain, steps, labels)
+        }
+        (SearchWord::Cycle(steps, merges, nodes), Chain::Lower(chain)) => {
+            cycle_output(alloc, &chain.certificate, steps, merges, nodes)
+        }
+        (SearchWord::Shortest(..), Chain::Lower(_)) => not_upper_output(alloc),
+        (SearchWord::Shortest(steps, labels), Chain::Upper(chain)) => {
+            shortest_output(alloc, chain, steps, labels)
+        }
+        (SearchWord::Longest(..) | SearchWord::Cycle(..), Chain::Upper(_)) => {
+            not_lower_output(alloc)
+        }
+    }
+}
+
+// What the word gives to steps: that to their chain where none fails.
+fn sound_output(
+    alloc: Global,
+    word: SearchWord,
+    certificate: Certificate,
+) -> Result<Output, NoMemory>
+    requires { certificate.kind ≡ Fixed → ⊥ }
+    ensures { IfOk result (λ output. MayGiveSound (steps_refusal certificate) word certificate (outcome_of output)) }
+{
+    match judged_chain(certificate) {
+        Ok(chain) => chain_output(alloc, word, &chain),
+        Err(verdict) => Ok(verdict_output(alloc, verdict)?),
     }
 }
 
@@ -226,7 +184,7 @@ fn read_output(
     ensures { IfOk result (λ output. MayGiveSound (steps_refusal (word_chain word text.now)) word (word_chain word text.now) (outcome_of output)) }
 {
     let chain = word_chain(alloc, word, text, chain)?;
-    sound_output(alloc, word, &chain)
+    sound_output(alloc, word, chain)
 }
 
 // What the word gives to a text without a line `== given`.

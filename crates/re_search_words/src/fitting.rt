@@ -1,17 +1,15 @@
 //! Bounds whose text is no longer than a text that is read may be: searches with fewer labels, where it would be longer.
-ghost use Rattle.re_cert.specs.declared.certificate.Kind.TheVariants.{Fixed, Lower};
-ghost use Rattle.re_check.specs.Verdicts.{steps_fault};
-ghost use Rattle.re_extend.specs.Extensions.{GoesOn};
+ghost use Rattle.re_cert.specs.declared.certificate.Kind.TheVariants.{Lower, Upper};
 ghost use Rattle.re_frame.specs.Outcomes.{outcome_of, status_of};
 ghost use Rattle.re_frame.specs.declared.status.Status.TheVariants.{Done};
 ghost use Rattle.re_given.specs.Inputs.{IsInput};
-ghost use Rattle.re_given_words.specs.Extensions.{GoesOnGiven, IsTaken};
+ghost use Rattle.re_given_words.specs.Extensions.{IsTaken};
 ghost use Rattle.re_problem.specs.NamedProblems.{unnamed};
 ghost use Rattle.re_search_words.specs.GivenAnswers.{IsFoundGiven};
 ghost use Rattle.re_search_words.specs.MayGive.{IsFound};
-ghost use Rattle.std.specs.Prelude.{◌≡◌, ◌≤◌, ◌<◌, IfOk, IfSome, None};
+ghost use Rattle.std.specs.Prelude.{◌≡◌, ◌≤◌, ◌<◌, IfOk, IfSome};
 
-use re_cert::{Certificate, Kind};
+use re_chain_parts::{LowerChain, UpperChain};
 use re_chain_texts::certificate_output;
 use re_frame::Output;
 use re_given_words::is_done;
@@ -30,144 +28,168 @@ pub(crate) fn three_quarters(labels: u8) -> u8
     (labels as u16 * 3 / 4) as u8
 }
 
-// The bound of the chain's kind that a search with at most so many labels finds, if any.
-fn bound_with(
+// The text of the lower bound that a search with at most so many labels finds, or the limit, if it finds any.
+fn lower_text(
     alloc: Global,
-    chain: &Certificate,
-    steps: u8,
-    labels: u8,
-) -> Result<Option<Certificate>, NoMemory>
-    requires meets { steps_fault chain.now.first 1 chain.now.steps ≡ None }
-    requires open { chain.now.kind ≡ Fixed → ⊥ }
-    ensures { IfOk result (λ found. IfSome found (GoesOn chain.now.kind steps labels chain.now)) }
-{
-    match chain.kind() {
-        Kind::Lower => match find_longest(alloc, chain, steps, labels)? {
-            Longest::Found(certificate) => Ok(Some(certificate)),
-            Longest::Solvable(_) => Ok(None),
-        },
-        Kind::Upper => match find_shortest(alloc, chain, steps, labels)? {
-            Shortest::Found(certificate) => Ok(Some(certificate)),
-            Shortest::NotFound { .. } => Ok(None),
-        },
-        Kind::Fixed => unreachable!(),
-    }
-}
-
-// The text of the bound that a search with at most so many labels finds, or the limit, if it finds any.
-fn text_with(
-    alloc: Global,
-    chain: &Certificate,
+    chain: &LowerChain,
     steps: u8,
     labels: u8,
 ) -> Result<Option<Output>, NoMemory>
-    requires meets { steps_fault chain.now.first 1 chain.now.steps ≡ None }
-    requires open { chain.now.kind ≡ Fixed → ⊥ }
-    ensures { IfOk result (λ found. IfSome found (λ output. IsFound chain.now.kind steps labels chain.now (outcome_of output))) }
+    ensures { IfOk result (λ found. IfSome found (λ output. IsFound Lower steps labels chain.now.certificate (outcome_of output))) }
 {
-    match bound_with(alloc, chain, steps, labels)? {
-        Some(certificate) => Ok(Some(certificate_output(alloc, &certificate)?)),
-        None => Ok(None),
+    match find_longest(alloc, chain, steps, labels)? {
+        Longest::Found(certificate) => Ok(Some(certificate_output(alloc, &certificate)?)),
+        Longest::Solvable(_) => Ok(None),
     }
 }
 
-/// The text of a bound of the chain's kind that goes on from it: of what a search with at most so many labels finds, or, as long as that is
-/// too long, with three quarters of the labels, down to two. None where no such text fits, or nothing is found; it isn't looked for where
-/// the text of the chain itself is too long.
-pub(crate) fn fitting_text(
+/// The text of a lower bound that goes on from the chain: of what a search with at most so many labels finds, or, as long as that is too
+/// long, with three quarters of the labels, down to two. None where no such text fits, or nothing is found; it isn't looked for where the
+/// text of the chain itself is too long.
+pub(crate) fn fitting_lower(
     alloc: Global,
-    chain: &Certificate,
+    chain: &LowerChain,
     steps: u8,
     labels: u8,
 ) -> Result<Option<Output>, NoMemory>
-    requires meets { steps_fault chain.now.first 1 chain.now.steps ≡ None }
-    requires open { chain.now.kind ≡ Fixed → ⊥ }
-    ensures { IfOk result (λ found. IfSome found (λ output. IsFound chain.now.kind steps labels chain.now (outcome_of output) × (status_of output.answer ≡ Done))) }
+    ensures { IfOk result (λ found. IfSome found (λ output. IsFound Lower steps labels chain.now.certificate (outcome_of output) × (status_of output.answer ≡ Done))) }
 {
     if labels < 2 {
         return Ok(None);
     }
-    let Some(output) = text_with(alloc, chain, steps, labels)? else {
+    let Some(output) = lower_text(alloc, chain, steps, labels)? else {
         return Ok(None);
     };
     if is_done(output.answer) {
         return Ok(Some(output));
     }
-    if !is_done(certificate_output(alloc, chain)?.answer) {
+    if !is_done(certificate_output(alloc, &chain.certificate)?.answer) {
         return Ok(None);
     }
-    fitting_text(alloc, chain, steps, three_quarters(labels))
+    fitting_lower(alloc, chain, steps, three_quarters(labels))
 }
 
-// The bound of the chain's kind given the input problem that a search with at most so many labels finds, if any.
-fn bound_given(
+// The text of the upper bound that a search with at most so many labels finds, or the limit, if it finds any.
+fn upper_text(
     alloc: Global,
-    chain: &Certificate,
-    input: &Problem,
-    steps: u8,
-    labels: u8,
-) -> Result<Option<Certificate>, NoMemory>
-    requires meets { steps_fault chain.now.first 1 chain.now.steps ≡ None }
-    requires input { IsInput (unnamed chain.now.first) (unnamed input.now) }
-    requires accepted { chain.now.kind ≡ Lower → IsTaken input.now chain.now }
-    requires open { chain.now.kind ≡ Fixed → ⊥ }
-    ensures { IfOk result (λ found. IfSome found (GoesOnGiven input.now chain.now.kind steps labels chain.now)) }
-{
-    match chain.kind() {
-        Kind::Lower => Ok(Some(find_longest_given(alloc, chain, input, steps, labels)?)),
-        Kind::Upper => match find_shortest_given(alloc, chain, input, steps, labels)? {
-            Shortest::Found(certificate) => Ok(Some(certificate)),
-            Shortest::NotFound { .. } => Ok(None),
-        },
-        Kind::Fixed => unreachable!(),
-    }
-}
-
-// The text of that bound and of the input problem behind it, or the limit, if any is found.
-fn text_given(
-    alloc: Global,
-    chain: &Certificate,
-    input: &Problem,
+    chain: &UpperChain,
     steps: u8,
     labels: u8,
 ) -> Result<Option<Output>, NoMemory>
-    requires meets { steps_fault chain.now.first 1 chain.now.steps ≡ None }
-    requires input { IsInput (unnamed chain.now.first) (unnamed input.now) }
-    requires accepted { chain.now.kind ≡ Lower → IsTaken input.now chain.now }
-    requires open { chain.now.kind ≡ Fixed → ⊥ }
-    ensures { IfOk result (λ found. IfSome found (λ output. IsFoundGiven input.now chain.now.kind steps labels chain.now (outcome_of output))) }
+    ensures { IfOk result (λ found. IfSome found (λ output. IsFound Upper steps labels chain.now.certificate (outcome_of output))) }
 {
-    match bound_given(alloc, chain, input, steps, labels)? {
-        Some(certificate) => Ok(Some(print_given(alloc, &certificate, input)?)),
-        None => Ok(None),
+    match find_shortest(alloc, chain, steps, labels)? {
+        Shortest::Found(certificate) => Ok(Some(certificate_output(alloc, &certificate)?)),
+        Shortest::NotFound { .. } => Ok(None),
     }
 }
 
-/// As `fitting_text`, given the input problem, with its text behind that of the bound.
-pub(crate) fn fitting_given(
+/// As `fitting_lower`, of an upper bound.
+pub(crate) fn fitting_upper(
     alloc: Global,
-    chain: &Certificate,
-    input: &Problem,
+    chain: &UpperChain,
     steps: u8,
     labels: u8,
 ) -> Result<Option<Output>, NoMemory>
-    requires meets { steps_fault chain.now.first 1 chain.now.steps ≡ None }
-    requires input { IsInput (unnamed chain.now.first) (unnamed input.now) }
-    requires accepted { chain.now.kind ≡ Lower → IsTaken input.now chain.now }
-    requires open { chain.now.kind ≡ Fixed → ⊥ }
-    ensures { IfOk result (λ found. IfSome found (λ output. IsFoundGiven input.now chain.now.kind steps labels chain.now (outcome_of output) × (status_of output.answer ≡ Done))) }
+    ensures { IfOk result (λ found. IfSome found (λ output. IsFound Upper steps labels chain.now.certificate (outcome_of output) × (status_of output.answer ≡ Done))) }
 {
     if labels < 2 {
         return Ok(None);
     }
-    let Some(output) = text_given(alloc, chain, input, steps, labels)? else {
+    let Some(output) = upper_text(alloc, chain, steps, labels)? else {
         return Ok(None);
     };
     if is_done(output.answer) {
         return Ok(Some(output));
     }
-    if !is_done(print_given(alloc, chain, input)?.answer) {
+    if !is_done(certificate_output(alloc, &chain.certificate)?.answer) {
         return Ok(None);
     }
-    fitting_given(alloc, chain, input, steps, three_quarters(labels))
+    fitting_upper(alloc, chain, steps, three_quarters(labels))
+}
+
+// The text of the lower bound given the input problem that a search with at most so many labels finds, with the input problem behind it,
+// or the limit.
+fn lower_text_given(
+    alloc: Global,
+    chain: &LowerChain,
+    input: &Problem,
+    steps: u8,
+    labels: u8,
+) -> Result<Output, NoMemory>
+    requires input { IsInput (unnamed chain.now.certificate.first) (unnamed input.now) }
+    requires accepted { IsTaken input.now chain.now.certificate }
+    ensures { IfOk result (λ output. IsFoundGiven input.now Lower steps labels chain.now.certificate (outcome_of output)) }
+{
+    let certificate = find_longest_given(alloc, chain, input, steps, labels)?;
+    print_given(alloc, &certificate, input)
+}
+
+/// As `fitting_lower`, given the input problem, with its text behind that of the bound.
+pub(crate) fn fitting_lower_given(
+    alloc: Global,
+    chain: &LowerChain,
+    input: &Problem,
+    steps: u8,
+    labels: u8,
+) -> Result<Option<Output>, NoMemory>
+    requires input { IsInput (unnamed chain.now.certificate.first) (unnamed input.now) }
+    requires accepted { IsTaken input.now chain.now.certificate }
+    ensures { IfOk result (λ found. IfSome found (λ output. IsFoundGiven input.now Lower steps labels chain.now.certificate (outcome_of output) × (status_of output.answer ≡ Done))) }
+{
+    if labels < 2 {
+        return Ok(None);
+    }
+    let output = lower_text_given(alloc, chain, input, steps, labels)?;
+    if is_done(output.answer) {
+        return Ok(Some(output));
+    }
+    if !is_done(print_given(alloc, &chain.certificate, input)?.answer) {
+        return Ok(None);
+    }
+    fitting_lower_given(alloc, chain, input, steps, three_quarters(labels))
+}
+
+// The text of the upper bound given the input problem that a search with at most so many labels finds, with the input problem behind it,
+// or the limit, if it finds any.
+fn upper_text_given(
+    alloc: Global,
+    chain: &UpperChain,
+    input: &Problem,
+    steps: u8,
+    labels: u8,
+) -> Result<Option<Output>, NoMemory>
+    requires { IsInput (unnamed chain.now.certificate.first) (unnamed input.now) }
+    ensures { IfOk result (λ found. IfSome found (λ output. IsFoundGiven input.now Upper steps labels chain.now.certificate (outcome_of output))) }
+{
+    match find_shortest_given(alloc, chain, input, steps, labels)? {
+        Shortest::Found(certificate) => Ok(Some(print_given(alloc, &certificate, input)?)),
+        Shortest::NotFound { .. } => Ok(None),
+    }
+}
+
+/// As `fitting_upper`, given the input problem, with its text behind that of the bound.
+pub(crate) fn fitting_upper_given(
+    alloc: Global,
+    chain: &UpperChain,
+    input: &Problem,
+    steps: u8,
+    labels: u8,
+) -> Result<Option<Output>, NoMemory>
+    requires { IsInput (unnamed chain.now.certificate.first) (unnamed input.now) }
+    ensures { IfOk result (λ found. IfSome found (λ output. IsFoundGiven input.now Upper steps labels chain.now.certificate (outcome_of output) × (status_of output.answer ≡ Done))) }
+{
+    if labels < 2 {
+        return Ok(None);
+    }
+    let Some(output) = upper_text_given(alloc, chain, input, steps, labels)? else {
+        return Ok(None);
+    };
+    if is_done(output.answer) {
+        return Ok(Some(output));
+    }
+    if !is_done(print_given(alloc, &chain.certificate, input)?.answer) {
+        return Ok(None);
+    }
+    fitting_upper_given(alloc, chain, input, steps, three_quarters(labels))
 }

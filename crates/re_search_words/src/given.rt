@@ -1,8 +1,7 @@
 //! What the words answer where a solution of an input problem is given.
-ghost use Rattle.re_cert.specs.declared.certificate.Kind.TheVariants.{Fixed, Lower, Upper};
+ghost use Rattle.re_cert.specs.declared.certificate.Kind.TheVariants.{Fixed};
+ghost use Rattle.re_chain_parts.specs.HeldBounds.{held_bound};
 ghost use Rattle.re_chain_texts.specs.OverChains.{steps_refusal};
-ghost use Rattle.re_check.specs.Verdicts.{steps_fault};
-ghost use Rattle.re_extend.specs.Extensions.{IsSoundChain};
 ghost use Rattle.re_fit.specs.InputProblems.{input_fault as fault_of};
 ghost use Rattle.re_frame.specs.Outcomes.{outcome_of};
 ghost use Rattle.re_given.specs.Inputs.{IsInput};
@@ -12,14 +11,14 @@ ghost use Rattle.re_labels.specs.declared.TheConstants.{MAX_LABELS};
 ghost use Rattle.re_problem.specs.NamedProblems.{unnamed};
 ghost use Rattle.re_search_words.specs.GivenAnswers.{IsFoundGiven, IsTextOnGiven, MayFindBy, MayFindElse, MayFindGiven, MayGiveGiven, MayGiveGivenAt, MayGiveGivenInput, MayGiveGivenSound, Refuses, given_chain};
 ghost use Rattle.re_two_texts.specs.TwoTexts.{front_chain, has_line};
-ghost use Rattle.std.specs.Prelude.{◌≡◌, ◌≤◌, IfOk, None, codes, length, true};
+ghost use Rattle.std.specs.Prelude.{◌≡◌, ◌≤◌, IfOk, codes, length, true};
 
 use crate::answering::word_chain;
-use crate::fitting::{fitting_given, three_quarters};
+use crate::fitting::{fitting_lower_given, fitting_upper_given, three_quarters};
 use crate::words::SearchWord;
-use re_cert::{Certificate, Kind};
-use re_chain_parts::over_problems;
-use re_chain_texts::steps_refusal;
+use re_cert::Certificate;
+use re_chain_parts::{Chain, LowerChain, UpperChain, over_problems};
+use re_chain_texts::judged_chain;
 use re_cycle::{Cycle, find_cycle_given};
 use re_fit::input_fault;
 use re_frame::{
@@ -67,38 +66,36 @@ fn repeated_output(
     print_given(alloc, chain, input)
 }
 
-// What `longest` gives to a sound chain of kind lower that `given` accepts.
+// What `longest` gives to a chain of kind lower that `given` accepts.
 fn longest_found(
     alloc: Global,
-    chain: &Certificate,
+    chain: &LowerChain,
     input: &Problem,
     steps: u8,
     labels: u8,
 ) -> Result<Output, NoMemory>
-    requires sound { IsSoundChain chain.now }
-    requires input { IsInput (unnamed chain.now.first) (unnamed input.now) }
-    requires accepted { IsTaken input.now chain.now }
-    ensures { IfOk result (λ output. MayFindGiven (SearchWord.Longest steps labels) input.now chain.now (outcome_of output)) }
+    requires input { IsInput (unnamed chain.now.certificate.first) (unnamed input.now) }
+    requires accepted { IsTaken input.now chain.now.certificate }
+    ensures { IfOk result (λ output. MayFindGiven (SearchWord.Longest steps labels) input.now chain.now.certificate (outcome_of output)) }
 {
-    match fitting_given(alloc, chain, input, steps, labels)? {
+    match fitting_lower_given(alloc, chain, input, steps, labels)? {
         Some(output) => Ok(output),
-        None => repeated_output(alloc, chain, input, steps, labels),
+        None => repeated_output(alloc, &chain.certificate, input, steps, labels),
     }
 }
 
-// What `longest` gives to a sound chain of kind lower.
+// What `longest` gives to a chain of kind lower.
 fn longest_output(
     alloc: Global,
-    chain: &Certificate,
+    chain: &LowerChain,
     input: &Problem,
     steps: u8,
     labels: u8,
 ) -> Result<Output, NoMemory>
-    requires sound { IsSoundChain chain.now }
-    requires input { IsInput (unnamed chain.now.first) (unnamed input.now) }
-    ensures { IfOk result (λ output. MayFindBy (SearchWord.Longest steps labels) input.now chain.now (outcome_of output)) }
+    requires { IsInput (unnamed chain.now.certificate.first) (unnamed input.now) }
+    ensures { IfOk result (λ output. MayFindBy (SearchWord.Longest steps labels) input.now chain.now.certificate (outcome_of output)) }
 {
-    match given_refusal(alloc, chain, input)? {
+    match given_refusal(alloc, &chain.certificate, input)? {
         Some(output) => Ok(output),
         None => longest_found(alloc, chain, input, steps, labels),
     }
@@ -143,15 +140,13 @@ fn cycle_output(
 // What `shortest` gives to a chain of kind upper that `given` doesn't accept, however long its text is.
 fn shortest_found(
     alloc: Global,
-    chain: &Certificate,
+    chain: &UpperChain,
     input: &Problem,
     steps: u8,
     labels: u8,
 ) -> Result<Output, NoMemory>
-    requires upper { chain.now.kind ≡ Upper }
-    requires meets { steps_fault chain.now.first 1 chain.now.steps ≡ None }
-    requires input { IsInput (unnamed chain.now.first) (unnamed input.now) }
-    ensures { IfOk result (λ output. MayFindElse (SearchWord.Shortest steps labels) input.now chain.now (outcome_of output)) }
+    requires { IsInput (unnamed chain.now.certificate.first) (unnamed input.now) }
+    ensures { IfOk result (λ output. MayFindElse (SearchWord.Shortest steps labels) input.now chain.now.certificate (outcome_of output)) }
 {
     match find_shortest_given(alloc, chain, input, steps, labels)? {
         Shortest::Found(certificate) => print_given(alloc, &certificate, input),
@@ -162,156 +157,99 @@ fn shortest_found(
 // What `shortest` gives to a chain of kind upper that `given` doesn't accept.
 fn shortest_else(
     alloc: Global,
-    chain: &Certificate,
+    chain: &UpperChain,
     input: &Problem,
     steps: u8,
     labels: u8,
 ) -> Result<Output, NoMemory>
-    requires upper { chain.now.kind ≡ Upper }
-    requires meets { steps_fault chain.now.first 1 chain.now.steps ≡ None }
-    requires input { IsInput (unnamed chain.now.first) (unnamed input.now) }
-    ensures { IfOk result (λ output. MayFindElse (SearchWord.Shortest steps labels) input.now chain.now (outcome_of output)) }
+    requires { IsInput (unnamed chain.now.certificate.first) (unnamed input.now) }
+    ensures { IfOk result (λ output. MayFindElse (SearchWord.Shortest steps labels) input.now chain.now.certificate (outcome_of output)) }
 {
     let output = shortest_found(alloc, chain, input, steps, labels)?;
     if output.answer != Answer::Limit {
         return Ok(output);
     }
-    match fitting_given(alloc, chain, input, steps, three_quarters(labels))? {
+    match fitting_upper_given(alloc, chain, input, steps, three_quarters(labels))? {
         Some(fitting) => Ok(fitting),
         None => Ok(output),
     }
 }
 
-// What `shortest` gives to a chain of kind upper each step of which meets its clauses.
+// What `shortest` gives to a chain of kind upper.
 fn shortest_output(
     alloc: Global,
-    chain: &Certificate,
+    chain: &UpperChain,
     input: &Problem,
     steps: u8,
     labels: u8,
 ) -> Result<Output, NoMemory>
-    requires upper { chain.now.kind ≡ Upper }
-    requires meets { steps_fault chain.now.first 1 chain.now.steps ≡ None }
-    requires input { IsInput (unnamed chain.now.first) (unnamed input.now) }
-    ensures { IfOk result (λ output. MayFindBy (SearchWord.Shortest steps labels) input.now chain.now (outcome_of output)) }
+    requires { IsInput (unnamed chain.now.certificate.first) (unnamed input.now) }
+    ensures { IfOk result (λ output. MayFindBy (SearchWord.Shortest steps labels) input.now chain.now.certificate (outcome_of output)) }
 {
-    if is_accepted(alloc, chain, input)? {
-        repeated_output(alloc, chain, input, steps, labels)
+    if is_accepted(alloc, &chain.certificate, input)? {
+        repeated_output(alloc, &chain.certificate, input, steps, labels)
     } else {
         shortest_else(alloc, chain, input, steps, labels)
     }
 }
 
-// What `longest` gives to a chain each step of which meets its clauses.
-fn longest_at(
-    alloc: Global,
-    chain: &Certificate,
-    input: &Problem,
-    steps: u8,
-    labels: u8,
-) -> Result<Output, NoMemory>
-    requires meets { steps_fault chain.now.first 1 chain.now.steps ≡ None }
-    requires input { IsInput (unnamed chain.now.first) (unnamed input.now) }
-    requires open { chain.now.kind ≡ Fixed → ⊥ }
-    ensures { IfOk result (λ output. MayGiveGivenAt chain.now.kind (SearchWord.Longest steps labels) input.now chain.now (outcome_of output)) }
-{
-    match chain.kind() {
-        Kind::Lower => longest_output(alloc, chain, input, steps, labels),
-        Kind::Upper => not_lower_output(alloc),
-        Kind::Fixed => unreachable!(),
-    }
-}
-
-// What `cycle` gives to a chain.
-fn cycle_at(
-    alloc: Global,
-    chain: &Certificate,
-    input: &Problem,
-    steps: u8,
-    merges: u8,
-    nodes: u32,
-) -> Result<Output, NoMemory>
-    requires { chain.now.kind ≡ Fixed → ⊥ }
-    ensures { IfOk result (λ output. MayGiveGivenAt chain.now.kind (SearchWord.Cycle steps merges nodes) input.now chain.now (outcome_of output)) }
-{
-    match chain.kind() {
-        Kind::Lower => cycle_output(alloc, chain, input, steps, merges, nodes),
-        Kind::Upper => not_lower_output(alloc),
-        Kind::Fixed => unreachable!(),
-    }
-}
-
-// What `shortest` gives to a chain each step of which meets its clauses.
-fn shortest_at(
-    alloc: Global,
-    chain: &Certificate,
-    input: &Problem,
-    steps: u8,
-    labels: u8,
-) -> Result<Output, NoMemory>
-    requires meets { steps_fault chain.now.first 1 chain.now.steps ≡ None }
-    requires input { IsInput (unnamed chain.now.first) (unnamed input.now) }
-    requires open { chain.now.kind ≡ Fixed → ⊥ }
-    ensures { IfOk result (λ output. MayGiveGivenAt chain.now.kind (SearchWord.Shortest steps labels) input.now chain.now (outcome_of output)) }
-{
-    match chain.kind() {
-        Kind::Upper => shortest_output(alloc, chain, input, steps, labels),
-        Kind::Lower => not_upper_output(alloc),
-        Kind::Fixed => unreachable!(),
-    }
-}
-
-// What the word gives to a chain each step of which meets its clauses.
+// What the word gives to a chain and an input problem of its first problem.
 fn chain_output(
     alloc: Global,
     word: SearchWord,
-    chain: &Certificate,
+    chain: &Chain,
     input: &Problem,
 ) -> Result<Output, NoMemory>
-    requires meets { steps_fault chain.now.first 1 chain.now.steps ≡ None }
-    requires input { IsInput (unnamed chain.now.first) (unnamed input.now) }
-    requires open { chain.now.kind ≡ Fixed → ⊥ }
-    ensures { IfOk result (λ output. MayGiveGivenAt chain.now.kind word input.now chain.now (outcome_of output)) }
+    requires { IsInput (unnamed (held_bound chain.now).first) (unnamed input.now) }
+    ensures { IfOk result (λ output. MayGiveGivenAt (held_bound chain.now).kind word input.now (held_bound chain.now) (outcome_of output)) }
 {
-    match word {
-        SearchWord::Longest(steps, labels) => longest_at(alloc, chain, input, steps, labels),
-        SearchWord::Shortest(steps, labels) => shortest_at(alloc, chain, input, steps, labels),
-        SearchWord::Cycle(steps, merges, nodes) => {
-            cycle_at(alloc, chain, input, steps, merges, nodes)
+    match (word, chain) {
+        (SearchWord::Longest(steps, labels), Chain::Lower(chain)) => {
+            longest_output(alloc, chain, input, steps, labels)
+        }
+        (SearchWord::Cycle(steps, merges, nodes), Chain::Lower(chain)) => {
+            cycle_output(alloc, &chain.certificate, input, steps, merges, nodes)
+        }
+        (SearchWord::Shortest(..), Chain::Lower(_)) => not_upper_output(alloc),
+        (SearchWord::Shortest(steps, labels), Chain::Upper(chain)) => {
+            shortest_output(alloc, chain, input, steps, labels)
+        }
+        (SearchWord::Longest(..) | SearchWord::Cycle(..), Chain::Upper(_)) => {
+            not_lower_output(alloc)
         }
     }
 }
 
-// What the word gives to a chain and an input problem of its first problem.
+// What the word gives to steps and an input problem of their first problem: that to their chain where none fails.
 fn sound_output(
     alloc: Global,
     word: SearchWord,
-    chain: &Certificate,
+    certificate: Certificate,
     input: &Problem,
 ) -> Result<Output, NoMemory>
-    requires input { IsInput (unnamed chain.now.first) (unnamed input.now) }
-    requires open { chain.now.kind ≡ Fixed → ⊥ }
-    ensures { IfOk result (λ output. MayGiveGivenSound (steps_refusal chain.now) word input.now chain.now (outcome_of output)) }
+    requires input { IsInput (unnamed certificate.first) (unnamed input.now) }
+    requires open { certificate.kind ≡ Fixed → ⊥ }
+    ensures { IfOk result (λ output. MayGiveGivenSound (steps_refusal certificate) word input.now certificate (outcome_of output)) }
 {
-    match steps_refusal(chain) {
-        Some(verdict) => Ok(verdict_output(alloc, verdict)?),
-        None => chain_output(alloc, word, chain, input),
+    match judged_chain(certificate) {
+        Ok(chain) => chain_output(alloc, word, &chain, input),
+        Err(verdict) => Ok(verdict_output(alloc, verdict)?),
     }
 }
 
-// What the word gives to a chain and a problem behind it.
+// What the word gives to steps and a problem behind them.
 fn input_output(
     alloc: Global,
     word: SearchWord,
-    chain: &Certificate,
+    certificate: Certificate,
     input: &Problem,
 ) -> Result<Output, NoMemory>
-    requires { chain.now.kind ≡ Fixed → ⊥ }
-    ensures { IfOk result (λ output. MayGiveGivenInput (fault_of chain.now.first input.now) word input.now chain.now (outcome_of output)) }
+    requires { certificate.kind ≡ Fixed → ⊥ }
+    ensures { IfOk result (λ output. MayGiveGivenInput (fault_of certificate.first input.now) word input.now certificate (outcome_of output)) }
 {
-    match input_fault(chain.first(), input) {
+    match input_fault(certificate.first(), input) {
         Some(fault) => input_fault_output(alloc, input, fault),
-        None => sound_output(alloc, word, chain, input),
+        None => sound_output(alloc, word, certificate, input),
     }
 }
 
@@ -347,7 +285,7 @@ fn read_output(
 {
     let TwoTexts { bound, problem } = texts;
     let chain = given_chain(alloc, word, text, bound)?;
-    input_output(alloc, word, &chain, &problem)
+    input_output(alloc, word, chain, &problem)
 }
 
 /// What the word gives to a text with a line `== given`.

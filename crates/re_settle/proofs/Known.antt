@@ -4,14 +4,14 @@ use Rattle.re_cert.specs.Bounds.{Bound, is_bound, last_problem}
 use Rattle.re_cert.specs.declared.certificate.Kind.TheVariants as kind
 use Rattle.re_cert.specs.declared.certificate.TheConstants.{MAX_STEPS}
 use Rattle.re_chain.specs.Merging.{merge_limit, merge_refusal, merged}
-use Rattle.re_chain_parts.specs.Chains.{IsOverProblems, IsSound as IsSteps, chain_with}
+use Rattle.re_chain_parts.specs.Chains.{IsOverProblems, chain_with}
 use Rattle.re_chain_steps.specs.Stepped.{stepped, stepping_fault}
 use Rattle.re_chain_texts.specs.ChainTexts.{problem_chain}
 use Rattle.re_closure.specs.Closures.{IsClosed, IsSolvableBy}
 use Rattle.re_closure.specs.RaisedClosures.{IsRaisedClosed}
 use Rattle.re_cycle.specs.Answers as cycle
 use Rattle.re_cycle.specs.declared.finding.Cycle.TheVariants as cycle_answer
-use Rattle.re_extend.specs.Extensions.{GoesOn, IsSoundChain}
+use Rattle.re_extend.specs.Extensions.{GoesOn}
 use Rattle.re_given_words.proofs.CountingMeans.{told_means}
 use Rattle.re_given_words.specs.Counting.{CountMeans, MayTell}
 use Rattle.re_given_words.specs.declared.counting.Counted.{Counted}
@@ -109,10 +109,6 @@ fixed_known times problem search bound is fits over answers valid told text =
     }
 
 -- ---- fixed points that go on from the problem
--- the chain of a problem is sound
-pub start_sound : (problem : NamedProblem) (chain : Bound) → chain ≡ problem_chain problem → IsSoundChain chain
-start_sound problem chain start = subst IsSoundChain (sym start) (record { lower = refl; meets = refl })
-
 -- what a fixed point that goes on from a chain says of its first problem
 record IsNever (problem : NamedProblem) : Type 0 where
   holds : Holds Never (unnamed problem)
@@ -155,11 +151,6 @@ raised_known times problem chain bound low high start is_low is_high closed text
       finds = tt;
       above = above;
     }
-
--- what a merge in the problem gives is sound
-pub merged_sound : (problem : NamedProblem) (chain made : Bound) (from to : ℕ) → chain ≡ problem_chain problem → made ≡ merged from to chain → IsSteps (merged from to chain) → IsSoundChain made
-merged_sound problem chain made from to start is sound =
-    subst IsSoundChain (sym (is ∙ ap (merged from to) start)) (record { lower = refl; meets = subst (λ (c : Bound). IsSteps (merged from to c)) start sound })
 
 -- the fixed point of the closure behind a merge
 pub merge_known : (times : ℕ) (problem : NamedProblem) (chain bound : Bound) (from to : ℕ) → chain ≡ merged from to (problem_chain problem) → merge_refusal from to (problem_chain problem) ≡ None

@@ -15,6 +15,7 @@ use crate::measures::{
 use crate::texts::has_text;
 use crate::types::{Claim, Shown, Way};
 use re_cert::{Certificate, Kind};
+use re_chain_parts::{LowerChain, UpperChain};
 use re_labels::NoMemory;
 use re_longest::{Longest, find_longest};
 use re_problem::Problem;
@@ -95,10 +96,10 @@ fn upper_way(
 fn longest_way(
     alloc: Global,
     problem: &Problem,
-    chain: &Certificate,
+    chain: &LowerChain,
     times: u8,
 ) -> Result<Option<Shown>, NoMemory>
-    requires chain { chain.now ≡ problem_chain problem.now }
+    requires chain { chain.now.certificate ≡ problem_chain problem.now }
     requires not_zero { zero_place (unnamed problem.now) ≡ None }
     ensures { IfOk result (λ found. IfSome found (λ shown. IsKnown times problem.now (Claim.MoreThan shown.rounds) shown.way)) }
 {
@@ -153,11 +154,11 @@ pub(crate) fn longer(
 pub(crate) fn long_way(
     alloc: Global,
     problem: &Problem,
-    chain: &Certificate,
+    chain: &LowerChain,
     steps: u8,
     times: u8,
 ) -> Result<Shown, NoMemory>
-    requires chain { chain.now ≡ problem_chain problem.now }
+    requires chain { chain.now.certificate ≡ problem_chain problem.now }
     requires not_zero { zero_place (unnamed problem.now) ≡ None }
     requires steps { steps ≤ 8 }
     ensures { IfOk result (λ shown. IsKnown times problem.now (Claim.MoreThan shown.rounds) shown.way) }
@@ -168,11 +169,11 @@ pub(crate) fn long_way(
 }
 
 /// The chain of kind upper without steps that a problem stands for.
-pub fn upper_chain(alloc: Global, problem: Problem) -> Certificate
-    ensures { result ≡ chain_with Upper problem [] }
+pub fn upper_chain(alloc: Global, problem: Problem) -> UpperChain
+    ensures { result.certificate ≡ chain_with Upper problem [] }
 {
     match Certificate::build(Kind::Upper, 0, problem, Vec::new(alloc), Vec::new(alloc)) {
-        Some(chain) => chain,
+        Some(chain) => UpperChain::new(chain),
         None => unreachable!(),
     }
 }

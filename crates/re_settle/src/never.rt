@@ -2,17 +2,15 @@
 //! that show it.
 ghost use Rattle.re_chain.specs.Merging.{merge_limit, merge_refusal, merged};
 ghost use Rattle.re_chain_texts.specs.ChainTexts.{problem_chain};
-ghost use Rattle.re_extend.specs.Extensions.{IsSoundChain};
 ghost use Rattle.re_settle.specs.Ways.{ClosesBehind, HasText, IsExcluded, IsFixedPoint, IsTried};
 ghost use Rattle.std.specs.Prelude.{◌≡◌, ◌<◌, ◌≤◌, IfOk, IfSome, None, length};
 
 use crate::measures::is_small;
 use crate::texts::has_text;
 use crate::types::Way;
-use re_cert::Certificate;
-use re_chain::{MergeFault, merge, merge_law};
-use re_chain_parts::over_problems;
-use re_chain_steps::{ChainStepFault, step};
+use re_chain::{MergeFault, merge_lower};
+use re_chain_parts::{LowerChain, over_problems};
+use re_chain_steps::{ChainStepFault, step_lower};
 use re_closure::{Closing, ClosureFault, find_closure, find_raised};
 use re_cycle::{Cycle, find_cycle};
 use re_gadgets::{MAX_STEPS, find_gadgets};
@@ -82,9 +80,8 @@ fn may_close(problem: &Problem, times: u8) -> bool {
 
 // Behind how many derived problems, at most so many, the closure of the chain's last problem gives a fixed point: where the closures before are
 // solvable without communication, and the problems behind a step are small.
-fn closing(alloc: Global, chain: &Certificate, more: u8, times: u8) -> Result<Option<u8>, NoMemory>
-    requires { IsSoundChain chain.now }
-    ensures closes { IfOk result (λ found. IfSome found (λ steps. ClosesBehind steps chain.now)) }
+fn closing(alloc: Global, chain: &LowerChain, more: u8, times: u8) -> Result<Option<u8>, NoMemory>
+    ensures closes { IfOk result (λ found. IfSome found (λ steps. ClosesBehind steps chain.now.certificate)) }
     ensures most { IfOk result (λ found. IfSome found (λ steps. steps ≤ more)) }
 {
     match find_closure(alloc, chain) {
@@ -103,9 +100,9 @@ fn closing(alloc: Global, chain: &Certificate, more: u8, times: u8) -> Result<Op
     if more == 0 {
         return Ok(None);
     }
-    match step(alloc, chain) {
+    match step_lower(alloc, chain) {
         Ok(next) => {
-            if !may_close(next.last(), times) {
+            if !may_close(next.certificate.last(), times) {
                 return Ok(None);
             }
             match closing(alloc, &next, more - 1, times)? {
@@ -122,11 +119,11 @@ fn closing(alloc: Global, chain: &Certificate, more: u8, times: u8) -> Result<Op
 fn closure_way(
     alloc: Global,
     problem: &Problem,
-    chain: &Certificate,
+    chain: &LowerChain,
     more: u8,
     times: u8,
 ) -> Result<Option<Way>, NoMemory>
-    requires chain { chain.now ≡ problem_chain problem.now }
+    requires chain { chain.now.certificate ≡ problem_chain problem.now }
     requires more { more ≤ 2 }
     ensures { IfOk result (λ found. IfSome found (IsFixedPoint times problem.now)) }
 {
@@ -141,12 +138,12 @@ fn closure_way(
 fn raised_way(
     alloc: Global,
     problem: &Problem,
-    chain: &Certificate,
+    chain: &LowerChain,
     low: u8,
     high: u8,
     times: u8,
 ) -> Result<Option<Way>, NoMemory>
-    requires chain { chain.now ≡ problem_chain problem.now }
+    requires chain { chain.now.certificate ≡ problem_chain problem.now }
     requires low { low < length problem.now.names }
     requires high { high < length problem.now.names }
     ensures { IfOk result (λ found. IfSome found (IsFixedPoint times problem.now)) }
@@ -172,12 +169,12 @@ fn raised_way(
 fn raised_to(
     alloc: Global,
     problem: &Problem,
-    chain: &Certificate,
+    chain: &LowerChain,
     high: u8,
     labels: u8,
     times: u8,
 ) -> Result<Option<Way>, NoMemory>
-    requires chain { chain.now ≡ problem_chain problem.now }
+    requires chain { chain.now.certificate ≡ problem_chain problem.now }
     requires high { high < labels }
     requires labels { labels ≡ length problem.now.names }
     ensures { IfOk result (λ found. IfSome found (IsFixedPoint times problem.now)) }
@@ -197,10 +194,10 @@ fn raised_to(
 fn all_raised_way(
     alloc: Global,
     problem: &Problem,
-    chain: &Certificate,
+    chain: &LowerChain,
     times: u8,
 ) -> Result<Option<Way>, NoMemory>
-    requires { chain.now ≡ problem_chain problem.now }
+    requires { chain.now.certificate ≡ problem_chain problem.now }
     ensures { IfOk result (λ found. IfSome found (IsFixedPoint times problem.now)) }
 {
     let labels = problem.names().len();
@@ -219,16 +216,15 @@ fn all_raised_way(
 fn closed_way(
     alloc: Global,
     problem: &Problem,
-    relaxed: &Certificate,
+    relaxed: &LowerChain,
     from: u8,
     to: u8,
     times: u8,
 ) -> Result<Option<Way>, NoMemory>
-    requires relaxed { relaxed.now ≡ merged from to (problem_chain problem.now) }
+    requires relaxed { relaxed.now.certificate ≡ merged from to (problem_chain problem.now) }
     requires may { merge_refusal from to (problem_chain problem.now) ≡ None }
     requires within { merge_limit from to (problem_chain problem.now) ≡ None }
-    requires sound { IsSoundChain relaxed.now }
-    requires text { HasText relaxed.now }
+    requires text { HasText relaxed.now.certificate }
     ensures { IfOk result (λ found. IfSome found (IsFixedPoint times problem.now)) }
 {
     let _problem = problem;
@@ -252,23 +248,20 @@ fn closed_way(
 fn merge_way(
     alloc: Global,
     problem: &Problem,
-    chain: &Certificate,
+    chain: &LowerChain,
     from: u8,
     to: u8,
     times: u8,
 ) -> Result<Option<Way>, NoMemory>
-    requires { chain.now ≡ problem_chain problem.now }
+    requires { chain.now.certificate ≡ problem_chain problem.now }
     ensures { IfOk result (λ found. IfSome found (IsFixedPoint times problem.now)) }
 {
-    let _kind = chain.kind();
-    over_problems(chain);
-    merge_law();
-    match merge(alloc, chain, from, to) {
+    match merge_lower(alloc, chain, from, to) {
         Ok(merged) => {
-            if !may_close(merged.last(), times) {
+            if !may_close(merged.certificate.last(), times) {
                 return Ok(None);
             }
-            let has = has_text(alloc, &merged)?;
+            let has = has_text(alloc, &merged.certificate)?;
             if has {
                 closed_way(alloc, problem, &merged, from, to, times)
             } else {
@@ -284,12 +277,12 @@ fn merge_way(
 fn merges_to(
     alloc: Global,
     problem: &Problem,
-    chain: &Certificate,
+    chain: &LowerChain,
     to: u8,
     labels: u8,
     times: u8,
 ) -> Result<Option<Way>, NoMemory>
-    requires chain { chain.now ≡ problem_chain problem.now }
+    requires chain { chain.now.certificate ≡ problem_chain problem.now }
     requires to { to < labels }
     ensures { IfOk result (λ found. IfSome found (IsFixedPoint times problem.now)) }
 {
@@ -305,10 +298,10 @@ fn merges_to(
 fn merges_way(
     alloc: Global,
     problem: &Problem,
-    chain: &Certificate,
+    chain: &LowerChain,
     times: u8,
 ) -> Result<Option<Way>, NoMemory>
-    requires { chain.now ≡ problem_chain problem.now }
+    requires { chain.now.certificate ≡ problem_chain problem.now }
     ensures { IfOk result (λ found. IfSome found (IsFixedPoint times problem.now)) }
 {
     let labels = problem.names().len();
@@ -382,10 +375,10 @@ pub fn grows_little(
 fn cycle_way(
     alloc: Global,
     problem: &Problem,
-    chain: &Certificate,
+    chain: &LowerChain,
     times: u8,
 ) -> Result<Option<Way>, NoMemory>
-    requires chain { chain.now ≡ problem_chain problem.now }
+    requires chain { chain.now.certificate ≡ problem_chain problem.now }
     requires times { times ≤ 64 }
     ensures { IfOk result (λ found. IfSome found (IsFixedPoint times problem.now)) }
 {
@@ -393,7 +386,7 @@ fn cycle_way(
         return Ok(None);
     }
     let nodes = CYCLE_NODES * u32::from(times);
-    let Cycle::Found(certificate) = find_cycle(alloc, chain, 8, 1, nodes)? else {
+    let Cycle::Found(certificate) = find_cycle(alloc, &chain.certificate, 8, 1, nodes)? else {
         return Ok(None);
     };
     let has = has_text(alloc, &certificate)?;
@@ -408,11 +401,11 @@ fn cycle_way(
 fn relaxed_way(
     alloc: Global,
     problem: &Problem,
-    chain: &Certificate,
+    chain: &LowerChain,
     nodes: u32,
     times: u8,
 ) -> Result<Option<Way>, NoMemory>
-    requires chain { chain.now ≡ problem_chain problem.now }
+    requires chain { chain.now.certificate ≡ problem_chain problem.now }
     requires tried { IsTried times problem.now (Way.Relaxed nodes) }
     ensures { IfOk result (λ found. IfSome found (IsFixedPoint times problem.now)) }
 {
@@ -433,10 +426,10 @@ fn relaxed_way(
 pub(crate) fn near_way(
     alloc: Global,
     problem: &Problem,
-    chain: &Certificate,
+    chain: &LowerChain,
     times: u8,
 ) -> Result<Option<Way>, NoMemory>
-    requires chain { chain.now ≡ problem_chain problem.now }
+    requires chain { chain.now.certificate ≡ problem_chain problem.now }
     requires times { times ≤ 64 }
     ensures { IfOk result (λ found. IfSome found (IsFixedPoint times problem.now)) }
 {
@@ -457,10 +450,10 @@ pub(crate) fn near_way(
 pub(crate) fn far_way(
     alloc: Global,
     problem: &Problem,
-    chain: &Certificate,
+    chain: &LowerChain,
     times: u8,
 ) -> Result<Option<Way>, NoMemory>
-    requires chain { chain.now ≡ problem_chain problem.now }
+    requires chain { chain.now.certificate ≡ problem_chain problem.now }
     requires times { times ≤ 64 }
     ensures { IfOk result (λ found. IfSome found (IsFixedPoint times problem.now)) }
 {

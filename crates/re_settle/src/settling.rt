@@ -11,7 +11,7 @@ use crate::coloured::coloured_way;
 use crate::counting::{MAX_ROUNDS, counted, more_way, steps_of};
 use crate::never::{cover_way, far_way, near_way};
 use crate::types::{Settled, Shown, Way};
-use re_cert::Certificate;
+use re_chain_parts::LowerChain;
 use re_chain_texts::problem_chain;
 use re_given_words::Counted;
 use re_labels::NoMemory;
@@ -65,11 +65,11 @@ fn exact(alloc: Global, problem: &Problem, rounds: u8, times: u8) -> Result<Sett
 fn bounded(
     alloc: Global,
     problem: &Problem,
-    chain: &Certificate,
+    chain: &LowerChain,
     counted: Counted,
     times: u8,
 ) -> Result<Settled, NoMemory>
-    requires chain { chain.now ≡ problem_chain problem.now }
+    requires chain { chain.now.certificate ≡ problem_chain problem.now }
     requires not_zero { zero_place (unnamed problem.now) ≡ None }
     requires counted { MayTell (unnamed problem.now) None 8 counted }
     ensures { IfOk result (IsSettled times problem.now) }
@@ -86,11 +86,11 @@ fn bounded(
 fn searched(
     alloc: Global,
     problem: &Problem,
-    chain: &Certificate,
+    chain: &LowerChain,
     counted: Counted,
     times: u8,
 ) -> Result<Settled, NoMemory>
-    requires chain { chain.now ≡ problem_chain problem.now }
+    requires chain { chain.now.certificate ≡ problem_chain problem.now }
     requires not_zero { zero_place (unnamed problem.now) ≡ None }
     requires counted { MayTell (unnamed problem.now) None 8 counted }
     requires times { times ≤ 64 }
@@ -106,11 +106,11 @@ fn searched(
 fn covered(
     alloc: Global,
     problem: &Problem,
-    chain: &Certificate,
+    chain: &LowerChain,
     way: Way,
     times: u8,
 ) -> Result<Settled, NoMemory>
-    requires chain { chain.now ≡ problem_chain problem.now }
+    requires chain { chain.now.certificate ≡ problem_chain problem.now }
     requires excluded { IsExcluded times problem.now way }
     requires times { times ≤ 64 }
     ensures { IfOk result (IsSettled times problem.now) }
@@ -129,11 +129,11 @@ fn covered(
 fn tried(
     alloc: Global,
     problem: &Problem,
-    chain: &Certificate,
+    chain: &LowerChain,
     counted: Counted,
     times: u8,
 ) -> Result<Settled, NoMemory>
-    requires chain { chain.now ≡ problem_chain problem.now }
+    requires chain { chain.now.certificate ≡ problem_chain problem.now }
     requires not_zero { zero_place (unnamed problem.now) ≡ None }
     requires counted { MayTell (unnamed problem.now) None 8 counted }
     requires times { times ≤ 64 }
@@ -152,10 +152,10 @@ fn tried(
 fn settled(
     alloc: Global,
     problem: &Problem,
-    chain: &Certificate,
+    chain: &LowerChain,
     times: u8,
 ) -> Result<Settled, NoMemory>
-    requires chain { chain.now ≡ problem_chain problem.now }
+    requires chain { chain.now.certificate ≡ problem_chain problem.now }
     requires not_zero { zero_place (unnamed problem.now) ≡ None }
     requires times { times ≤ 64 }
     ensures { IfOk result (IsSettled times problem.now) }

@@ -37,7 +37,7 @@ fn untold_output(alloc: Global, problem: &Problem, input: &Problem) -> Result<Ou
     ensures { IfOk result (λ output. IsUntold problem.now input.now (outcome_of output)) }
 {
     let chain = problem_chain(alloc, problem.copy()?);
-    given_verdict(alloc, &chain, input)
+    given_verdict(alloc, &chain.certificate, input)
 }
 
 // What the word gives to a problem and an input problem of it.

@@ -5,7 +5,7 @@ ghost use Rattle.re_problem.specs.NamedProblems.{unnamed};
 ghost use Rattle.re_settle_given.specs.Ways.{IsKnownGiven, IsTriedGiven};
 ghost use Rattle.std.specs.Prelude.{◌≡◌, IfOk, IfSome};
 
-use re_cert::Certificate;
+use re_chain_parts::LowerChain;
 use re_given_words::is_accepted;
 use re_labels::NoMemory;
 use re_longest::find_longest_given;
@@ -44,10 +44,10 @@ pub(crate) fn longest_way(
     alloc: Global,
     problem: &Problem,
     input: &Problem,
-    chain: &Certificate,
+    chain: &LowerChain,
     times: u8,
 ) -> Result<Option<Shown>, NoMemory>
-    requires chain { chain.now ≡ problem_chain problem.now }
+    requires chain { chain.now.certificate ≡ problem_chain problem.now }
     requires input { IsInput (unnamed problem.now) (unnamed input.now) }
     ensures { IfOk result (λ found. IfSome found (λ shown. IsKnownGiven times problem.now input.now (Claim.MoreThan shown.rounds) shown.way)) }
 {
@@ -55,7 +55,7 @@ pub(crate) fn longest_way(
     if !soon {
         return Ok(None);
     }
-    if !is_accepted(alloc, chain, input)? {
+    if !is_accepted(alloc, &chain.certificate, input)? {
         return Ok(None);
     }
     let doublings = doublings(times);

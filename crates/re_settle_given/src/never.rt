@@ -8,6 +8,7 @@ ghost use Rattle.re_settle_given.specs.Ways.{HasGivenText, IsKnownGiven};
 ghost use Rattle.std.specs.Prelude.{◌≡◌, ◌≤◌, IfOk, IfSome, true};
 
 use re_cert::Certificate;
+use re_chain_parts::LowerChain;
 use re_closure::{Closing, ClosureFault, find_closure};
 use re_cycle::{Cycle, find_cycle_given};
 use re_gadgets::{MAX_STEPS, find_gadgets_given};
@@ -43,10 +44,10 @@ fn closure_way(
     alloc: Global,
     problem: &Problem,
     input: &Problem,
-    chain: &Certificate,
+    chain: &LowerChain,
     times: u8,
 ) -> Result<Option<Way>, NoMemory>
-    requires chain { chain.now ≡ problem_chain problem.now }
+    requires chain { chain.now.certificate ≡ problem_chain problem.now }
     ensures { IfOk result (λ found. IfSome found (IsKnownGiven times problem.now input.now Claim.Never)) }
 {
     let _problem = problem;
@@ -72,10 +73,10 @@ fn cycle_way(
     alloc: Global,
     problem: &Problem,
     input: &Problem,
-    chain: &Certificate,
+    chain: &LowerChain,
     times: u8,
 ) -> Result<Option<Way>, NoMemory>
-    requires chain { chain.now ≡ problem_chain problem.now }
+    requires chain { chain.now.certificate ≡ problem_chain problem.now }
     requires times { times ≤ 64 }
     ensures { IfOk result (λ found. IfSome found (IsKnownGiven times problem.now input.now Claim.Never)) }
 {
@@ -83,7 +84,8 @@ fn cycle_way(
         return Ok(None);
     }
     let nodes = CYCLE_NODES * u32::from(times);
-    let Cycle::Found(certificate) = find_cycle_given(alloc, chain, input, 8, 1, nodes)? else {
+    let Cycle::Found(certificate) = find_cycle_given(alloc, &chain.certificate, input, 8, 1, nodes)?
+    else {
         return Ok(None);
     };
     let has = has_given_text(alloc, &certificate, input)?;
@@ -140,10 +142,10 @@ pub(crate) fn near_way(
     alloc: Global,
     problem: &Problem,
     input: &Problem,
-    chain: &Certificate,
+    chain: &LowerChain,
     times: u8,
 ) -> Result<Option<Way>, NoMemory>
-    requires chain { chain.now ≡ problem_chain problem.now }
+    requires chain { chain.now.certificate ≡ problem_chain problem.now }
     requires input { IsInput (unnamed problem.now) (unnamed input.now) }
     ensures { IfOk result (λ found. IfSome found (IsKnownGiven times problem.now input.now Claim.Never)) }
 {
@@ -158,11 +160,11 @@ pub(crate) fn far_way(
     alloc: Global,
     problem: &Problem,
     input: &Problem,
-    chain: &Certificate,
+    chain: &LowerChain,
     most: Option<Shown>,
     times: u8,
 ) -> Result<Option<Way>, NoMemory>
-    requires chain { chain.now ≡ problem_chain problem.now }
+    requires chain { chain.now.certificate ≡ problem_chain problem.now }
     requires input { IsInput (unnamed problem.now) (unnamed input.now) }
     requires times { times ≤ 64 }
     ensures { IfOk result (λ found. IfSome found (IsKnownGiven times problem.now input.now Claim.Never)) }

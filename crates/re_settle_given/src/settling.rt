@@ -12,7 +12,7 @@ use crate::counting::{counted, counted_at_once, most_way};
 use crate::lines::claim_given;
 use crate::never::{far_way, near_way};
 use crate::types::SettledGiven;
-use re_cert::Certificate;
+use re_chain_parts::LowerChain;
 use re_chain_texts::problem_chain;
 use re_given_words::Counted;
 use re_input_laws::tells_passive;
@@ -49,12 +49,12 @@ fn bounded(
     alloc: Global,
     problem: &Problem,
     input: &Problem,
-    chain: &Certificate,
+    chain: &LowerChain,
     few: Shown,
     most: Option<Shown>,
     times: u8,
 ) -> Result<SettledGiven, NoMemory>
-    requires chain { chain.now ≡ problem_chain problem.now }
+    requires chain { chain.now.certificate ≡ problem_chain problem.now }
     requires input { IsInput (unnamed problem.now) (unnamed input.now) }
     requires few { IsKnownGiven times problem.now input.now (Claim.MoreThan few.rounds) few.way }
     requires most { IfSome most (λ shown. IsKnownGiven times problem.now input.now (Claim.AtMost shown.rounds) shown.way) }
@@ -74,11 +74,11 @@ fn searched(
     alloc: Global,
     problem: &Problem,
     input: &Problem,
-    chain: &Certificate,
+    chain: &LowerChain,
     few: Shown,
     times: u8,
 ) -> Result<SettledGiven, NoMemory>
-    requires chain { chain.now ≡ problem_chain problem.now }
+    requires chain { chain.now.certificate ≡ problem_chain problem.now }
     requires input { IsInput (unnamed problem.now) (unnamed input.now) }
     requires few { IsKnownGiven times problem.now input.now (Claim.MoreThan few.rounds) few.way }
     requires times { times ≤ 64 }
@@ -110,11 +110,11 @@ fn behind_zero(
     alloc: Global,
     problem: &Problem,
     input: &Problem,
-    chain: &Certificate,
+    chain: &LowerChain,
     few: Shown,
     times: u8,
 ) -> Result<SettledGiven, NoMemory>
-    requires chain { chain.now ≡ problem_chain problem.now }
+    requires chain { chain.now.certificate ≡ problem_chain problem.now }
     requires input { IsInput (unnamed problem.now) (unnamed input.now) }
     requires few { IsKnownGiven times problem.now input.now (Claim.MoreThan few.rounds) few.way }
     requires times { times ≤ 64 }
@@ -137,10 +137,10 @@ fn untold(
     alloc: Global,
     problem: &Problem,
     input: &Problem,
-    chain: &Certificate,
+    chain: &LowerChain,
     times: u8,
 ) -> Result<Option<SettledGiven>, NoMemory>
-    requires chain { chain.now ≡ problem_chain problem.now }
+    requires chain { chain.now.certificate ≡ problem_chain problem.now }
     requires input { IsInput (unnamed problem.now) (unnamed input.now) }
     requires times { times ≤ 64 }
     ensures { IfOk result (λ found. IfSome found (IsSettledGiven times problem.now input.now)) }

@@ -1,7 +1,6 @@
 //! The certificate of the shortest path.
 ghost use Rattle.re_cert.specs.Bounds.{last_problem};
 ghost use Rattle.re_cert.specs.declared.certificate.Kind.TheVariants.{Upper};
-ghost use Rattle.re_check.specs.Verdicts.{steps_fault};
 ghost use Rattle.re_extend.specs.Extensions.{GoesOn};
 ghost use Rattle.re_shortest.specs.Answers.{AnswersAt};
 ghost use Rattle.re_problem.specs.NamedProblems.{unnamed};
@@ -11,7 +10,7 @@ ghost use Rattle.std.specs.Prelude.{◌≡◌, [], IfOk, IfSome, None};
 use crate::beam::{Climb, shortest_path};
 use re_beams::Given;
 use re_cert::{Certificate, Kind, MAX_STEPS, Step};
-use re_chain_parts::over_problems;
+use re_chain_parts::{UpperChain, over_problems};
 use re_check::check;
 use re_extend::{Extension, extended};
 use re_labels::NoMemory;
@@ -45,16 +44,15 @@ pub(crate) fn upper_with(alloc: Global, steps: Vec<Step>) -> Extension
 // The chain as it is, where its last problem is solvable without communication.
 fn repeated(
     alloc: Global,
-    chain: &Certificate,
+    chain: &UpperChain,
     most: u8,
     labels: u8,
 ) -> Result<Certificate, NoMemory>
-    requires upper { chain.now.kind ≡ Upper }
-    requires meets { steps_fault chain.now.first 1 chain.now.steps ≡ None }
-    requires ends { zero_place (unnamed (last_problem chain.now)) ≡ None → ⊥ }
-    ensures same { IfOk result (λ bound. bound ≡ chain.now) }
-    ensures goes_on { IfOk result (GoesOn Upper most labels chain.now) }
+    requires { zero_place (unnamed (last_problem chain.now.certificate)) ≡ None → ⊥ }
+    ensures same { IfOk result (λ bound. bound ≡ chain.now.certificate) }
+    ensures goes_on { IfOk result (GoesOn Upper most labels chain.now.certificate) }
 {
+    let chain = &chain.certificate;
     let _kind = chain.kind();
     over_problems(chain);
     let _verdict = check(chain);
@@ -103,23 +101,21 @@ fn searched(alloc: Global, chain: &Certificate, most: u8, labels: u8) -> Result<
     }
 }
 
-/// The shortest upper bound that the beam search finds which goes on from a chain of kind upper each step of which meets its clauses:
-/// with at most so many further steps, each to a problem of at most so many labels. It is accepted by `check`. Where the chain's last
-/// problem is solvable without communication the answer is the chain as it is, and else `Found` or `NotFound`.
+/// The shortest upper bound that the beam search finds which goes on from a chain of kind upper: with at most so many further steps, each
+/// to a problem of at most so many labels. It is accepted by `check`. Where the chain's last problem is solvable without communication the
+/// answer is the chain as it is, and else `Found` or `NotFound`.
 ///
 /// The search may miss shorter bounds, and `NotFound` says nothing of the problem. The crate's page says how it goes.
 pub fn find_shortest(
     alloc: Global,
-    chain: &Certificate,
+    chain: &UpperChain,
     steps: u8,
     labels: u8,
 ) -> Result<Shortest, NoMemory>
-    requires upper { chain.now.kind ≡ Upper }
-    requires meets { steps_fault chain.now.first 1 chain.now.steps ≡ None }
-    ensures { IfOk result (AnswersAt (zero_place (unnamed (last_problem chain.now))) steps labels chain.now) }
+    ensures { IfOk result (AnswersAt (zero_place (unnamed (last_problem chain.now.certificate))) steps labels chain.now.certificate) }
 {
-    match zero_round(chain.last()) {
+    match zero_round(chain.certificate.last()) {
         Some(_) => Ok(Shortest::Found(repeated(alloc, chain, steps, labels)?)),
-        None => searched(alloc, chain, steps, labels),
+        None => searched(alloc, &chain.certificate, steps, labels),
     }
 }

@@ -1,16 +1,16 @@
 //! The certificate of the shortest path where a solution of an input problem is given.
 ghost use Rattle.re_cert.specs.declared.certificate.Kind.TheVariants.{Upper};
-ghost use Rattle.re_check.specs.Verdicts.{steps_fault};
 ghost use Rattle.re_given.specs.Inputs.{IsInput};
 ghost use Rattle.re_given_words.specs.Extensions.{GoesOnGiven};
 ghost use Rattle.re_shortest.specs.Answers.{AnswersGiven};
 ghost use Rattle.re_problem.specs.NamedProblems.{unnamed};
-ghost use Rattle.std.specs.Prelude.{◌≡◌, IfOk, IfSome, None};
+ghost use Rattle.std.specs.Prelude.{IfOk, IfSome};
 
 use crate::beam::{Climb, shortest_path};
 use crate::shortening::{Shortest, upper_with};
 use re_beams::Given;
 use re_cert::{Certificate, MAX_STEPS, Step};
+use re_chain_parts::UpperChain;
 use re_given_words::{FEW_TRIES, extended_given};
 use re_labels::NoMemory;
 use re_problem::Problem;
@@ -70,23 +70,22 @@ fn searched(
     }
 }
 
-/// The shortest upper bound given the input problem that the beam search finds which goes on from a chain of kind upper each step of which
-/// meets its clauses: with at most so many further steps, each to a problem of at most so many labels. `given` accepts it. Where `given`
-/// accepts the chain, the answer is the chain as it is, and else `Found` or `NotFound`.
+/// The shortest upper bound given the input problem that the beam search finds which goes on from a chain of kind upper: with at most so
+/// many further steps, each to a problem of at most so many labels. `given` accepts it. Where `given` accepts the chain, the answer is the
+/// chain as it is, and else `Found` or `NotFound`.
 ///
 /// The search may miss shorter bounds, and `NotFound` says nothing of the problem. The crate's page says how it goes.
 pub fn find_shortest_given(
     alloc: Global,
-    chain: &Certificate,
+    chain: &UpperChain,
     input: &Problem,
     steps: u8,
     labels: u8,
 ) -> Result<Shortest, NoMemory>
-    requires upper { chain.now.kind ≡ Upper }
-    requires meets { steps_fault chain.now.first 1 chain.now.steps ≡ None }
-    requires input { IsInput (unnamed chain.now.first) (unnamed input.now) }
-    ensures { IfOk result (AnswersGiven input.now steps labels chain.now) }
+    requires { IsInput (unnamed chain.now.certificate.first) (unnamed input.now) }
+    ensures { IfOk result (AnswersGiven input.now steps labels chain.now.certificate) }
 {
+    let chain = &chain.certificate;
     match behind(alloc, chain, input, Vec::new(alloc), steps, labels)? {
         Some(certificate) => Ok(Shortest::Found(certificate)),
         None => searched(alloc, chain, input, steps, labels),

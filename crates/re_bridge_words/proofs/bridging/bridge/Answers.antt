@@ -15,7 +15,7 @@ over-requires-clause-fits c =
 
 pub returns-in_ok-over-in-Some-clause-bridged : goal.returns-in_ok-over-in-Some-clause-bridged
 returns-in_ok-over-in-Some-clause-bridged c =
-    found-bridged c.args.chain.now c.in_ok-over-in-Some.field-0 c.last-last.result.now c.args.next.now c.args.tries c.in-Some.parts c.last-last.ensures
+    found-bridged c.args.chain.now.certificate c.in_ok-over-in-Some.field-0 c.last-last.result.now c.args.next.now c.args.tries c.in-Some.parts c.last-last.ensures
     (subst (IsFound c.last-last.result.now c.args.next.now c.args.tries) c.in-Some.is c.in_ok-parts.ensures.found)
     c.in_ok-over-in-Some.ensures.chain c.in_ok-over-in-Some.ensures.sound
 

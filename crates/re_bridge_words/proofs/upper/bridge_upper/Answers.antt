@@ -20,5 +20,5 @@ over-requires-clause-few c =
 
 pub over-requires-clause-leads : goal.over-requires-clause-leads
 over-requires-clause-leads c =
-    leads (last_problem c.args.chain.now) c.last-last.result.now c.args.next.now c.as_slice.result.now c.in-Some.sets.items c.last-last.ensures c.as_slice.ensures.value
+    leads (last_problem c.args.chain.now.certificate) c.last-last.result.now c.args.next.now c.as_slice.result.now c.in-Some.sets.items c.last-last.ensures c.as_slice.ensures.value
     (subst (λ o. IsLeading (unnamed c.last-last.result.now) (unnamed c.args.next.now) (option_map (λ sets. sets.items) o)) c.in-Some.is c.in_ok-sets.ensures.leading)

@@ -10,12 +10,12 @@ use Rattle.re_closure.proofs.finding.closed.Goals as goal
 
 pub returns-in_err-closure-clause-limit : goal.returns-in_err-closure-clause-limit
 returns-in_err-closure-clause-limit c = λ passed e.
-    let room : length c.args.chain.now.steps + 3 ≤ MAX_STEPS = search rules in
-    limit_of c.args.chain.now passed room (subst (λ (p : NamedProblem). PassesLimit (unnamed p) passed) c.last.ensures
+    let room : length c.args.chain.now.certificate.steps + 3 ≤ MAX_STEPS = search rules in
+    limit_of c.args.chain.now.certificate passed room (subst (λ (p : NamedProblem). PassesLimit (unnamed p) passed) c.last.ensures
     (c.in_err-closure.ensures.limit passed (ap Err (err_is c.from_residual.result c.in_err-closure.field-0.0 passed c.from_residual.ensures.1 e))))
 
 pub returns-in_ok-fit_at-in-Some-clause-answers : goal.returns-in_ok-fit_at-in-Some-clause-answers
 returns-in_ok-fit_at-in-Some-clause-answers c =
-    let room : length c.args.chain.now.steps + 3 ≤ MAX_STEPS = search rules in
+    let room : length c.args.chain.now.certificate.steps + 3 ≤ MAX_STEPS = search rules in
     let of = subst (λ (p : NamedProblem). IsClosureOf (unnamed p) c.in_ok-closure.closure) c.last.ensures c.in_ok-closure.ensures.closure in
-    (c.requires.not_zero, room, solvable_by (last_problem c.args.chain.now) (last_is c.args.chain.now c.over_problems.ensures) c.in_ok-closure.closure of c.in-Some.place _ (sym c.zero_round.ensures.place ∙ c.in-Some.is) c.in_ok-fit_at-in-Some.ensures)
+    (c.requires, room, solvable_by (last_problem c.args.chain.now.certificate) (last_is c.args.chain.now.certificate c.over_problems.ensures) c.in_ok-closure.closure of c.in-Some.place _ (sym c.zero_round.ensures.place ∙ c.in-Some.is) c.in_ok-fit_at-in-Some.ensures)

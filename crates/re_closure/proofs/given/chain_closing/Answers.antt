@@ -3,7 +3,7 @@ use Rattle.re_closure.specs.GivenClosures.{Declines}
 use Rattle.re_closure.proofs.given.chain_closing.Goals as goal
 
 pub returns-in-Some : goal.returns-in-Some
-returns-in-Some c = inr (subst (Declines c.args.input.now c.args.chain.now) c.in-Some.is c.in_ok-output.ensures)
+returns-in-Some c = inr (subst (Declines c.args.input.now c.args.chain.now.certificate) c.in-Some.is c.in_ok-output.ensures)
 
-pub closing_output-requires-clause-taken : goal.closing_output-requires-clause-taken
-closing_output-requires-clause-taken c = subst (Declines c.args.input.now c.args.chain.now) c.in-None.is c.in_ok-output.ensures
+pub closing_output-requires : goal.closing_output-requires
+closing_output-requires c = subst (Declines c.args.input.now c.args.chain.now.certificate) c.in-None.is c.in_ok-output.ensures

@@ -3,9 +3,8 @@ use Rattle.std.specs.Prelude.{option_map}
 use Rattle.re_cert.specs.Bounds.{is_bound, last_problem}
 use Rattle.re_cert.specs.declared.certificate.Kind.TheVariants.{Lower}
 use Rattle.re_chain.specs.Relaxing.{relaxed_limit}
-use Rattle.re_chain_parts.specs.Chains.{chain_with}
+use Rattle.re_chain_parts.specs.Chains.{IsSound, chain_with}
 use Rattle.re_chain_steps.specs.declared.stepping.ChainStepFault.TheVariants as why
-use Rattle.re_extend.specs.Extensions.{IsSoundChain}
 use Rattle.re_problem.specs.NamedProblems.{NamedProblem}
 use Rattle.re_closure.proofs.RaisedWithin.{raised_chain-bound, raised_chain-sound}
 use Rattle.re_closure.specs.Diagrams.{raised}
@@ -21,25 +20,25 @@ returns-in-Err-clause-stop c = λ fault e other.
 
 pub with_step-requires : goal.with_step-requires
 with_step-requires c =
-    let step : c.in-Ok.step ≡ step_to_raised c.args.edges.now (last_problem c.args.chain.now) = c.in-Ok.ensures.step ∙ ap (step_to_raised c.args.edges.now) c.last.ensures in
+    let step : c.in-Ok.step ≡ step_to_raised c.args.edges.now (last_problem c.args.chain.now.certificate) = c.in-Ok.ensures.step ∙ ap (step_to_raised c.args.edges.now) c.last.ensures in
     let written = c.in-Ok-by_rows.ensures.written in
     let limit = ap (λ (p : NamedProblem). relaxed_limit p (raised c.args.edges.now p)) (sym c.last.ensures) ∙ c.in-Ok.ensures.none in
     (λ i. is_bound (chain_with Lower (written i).first ((written i).steps ++ step i ∷ [])))
-    ∙ raised_chain-bound c.args.edges.now c.args.chain.now c.steps-steps.ensures.bound c.requires.sound c.over_problems.ensures c.requires.room limit
+    ∙ raised_chain-bound c.args.edges.now c.args.chain.now.certificate c.steps-steps.ensures.bound c.args.chain.now.chain c.over_problems.ensures c.requires.room limit
 
 pub returns-in-Ok-with_step-clause-chain : goal.returns-in-Ok-with_step-clause-chain
 returns-in-Ok-with_step-clause-chain c =
-    let step : c.in-Ok.step ≡ step_to_raised c.args.edges.now (last_problem c.args.chain.now) = c.in-Ok.ensures.step ∙ ap (step_to_raised c.args.edges.now) c.last.ensures in
+    let step : c.in-Ok.step ≡ step_to_raised c.args.edges.now (last_problem c.args.chain.now.certificate) = c.in-Ok.ensures.step ∙ ap (step_to_raised c.args.edges.now) c.last.ensures in
     let written = c.in-Ok-by_rows.ensures.written in
-    c.in-Ok-with_step.ensures ∙ (λ i. chain_with Lower (written i).first ((written i).steps ++ step i ∷ []))
+    c.new.ensures ∙ c.in-Ok-with_step.ensures ∙ (λ i. chain_with Lower (written i).first ((written i).steps ++ step i ∷ []))
 
-pub returns-in-Ok-with_step-clause-sound : goal.returns-in-Ok-with_step-clause-sound
-returns-in-Ok-with_step-clause-sound c =
-    let step : c.in-Ok.step ≡ step_to_raised c.args.edges.now (last_problem c.args.chain.now) = c.in-Ok.ensures.step ∙ ap (step_to_raised c.args.edges.now) c.last.ensures in
+pub new-requires-clause-sound : goal.new-requires-clause-sound
+new-requires-clause-sound c =
+    let step : c.in-Ok.step ≡ step_to_raised c.args.edges.now (last_problem c.args.chain.now.certificate) = c.in-Ok.ensures.step ∙ ap (step_to_raised c.args.edges.now) c.last.ensures in
     let written = c.in-Ok-by_rows.ensures.written in
     let limit = ap (λ (p : NamedProblem). relaxed_limit p (raised c.args.edges.now p)) (sym c.last.ensures) ∙ c.in-Ok.ensures.none in
-    subst IsSoundChain (sym (c.in-Ok-with_step.ensures ∙ (λ i. chain_with Lower (written i).first ((written i).steps ++ step i ∷ []))))
-    (raised_chain-sound c.args.edges.now c.args.chain.now c.steps-steps.ensures.bound c.requires.sound c.over_problems.ensures c.requires.room limit)
+    subst IsSound (sym (c.in-Ok-with_step.ensures ∙ (λ i. chain_with Lower (written i).first ((written i).steps ++ step i ∷ []))))
+    (raised_chain-sound c.args.edges.now c.args.chain.now.certificate c.steps-steps.ensures.bound c.args.chain.now.chain c.over_problems.ensures c.requires.room limit)
 
 pub returns-in-Ok-with_step-clause-none : goal.returns-in-Ok-with_step-clause-none
 returns-in-Ok-with_step-clause-none c = ap (λ (p : NamedProblem). relaxed_limit p (raised c.args.edges.now p)) (sym c.last.ensures) ∙ c.in-Ok.ensures.none

@@ -9,7 +9,7 @@ use Rattle.re_relaxed.proofs.answering.relaxed_output.Goals as goal
 
 pub returns-in-Found : goal.returns-in-Found
 returns-in-Found c =
-    let found = subst (Answers c.args.chain.now) c.in-Found.is c.in_ok-certificate.ensures in
+    let found = subst (Answers c.args.chain.now.certificate) c.in-Found.is c.in_ok-certificate.ensures in
     both_ok _ _ _ c.certificate_output.result c.certificate_output.ensures.outcome c.certificate_output.ensures.text
-    (λ output one gives. subst (λ place. MayFindBehind place (Cycle MAX_STEPS 0 c.args.nodes) c.args.chain.now (outcome_of output)) (sym found.0)
+    (λ output one gives. subst (λ place. MayFindBehind place (Cycle MAX_STEPS 0 c.args.nodes) c.args.chain.now.certificate (outcome_of output)) (sym found.0)
     (inl (c.in-Found.certificate, record { one = one; goes_on = found.1; gives = gives })))

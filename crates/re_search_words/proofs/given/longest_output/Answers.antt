@@ -4,8 +4,8 @@ use Rattle.re_search_words.specs.GivenAnswers.{Refuses}
 use Rattle.re_search_words.proofs.given.longest_output.Goals as goal
 
 pub returns-in-Some : goal.returns-in-Some
-returns-in-Some c = inr (subst (Refuses c.args.input.now c.args.chain.now) c.in-Some.is c.in_ok-output.ensures)
+returns-in-Some c = inr (subst (Refuses c.args.input.now c.args.chain.now.certificate) c.in-Some.is c.in_ok-output.ensures)
 
 pub returns-in-None : goal.returns-in-None
 returns-in-None c =
-    IfOk-weaker c.longest_found.result _ _ (λ output may. inl (subst (Refuses c.args.input.now c.args.chain.now) c.in-None.is c.in_ok-output.ensures, may)) c.longest_found.ensures
+    IfOk-weaker c.longest_found.result _ _ (λ output may. inl (subst (Refuses c.args.input.now c.args.chain.now.certificate) c.in-None.is c.in_ok-output.ensures, may)) c.longest_found.ensures

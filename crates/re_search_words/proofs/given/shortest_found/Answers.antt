@@ -8,6 +8,6 @@ use Rattle.re_search_words.proofs.given.shortest_found.Goals as goal
 
 pub returns-in-Found : goal.returns-in-Found
 returns-in-Found c =
-    let on = subst (AnswersGiven c.args.input.now c.args.steps c.args.labels c.args.chain.now) c.in-Found.is c.in_ok-certificate.ensures in
+    let on = subst (AnswersGiven c.args.input.now c.args.steps c.args.labels c.args.chain.now.certificate) c.in-Found.is c.in_ok-certificate.ensures in
     both_ok _ _ _ c.print_given.result c.print_given.ensures.outcome c.print_given.ensures.text
-    (λ output one gives. inl (c.in-Found.certificate, text_on c.args.input.now Upper c.args.steps c.args.labels c.args.chain.now c.in-Found.certificate (outcome_of output) on one gives))
+    (λ output one gives. inl (c.in-Found.certificate, text_on c.args.input.now Upper c.args.steps c.args.labels c.args.chain.now.certificate c.in-Found.certificate (outcome_of output) on one gives))

@@ -8,9 +8,9 @@ use Rattle.re_search_words.proofs.given.shortest_output.Goals as goal
 
 pub returns-then-branch : goal.returns-then-branch
 returns-then-branch c =
-    let chain = c.args.chain.now in
+    let chain = c.args.chain.now.certificate in
     IfOk-weaker c.repeated_output.result _ _
-    (λ output may. inl (c.in_ok-is_accepted.ensures.0 c.if-branch.true, subst (λ (k : Kind). IsTextOnGiven c.args.input.now k c.args.steps c.args.labels chain chain (outcome_of output)) c.requires.upper may)) c.repeated_output.ensures
+    (λ output may. inl (c.in_ok-is_accepted.ensures.0 c.if-branch.true, subst (λ (k : Kind). IsTextOnGiven c.args.input.now k c.args.steps c.args.labels chain chain (outcome_of output)) c.args.chain.now.chain.upper may)) c.repeated_output.ensures
 
 pub returns-else-branch : goal.returns-else-branch
 returns-else-branch c = IfOk-weaker c.shortest_else.result _ _ (λ output e. inr (λ taken. false≢true (sym c.if-branch.false ∙ c.in_ok-is_accepted.ensures.1 taken), e)) c.shortest_else.ensures

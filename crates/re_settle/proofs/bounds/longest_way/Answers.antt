@@ -9,6 +9,6 @@ returns c =
     let steps = c.longest_steps-steps.ensures ∙ ap longest_steps c.doublings-doublings.ensures.value in
     let labels = c.longest_labels-labels.ensures ∙ ap (λ d. longest_labels d c.doublings-doublings.result) c.greatest_degree.ensures
     ∙ ap (longest_labels (greatest_degree c.args.problem.now)) c.doublings-doublings.ensures.value in
-    longest_known c.args.times c.args.problem.now c.args.chain.now c.in-Found.certificate c.longest_steps-steps.result c.longest_labels-labels.result c.count_of.result (steps, labels)
-    c.requires.chain (subst (Answers c.longest_steps-steps.result c.longest_labels-labels.result c.args.chain.now) c.in-Found.is c.in_ok-certificate.ensures)
+    longest_known c.args.times c.args.problem.now c.args.chain.now.certificate c.in-Found.certificate c.longest_steps-steps.result c.longest_labels-labels.result c.count_of.result (steps, labels)
+    c.requires.chain (subst (Answers c.longest_steps-steps.result c.longest_labels-labels.result c.args.chain.now.certificate) c.in-Found.is c.in_ok-certificate.ensures)
     (c.in_ok-has.ensures.text c.if-not-has.false) c.count_of.ensures

@@ -10,7 +10,7 @@ use Rattle.re_settle.proofs.bounds.shortest_way.Goals as goal
 
 pub returns : goal.returns
 returns c =
-    let chain = c.upper_chain-chain.result in
+    let chain = c.upper_chain-chain.result.certificate in
     shortest_known c.args.times c.args.problem.now chain c.in-Found.certificate c.args.steps c.args.labels c.count_of.result c.requires
     (c.upper_chain-chain.ensures ∙ ap (λ (p : NamedProblem). chain_with Upper p []) c.in_ok-copy.ensures)
     (subst (AnswersAt (zero_place (unnamed (last_problem chain))) c.args.steps c.args.labels chain) c.in-Found.is c.in_ok-certificate.ensures) (c.in_ok-has.ensures.text c.if-not-has.false)

@@ -1,15 +1,12 @@
 use Rattle.std.proofs.Common.{◌≤◌, arith, subst}
 use Rattle.std.specs.Prelude.{IfSome}
-use Rattle.re_settle.proofs.Known.{closure_known, start_sound}
+use Rattle.re_settle.proofs.Known.{closure_known}
 use Rattle.re_settle.specs.Ways.{ClosesBehind}
 use Rattle.re_settle.proofs.never.closure_way.Goals as goal
 
-pub closing-requires : goal.closing-requires
-closing-requires c = start_sound c.args.problem.now c.args.chain.now c.requires.chain
-
 pub returns-in-Some : goal.returns-in-Some
 returns-in-Some c =
-    let closes = subst (λ found. IfSome found (λ steps. ClosesBehind steps c.args.chain.now)) c.in-Some.is c.in_ok-steps.ensures.closes in
+    let closes = subst (λ found. IfSome found (λ steps. ClosesBehind steps c.args.chain.now.certificate)) c.in-Some.is c.in_ok-steps.ensures.closes in
     let most = subst (λ found. IfSome found (λ steps. steps ≤ c.args.more)) c.in-Some.is c.in_ok-steps.ensures.most in
     let few = c.requires.more in
-    closure_known c.args.times c.args.problem.now c.args.chain.now c.in-Some.steps c.requires.chain (omega (arith, most, few)) closes
+    closure_known c.args.times c.args.problem.now c.args.chain.now.certificate c.in-Some.steps c.requires.chain (omega (arith, most, few)) closes

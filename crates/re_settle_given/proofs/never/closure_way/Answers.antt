@@ -1,14 +1,10 @@
-use Rattle.std.proofs.Common.{refl, subst, sym}
+use Rattle.std.proofs.Common.{subst}
 use Rattle.re_closure.specs.Closures.{Answers}
-use Rattle.re_extend.specs.Extensions.{IsSoundChain}
 use Rattle.re_settle_given.proofs.Known.{closure_known}
 use Rattle.re_settle_given.proofs.never.closure_way.Goals as goal
 
-pub find_closure-requires : goal.find_closure-requires
-find_closure-requires c = subst IsSoundChain (sym c.requires.chain) (record { lower = refl; meets = refl })
-
 pub returns-then-closes : goal.returns-then-closes
 returns-then-closes c =
-    let found = subst (Answers c.args.chain.now) c.in-Ok-Found.field-0-is c.in-Ok-Found.ensures.answers in
-    closure_known c.args.times c.args.problem.now c.args.input.now c.args.chain.now c.in-Ok-Found.certificate c.names-names.ensures.problem c.requires.chain found.2
+    let found = subst (Answers c.args.chain.now.certificate) c.in-Ok-Found.field-0-is c.in-Ok-Found.ensures.answers in
+    closure_known c.args.times c.args.problem.now c.args.input.now c.args.chain.now.certificate c.in-Ok-Found.certificate c.names-names.ensures.problem c.requires.chain found.2
     (c.in_ok-closes-in-Ok-Found.ensures.text c.if-closes.true) (c.in_ok-closes-in-Ok-Found.ensures.taken c.if-closes.true) (c.in_ok-closes-in-Ok-Found.ensures.both c.if-closes.true)

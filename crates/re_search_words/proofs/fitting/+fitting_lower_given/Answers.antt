@@ -1,0 +1,12 @@
+use Rattle.re_cert.specs.declared.certificate.Kind.TheVariants.{Lower}
+use Rattle.re_frame.specs.Outcomes.{outcome_of}
+use Rattle.re_search_words.specs.GivenAnswers.{IsFoundGiven}
+use Rattle.re_search_words.proofs.ShorterTexts.{given_more, some_more}
+use Rattle.re_search_words.proofs.fitting.+fitting_lower_given.Goals as goal
+
+pub returns : goal.returns
+returns t c =
+    let input = c.args.input.now in
+    let chain = c.args.chain.now.certificate in
+    some_more (λ output. IsFoundGiven input Lower c.args.steps c.three_quarters.result chain (outcome_of output)) (λ output. IsFoundGiven input Lower c.args.steps c.args.labels chain (outcome_of output))
+    c.fitting_lower_given.result (λ output. given_more input Lower c.args.steps c.three_quarters.result c.args.labels chain (outcome_of output) c.three_quarters.ensures.most) c.fitting_lower_given.ensures

@@ -1,0 +1,3 @@
+pub mod Classes
+pub mod Examples
+pub mod Laws

@@ -1,0 +1,17 @@
+pub mod ColourLists
+pub mod ColouredPlaces
+pub mod FewOnForests
+pub mod FewerAround
+pub mod FittingViews
+pub mod GivenOnForests
+pub mod LocalOnForests
+pub mod LocalViews
+pub mod OnceLists
+pub mod PlaceCodes
+pub mod PlaceWalks
+pub mod Places
+pub mod PlacesAround
+pub mod PortsOnForests
+pub mod ShownPlaces
+pub mod SpareColours
+pub mod Views

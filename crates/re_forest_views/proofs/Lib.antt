@@ -1,0 +1,16 @@
+pub mod Consequences
+pub mod Counting
+pub mod Edges
+pub mod Identified
+pub mod Link
+pub mod Moving
+pub mod NamedCuts
+pub mod NamedPlants
+pub mod NamedTrees
+pub mod NamedViews
+pub mod Places
+pub mod PlantBalls
+pub mod Plants
+pub mod SeenNear
+pub mod ShownAlike
+pub mod TreeNetworks

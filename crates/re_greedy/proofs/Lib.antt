@@ -1,0 +1,16 @@
+pub mod ActiveTurns
+pub mod Colours
+pub mod GreedyChains
+pub mod GreedyClasses
+pub mod GreedyExamples
+pub mod GreedySolved
+pub mod GreedyTest
+pub mod Hops
+pub mod Matchings
+pub mod Parts
+pub mod PassiveColours
+pub mod PassiveTurns
+pub mod Ported
+pub mod Stages
+pub mod Told
+pub mod Turns

@@ -1,0 +1,5 @@
+pub mod Full
+pub mod Laws
+pub mod Layers
+pub mod Networks
+pub mod Towers

@@ -1,11 +1,9 @@
 //! Tables of algorithms: what is no table, what one answers, and whether it solves a problem.
-use re_algo::{Table, TableVerdict, solves};
-use re_choice::first_choice;
-use re_config::Config;
-use re_labels::{Degrees, LabelSet, NoMemory, PortLabels, Side};
+use re_algo::{Table, TableVerdict, first_choice, solves};
+use re_labels::{Config, Degrees, LabelSet, NoMemory, PortLabels, Side};
+use re_laws::{View, all_views};
 use re_problem::{Problem, read_problem};
 use re_table::{Constraint, InsertFault};
-use re_views::{View, all_views};
 use std::alloc::Global;
 
 const DEGREES: Degrees = Degrees {

@@ -1,8 +1,8 @@
 //! Certificates that are read, printed and read back, with ample memory.
 use re_cert::{Certificate, read_certificate};
-use re_cert_text::{print_certificate, read_back};
 use re_io::MAX_BYTES;
 use re_labels::NoMemory;
+use re_texts::{print_certificate, read_certificate_back};
 use std::alloc::Global;
 
 const ORIENTATION_LOWER: &[u8] = b"== certificate 1 lower\nO I^2\n\nI [IO]\n== end\n";
@@ -74,7 +74,7 @@ fn printed(alloc: Global, text: &[u8]) -> Result<Vec<u8>, NoMemory> {
     let Some(certificate) = read(alloc, text) else {
         return Err(NoMemory);
     };
-    let Some(again) = read_back(alloc, &certificate)? else {
+    let Some(again) = read_certificate_back(alloc, &certificate)? else {
         return Err(NoMemory);
     };
     print_certificate(alloc, &again)

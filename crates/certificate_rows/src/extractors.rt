@@ -1,6 +1,6 @@
 //! The algorithm of an upper bound of 64 steps: far views are within reach.
 ghost use Rattle.re_pool.specs.Pools.{tree_at};
-ghost use Rattle.re_views.specs.Trees.{IsView};
+ghost use Rattle.re_laws.specs.Trees.{IsView};
 ghost use Rattle.std.specs.Prelude.{◌<◌, IfOk, length};
 
 use re_cert::read_certificate;
@@ -8,8 +8,8 @@ use re_check::{Kind, Verdict, check, upper_steps};
 use re_extract::Extractor;
 use re_io::MAX_BYTES;
 use re_labels::{Degrees, NoMemory, PortLabels, Side};
+use re_laws::{View, is_view, pad};
 use re_pool::{NodeId, Pool, Rule, narrow_law};
-use re_views::{View, is_view, pad};
 use std::alloc::Global;
 
 // The extractor of an accepted certificate of an upper bound.

@@ -1,11 +1,10 @@
 //! What no clause says: that the call succeeds where there is memory, on views that were listed.
-ghost use Rattle.re_views.specs.Shown.{tree_of_view};
-ghost use Rattle.re_views.specs.Trees.{IsView};
+ghost use Rattle.re_laws.specs.Shown.{tree_of_view};
+ghost use Rattle.re_laws.specs.Trees.{IsView};
 
 use crate::seen::are_alike;
 use re_labels::{Degrees, NoMemory, Side};
-use re_laws::{End, branchwise};
-use re_views::{View, all_views, is_view, shift};
+use re_laws::{End, View, all_views, branchwise, is_view, shift};
 use std::alloc::Global;
 
 const DEGREES: Degrees = Degrees {

@@ -4,10 +4,9 @@ ghost use Rattle.std.specs.List.{AllByRecursion};
 ghost use Rattle.std.specs.Prelude.{◌≡◌, length};
 
 use re_cert::{Kind, SetEntry};
-use re_cert_text::{push_entry, push_header, push_pair};
-use re_config::Row;
-use re_labels::{LabelSet, Name, Names};
+use re_labels::{LabelSet, Name, Names, Row};
 use re_printing::push_row;
+use re_texts::{push_entry, push_header, push_pair};
 use std::alloc::Global;
 use std::test::Fail;
 

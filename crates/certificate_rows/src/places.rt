@@ -1,6 +1,6 @@
 //! How many views there are, as numbers that were counted by hand.
+use re_algo::view_count;
 use re_labels::{Degrees, Side};
-use re_places::view_count;
 
 const DEGREES: Degrees = Degrees {
     active: 3,

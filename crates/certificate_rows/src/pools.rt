@@ -1,14 +1,14 @@
 //! What no clause says: each call once with ample memory, and numbers that were counted by hand.
 ghost use Rattle.re_pool.specs.Pools.{AreHeld, IsPool, tree_at};
-ghost use Rattle.re_views.specs.Shown.{tree_of_view};
-ghost use Rattle.re_views.specs.Trees.{IsView};
+ghost use Rattle.re_laws.specs.Shown.{tree_of_view};
+ghost use Rattle.re_laws.specs.Trees.{IsView};
 ghost use Rattle.std.specs.Prelude.{◌<◌, ◌≤◌, ◌≡◌, IfOk, length};
 
 use crate::seen::are_alike;
 use arrayvec::ArrayVec;
 use re_labels::{Degrees, NoMemory, Side};
+use re_laws::{View, all_views, cut, is_view, shift};
 use re_pool::{Link, NodeId, Pool, Shape, narrow_law};
-use re_views::{View, all_views, cut, is_view, shift};
 use std::alloc::Global;
 
 const DEGREES: Degrees = Degrees {

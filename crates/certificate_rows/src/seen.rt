@@ -1,6 +1,6 @@
 //! What views show: their back ports and their payloads, in preorder.
 use re_labels::NoMemory;
-use re_views::{Branch, Child, View};
+use re_laws::{Branch, Child, View};
 use std::alloc::Global;
 
 // The back ports, with a 0 behind the children of each node, and the payloads.

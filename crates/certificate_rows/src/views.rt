@@ -1,7 +1,7 @@
 //! What no clause says: each call once with ample memory, and values that were counted by hand.
 use crate::seen::{are_alike, shows};
 use re_labels::{Degrees, NoMemory, Side};
-use re_views::{Branch, Child, View, all_views, cut, is_view, pad, shift};
+use re_laws::{Branch, Child, View, all_views, cut, is_view, pad, shift};
 use std::alloc::Global;
 
 const DEGREES: Degrees = Degrees {

@@ -1,7 +1,7 @@
 //! Allowed multisets of sets.
 use crate::tables::triples;
-use re_exist::allowed;
 use re_labels::LabelSet;
+use re_step::allowed;
 use re_table::Constraint;
 use std::alloc::{AllocError, Global};
 

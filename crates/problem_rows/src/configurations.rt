@@ -1,8 +1,7 @@
 //! Each call of a configuration once, and the cases at which it turns.
 ghost use Rattle.std.specs.Prelude.{◌<◌};
 
-use re_config::Config;
-use re_labels::{LabelSet, MAX_LABELS};
+use re_labels::{Config, LabelSet, MAX_LABELS};
 
 // Whether the labels are in order, and the copy, the support and an image are those of `A C C`.
 fn is_configuration() -> bool {

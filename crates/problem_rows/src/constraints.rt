@@ -2,8 +2,7 @@
 ghost use Rattle.std.specs.Prelude.{◌≡◌, ◌<◌};
 
 use crate::tables::{pairs, row_of};
-use re_config::{Config, Row};
-use re_labels::{LabelSet, MAX_LABELS};
+use re_labels::{Config, LabelSet, MAX_LABELS, Row};
 use re_table::Constraint;
 use std::alloc::Global;
 

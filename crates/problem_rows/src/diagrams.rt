@@ -1,5 +1,5 @@
 //! Small problems merged: the label of the smaller problem that stands for each of theirs.
-use re_diagram::merge;
+use re_changes::merge;
 use re_problem::{Problem, TextFault, read_problem};
 use std::alloc::Global;
 

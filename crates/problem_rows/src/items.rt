@@ -1,11 +1,11 @@
 //! Lines as they are written, and each call once with ample memory.
 ghost use Rattle.std.specs.Prelude.{◌≤◌, length};
 
-use re_items::{
+use re_labels::{LabelSet, Name, Names, NamesFault};
+use re_problem::{
     Item, ItemStep, add_item_names, first_bad_byte, is_empty_line, item_labels, next_item,
     read_empty_degree, read_number,
 };
-use re_labels::{LabelSet, Name, Names, NamesFault};
 
 fn label(to: usize, power: Option<u8>) -> ItemStep {
     ItemStep::Item(Item {

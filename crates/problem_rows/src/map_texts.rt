@@ -1,7 +1,7 @@
 //! Maps as they are read: the image of each label.
 use re_labels::LabelSet;
-use re_map_texts::{LabelMapInput, SetMapInput, read_label_map, read_set_map};
 use re_problem::TextFault;
+use re_texts::{LabelMapInput, SetMapInput, read_label_map, read_set_map};
 use std::alloc::{AllocError, Global};
 
 // Problems of 3 and 2 edges with the labels I and O; the entries begin at byte 46, in line 10.

@@ -2,8 +2,8 @@
 ghost use Rattle.std.specs.Prelude.{◌≡◌, length};
 
 use crate::tables::{pairs, row_of};
-use re_config::{Config, Row};
-use re_row_clause::are_maximal_rows;
+use re_check::are_maximal_rows;
+use re_labels::{Config, Row};
 use re_table::{Constraint, InsertFault};
 use std::alloc::{AllocError, Global};
 

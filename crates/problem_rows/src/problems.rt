@@ -1,8 +1,7 @@
 //! Problems built by hand.
 ghost use Rattle.std.specs.Prelude.{◌<◌};
 
-use re_config::Config;
-use re_labels::{MAX_LABELS, Name, Names, NamesFault, NoMemory};
+use re_labels::{Config, MAX_LABELS, Name, Names, NamesFault, NoMemory};
 use re_problem::{Problem, print_problem};
 use re_table::Constraint;
 use std::alloc::Global;

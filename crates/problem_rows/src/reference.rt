@@ -1,6 +1,5 @@
 //! Derived problems of worked problems.
-use re_config::{Config, Row};
-use re_labels::LabelSet;
+use re_labels::{Config, LabelSet, Row};
 use re_problem::{Problem, TextFault, read_problem};
 use re_reference::{Derived, derived_by_definition, maximal_rows_by_definition};
 use std::alloc::Global;

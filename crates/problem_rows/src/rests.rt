@@ -1,7 +1,7 @@
 //! The up-sets of two small constraints, each set by its number.
 use crate::tables::{pairs, triples};
+use re_boxes::up_sets;
 use re_labels::LabelSet;
-use re_rests::up_sets;
 use std::alloc::Global;
 
 // Whether the sets have these numbers.

@@ -2,8 +2,7 @@
 ghost use Rattle.std.specs.Prelude.{◌≤◌};
 
 use crate::tables::row_of;
-use re_config::{Config, Multisets, Placement, Placements, Row};
-use re_labels::LabelSet;
+use re_labels::{Config, LabelSet, Multisets, Placement, Placements, Row};
 
 fn is_dominance(row: &Row, other: &Row, want: bool) -> bool {
     row.sets().len() == 2 && other.sets().len() == 2 && row.dominates(other) == want

@@ -1,8 +1,7 @@
 //! Constraints, sets and rows, by numbers.
 ghost use Rattle.std.specs.Prelude.{◌≡◌, IfOk};
 
-use re_config::{Config, Row};
-use re_labels::LabelSet;
+use re_labels::{Config, LabelSet, Row};
 use re_table::{Constraint, InsertFault};
 use std::alloc::Global;
 

@@ -11,13 +11,13 @@ use Rattle.re_labels.proofs.Tests.{and-true, or-false, true-and}
 use Rattle.re_labels.specs.Lists.{count_from}
 use Rattle.re_labels.specs.Sets.{has, with_label}
 use Rattle.re_labels.specs.declared.TheConstants.{MAX_LABELS}
-use Rattle.re_places.specs.Counting.{view_place}
+use Rattle.re_algo.specs.Counting.{view_place}
 use Rattle.re_table.proofs.Strengths.{filter-same}
 use Rattle.re_algo.proofs.Adding.{map-at_each, row_more}
 use Rattle.re_laws.specs.Algorithms.{Plain, at_port, back_at}
 use Rattle.re_algo.specs.SeenRows.{put_also, put_over, puts, some_puts, tested_row, tested_rows}
-use Rattle.re_views.specs.AllViews.{all_views}
-use Rattle.re_views.specs.Trees.{IsView, leaf, shift}
+use Rattle.re_laws.specs.AllViews.{all_views}
+use Rattle.re_laws.specs.Trees.{IsView, leaf, shift}
 
 or-assoc : (a b c : Bool) → (a || (b || c)) ≡ (a || b || c)
 or-assoc true b c = refl

@@ -10,14 +10,14 @@ use Rattle.re_labels.proofs.Tests.{and-true, eqb-apart, eqb-same, eqb-true, or-f
 use Rattle.re_labels.specs.Lists.{count_from}
 use Rattle.re_labels.specs.Sets.{IsLabelSet, has, with_label}
 use Rattle.re_labels.specs.declared.TheConstants.{MAX_LABELS}
-use Rattle.re_places.proofs.Places.{place_at, tree_at}
-use Rattle.re_places.specs.Counting.{view_place}
+use Rattle.re_algo.proofs.Places.{place_at, tree_at}
+use Rattle.re_algo.specs.Counting.{view_place}
 use Rattle.re_laws.proofs.Tables.{same_view-refl, same_view-same}
 use Rattle.re_laws.specs.Algorithms.{Plain, same_view}
 use Rattle.re_table.proofs.Strengths.{filter-same}
 use Rattle.re_algo.specs.SeenRows.{tested_row, tested_rows}
-use Rattle.re_views.specs.AllViews.{all_views}
-use Rattle.re_views.specs.Trees.{IsView, leaf}
+use Rattle.re_laws.specs.AllViews.{all_views}
+use Rattle.re_laws.specs.Trees.{IsView, leaf}
 
 -- one more label passes
 pub with_label-filter : (p q : ℕ → Bool) (n y : ℕ) → y < n → ((x : ℕ) → q x ≡ (p x || eqb y x)) → with_label (filter p (count_from 0 n)) y ≡ filter q (count_from 0 n)

@@ -5,10 +5,10 @@ use Rattle.std.specs.List.{AllByRecursion, list_any, position_or_len}
 use Rattle.std.proofs.lemmas.Bool.Decides.{nat_tests}
 use Rattle.std.proofs.lemmas.List.{drop_all, get_or_default, length-map}
 use Rattle.std.proofs.lemmas.List.Elements.{Contains-get_or}
-use Rattle.re_config.proofs.Placing.{Dominates-dominates, covers_step, dominates-Dominates, get_or-placed, length-placed}
-use Rattle.re_config.proofs.Rearranging.{AllZip-Rearranged, Rearranged-sym, length-Rearranged}
-use Rattle.re_config.specs.Rearranging.{Rearranged}
-use Rattle.re_config.specs.Rows.{covers, dominates, placed}
+use Rattle.re_labels.proofs.Placing.{Dominates-dominates, covers_step, dominates-Dominates, get_or-placed, length-placed}
+use Rattle.re_labels.proofs.Rearranging.{AllZip-Rearranged, Rearranged-sym, length-Rearranged}
+use Rattle.re_labels.specs.Rearranging.{Rearranged}
+use Rattle.re_labels.specs.Rows.{covers, dominates, placed}
 use Rattle.re_labels.proofs.Membership.{AllByRecursion-contains}
 use Rattle.re_labels.proofs.Tests.{same_tests}
 use Rattle.re_labels.specs.Lists.{place_of}

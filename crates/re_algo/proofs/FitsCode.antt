@@ -4,7 +4,7 @@ use Rattle.std.specs.Prelude.{Contains, filter, ◌↔◌}
 use Rattle.std.specs.List.{AllByRecursion, list_all, list_any, position}
 use Rattle.std.proofs.lemmas.List.{get_or_default}
 use Rattle.std.proofs.lemmas.List.Elements.{Contains-get_or}
-use Rattle.re_config.specs.Configs.{support_of}
+use Rattle.re_labels.specs.Configs.{support_of}
 use Rattle.re_labels.proofs.Membership.{AllByRecursion-In, AllByRecursion-from_In, AllByRecursion-from_contains, AllByRecursion-weaker, Contains-map_cases, all-In, all-In_from, any_found, count_from_range}
 use Rattle.re_labels.proofs.Numbers.{IsLabelSet-count_from, IsLabelSet-filter}
 use Rattle.re_labels.proofs.Tests.{and-true, eqb-true, same_tests}
@@ -19,9 +19,9 @@ use Rattle.re_problem.specs.Problems.{IsProblem, Problem}
 use Rattle.re_table.proofs.Goodness.{IsGood-is_good, has_config-Has, is_good-IsGood}
 use Rattle.re_table.specs.Constraints.{Constraint, Has, IsConstraint, has_config}
 use Rattle.re_table.specs.GoodRows.{IsGood, is_good}
-use Rattle.re_views.proofs.AllViewsLemmas.{all_views-IsView}
-use Rattle.re_views.specs.AllViews.{all_views}
-use Rattle.re_views.specs.Trees.{IsView, leaf, shift}
+use Rattle.re_laws.proofs.AllViewsLemmas.{all_views-IsView}
+use Rattle.re_laws.specs.AllViews.{all_views}
+use Rattle.re_laws.specs.Trees.{IsView, leaf, shift}
 use Rattle.re_algo.proofs.Added.{filter-within}
 use Rattle.re_algo.proofs.Adding.{map-at_each}
 use Rattle.re_algo.proofs.JudgeCode.{labels_within}

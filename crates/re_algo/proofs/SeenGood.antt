@@ -5,11 +5,11 @@ use Rattle.std.specs.List.{AllByRecursion, list_any}
 use Rattle.std.proofs.lemmas.Bool.Decides.{nat_tests}
 use Rattle.std.proofs.lemmas.List.{get_or-map, get_or_default, length-map}
 use Rattle.std.proofs.lemmas.List.Elements.{Contains-get_or, same_from_all_zip}
-use Rattle.re_config.proofs.Rearranging.{Contains-Rearranged, length-AllZip}
-use Rattle.re_config.proofs.Replacing.{has-support_of}
-use Rattle.re_config.proofs.Sorting.{Rearranged-sorted, length-sorted}
-use Rattle.re_config.specs.Configs.{IsConfig, sorted, support_of}
-use Rattle.re_config.specs.Rows.{IsChoice}
+use Rattle.re_labels.proofs.Rearranging.{Contains-Rearranged, length-AllZip}
+use Rattle.re_labels.proofs.Replacing.{has-support_of}
+use Rattle.re_labels.proofs.Sorting.{Rearranged-sorted, length-sorted}
+use Rattle.re_labels.specs.Configs.{IsConfig, sorted, support_of}
+use Rattle.re_labels.specs.Rows.{IsChoice}
 use Rattle.re_labels.proofs.Membership.{AllByRecursion-contains, AllByRecursion-from_contains, Contains-count_from, Contains-filter, Contains-filter_cases, Contains-map, Contains-map_cases, any_found, any_true, count_from_range, get_or-count_from, length-count_from}
 use Rattle.re_labels.proofs.Sets.{IsIn-has, has-IsIn}
 use Rattle.re_labels.proofs.Tests.{and-true}
@@ -24,12 +24,12 @@ use Rattle.re_laws.specs.Fast.{seen, seen_row}
 use Rattle.re_problem.specs.Problems.{IsProblem, Problem}
 use Rattle.re_table.specs.Constraints.{Has}
 use Rattle.re_table.specs.GoodRows.{IsGood}
-use Rattle.re_views.proofs.AllViewsLemmas.{Contains-all_views, all_views-IsView}
-use Rattle.re_views.proofs.Branchwise.{IsView-branchwise, back-shift, backs-child, child_at-branchwise, joined, shift-branchwise}
-use Rattle.re_views.proofs.ViewLaws.{IsChild, IsTree-cut, IsView-pad, IsView-shift, child_of, cut-pad, shift-shift}
-use Rattle.re_views.specs.AllViews.{all_views}
-use Rattle.re_views.specs.Ends.{AreEnds, End, IsEnd, branchwise, no_end}
-use Rattle.re_views.specs.Trees.{Child, IsView, backs, child_at, cut, leaf, pad, shift}
+use Rattle.re_laws.proofs.AllViewsLemmas.{Contains-all_views, all_views-IsView}
+use Rattle.re_laws.proofs.Branchwise.{IsView-branchwise, back-shift, backs-child, child_at-branchwise, joined, shift-branchwise}
+use Rattle.re_laws.proofs.ViewLaws.{IsChild, IsTree-cut, IsView-pad, IsView-shift, child_of, cut-pad, shift-shift}
+use Rattle.re_laws.specs.AllViews.{all_views}
+use Rattle.re_laws.specs.Ends.{AreEnds, End, IsEnd, branchwise, no_end}
+use Rattle.re_laws.specs.Trees.{Child, IsView, backs, child_at, cut, leaf, pad, shift}
 use Rattle.re_algo.specs.Laws.{SeenLaw}
 use Rattle.re_algo.specs.SeenRows.{seen_rows}
 

@@ -2,7 +2,7 @@
 use Rattle.std.proofs.Common.{◌≡◌, ℕ, get_or, ◌<◌, ◌+◌, List, [], length, map, ap, ◌∙◌, arith, Option, Some}
 use Rattle.std.specs.Prelude.{unwrap_or}
 use Rattle.std.proofs.lemmas.List.{get_or-map, length-map}
-use Rattle.re_config.specs.Rows.{set_at}
+use Rattle.re_labels.specs.Rows.{set_at}
 use Rattle.re_labels.proofs.Membership.{get_or-count_from, length-count_from}
 use Rattle.re_labels.specs.Lists.{count_from}
 use Rattle.re_laws.proofs.Ports.{length-ports}

@@ -7,25 +7,25 @@ use Rattle.std.proofs.Math.Pow.{pow_mono}
 use Rattle.std.proofs.lemmas.Nat.{pow_pos}
 use Rattle.std.proofs.lemmas.Bool.Decides.{nat_tests}
 use Rattle.std.proofs.lemmas.List.{length-map}
-use Rattle.re_config.proofs.ChoicesOfRows.{choices-IsChoice}
-use Rattle.re_config.specs.Rows.{choices, set_at}
+use Rattle.re_labels.proofs.ChoicesOfRows.{choices-IsChoice}
+use Rattle.re_labels.specs.Rows.{choices, set_at}
 use Rattle.re_labels.proofs.Membership.{AllByRecursion-from_contains, Contains-map_cases, any_true}
 use Rattle.re_labels.specs.declared.sides.Degrees.{Degrees}
 use Rattle.re_laws.proofs.SlowRounds.{SolvesBy-upper, slow_is}
 use Rattle.re_laws.specs.Algorithms.{Plain, Solves, SolvesBy, around}
 use Rattle.re_laws.specs.Slow.{slow}
-use Rattle.re_places.proofs.Counts.{base_within, length-all_trees}
-use Rattle.re_places.specs.Counting.{tree_count}
-use Rattle.re_places.specs.declared.counting.TheConstants.{MAX_VIEWS}
+use Rattle.re_algo.proofs.Counts.{base_within, length-all_trees}
+use Rattle.re_algo.specs.Counting.{tree_count}
+use Rattle.re_algo.specs.declared.counting.TheConstants.{MAX_VIEWS}
 use Rattle.re_problem.proofs.DerivedProblem.{IsUpper-derived}
 use Rattle.re_problem.specs.Derived.{derived}
 use Rattle.re_problem.specs.Problems.{IsProblem, Problem}
 use Rattle.re_table.proofs.Goodness.{Has-has_config}
 use Rattle.re_table.specs.Constraints.{Constraint, has_config}
 use Rattle.re_table.specs.GoodRows.{max_sets}
-use Rattle.re_views.proofs.AllViewsLemmas.{all_views-IsView}
-use Rattle.re_views.specs.AllViews.{all_views}
-use Rattle.re_views.specs.Trees.{IsView}
+use Rattle.re_laws.proofs.AllViewsLemmas.{all_views-IsView}
+use Rattle.re_laws.specs.AllViews.{all_views}
+use Rattle.re_laws.specs.Trees.{IsView}
 use Rattle.re_algo.proofs.FasterCode.{view_as}
 use Rattle.re_algo.proofs.SeenGood.{count_is}
 use Rattle.re_algo.proofs.TableLaws.{Solves-map, built, degrees_are}

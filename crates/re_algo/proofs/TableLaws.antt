@@ -9,19 +9,19 @@ use Rattle.re_labels.proofs.Membership.{Contains-In, In-Contains, all-In, all-In
 use Rattle.re_labels.proofs.Tests.{true-and}
 use Rattle.re_labels.specs.declared.sides.Degrees.{Degrees}
 use Rattle.re_laws.proofs.Tables.{SolvesBy-same}
-use Rattle.re_places.specs.declared.counting.TheConstants.{MAX_VIEWS}
+use Rattle.re_algo.specs.declared.counting.TheConstants.{MAX_VIEWS}
 use Rattle.re_laws.specs.Algorithms.{Entry, Plain, Solves, SolvesBy, around}
 use Rattle.re_problem.proofs.FedLines.{unnot}
 use Rattle.re_problem.proofs.ZeroPlaces.{none-fails}
-use Rattle.re_zero.proofs.FirstPlaces.{position-absent}
+use Rattle.re_problem.proofs.FirstPlaces.{position-absent}
 use Rattle.re_problem.specs.Problems.{Problem}
 use Rattle.re_table.proofs.Goodness.{Has-has_config, has_config-Has}
 use Rattle.re_table.specs.Constraints.{Has, has_config}
-use Rattle.re_places.proofs.Places.{tree_at}
-use Rattle.re_places.specs.Counting.{view_place}
-use Rattle.re_views.proofs.AllViewsLemmas.{Contains-all_views, Distinct-all_views, all_views-IsView}
-use Rattle.re_views.specs.AllViews.{all_views}
-use Rattle.re_views.specs.Trees.{IsView, leaf}
+use Rattle.re_algo.proofs.Places.{tree_at}
+use Rattle.re_algo.specs.Counting.{view_place}
+use Rattle.re_laws.proofs.AllViewsLemmas.{Contains-all_views, Distinct-all_views, all_views-IsView}
+use Rattle.re_laws.specs.AllViews.{all_views}
+use Rattle.re_laws.specs.Trees.{IsView, leaf}
 use Rattle.re_algo.proofs.GivenAnswers.{answer-paired, views-paired}
 use Rattle.re_algo.specs.Laws.{GivenLaw, VerdictLaw}
 use Rattle.re_algo.specs.Tables.{AnswerTable, IsTable, built_table, entries, given, is_filled, views_of}

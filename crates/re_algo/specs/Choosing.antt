@@ -1,9 +1,9 @@
 -- The choice that a node makes where its neighbours leave it sets.
 use Rattle.std.specs.Prelude.{◌≡◌, ℕ, suc, true, List, [], map, find, unwrap_or}
 use Rattle.std.specs.List.{list_any}
-use Rattle.re_config.specs.Rows.{choices, set_at}
+use Rattle.re_labels.specs.Rows.{choices, set_at}
 use Rattle.re_laws.specs.Algorithms.{Plain, around, at_port, back_at}
-use Rattle.re_views.specs.Trees.{IsView, shift}
+use Rattle.re_laws.specs.Trees.{IsView, shift}
 use Rattle.re_table.specs.Constraints.{Constraint, has_config}
 use Rattle.re_algo.specs.Tables.{AnswerTable, given}
 

@@ -1,6 +1,9 @@
 pub mod Choosing
 pub mod Constructions
+pub mod Counting
+pub mod FirstChoice
 pub mod Laws
+pub mod PlaceLaws
 pub mod SeenRows
 pub mod Tables
 pub mod Verdicts

@@ -3,8 +3,7 @@ ghost use Rattle.re_table.specs.Constraints.{has_config};
 ghost use Rattle.std.specs.List.{list_all, position};
 ghost use Rattle.std.specs.Prelude.{◌≡◌, ◌<◌, ◌==◌, length, nat_lt, not};
 
-use re_config::Config;
-use re_labels::{MAX_LABELS, PortLabels};
+use re_labels::{Config, MAX_LABELS, PortLabels};
 use re_table::Constraint;
 
 // Whether each answer has so many labels.

@@ -1,5 +1,5 @@
 //! Sets by their places.
-ghost use Rattle.re_config.specs.Rows.{set_at};
+ghost use Rattle.re_labels.specs.Rows.{set_at};
 ghost use Rattle.std.specs.Prelude.{◌≡◌};
 
 use re_labels::LabelSet;

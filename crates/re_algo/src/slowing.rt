@@ -2,36 +2,36 @@
 ghost use Rattle.re_algo.specs.Choosing.{HasChoice, choice_at, label_over, sets_around};
 ghost use Rattle.re_algo.specs.Constructions.{slower_table};
 ghost use Rattle.re_algo.specs.Tables.{entries};
-ghost use Rattle.re_config.specs.Rows.{set_at};
+ghost use Rattle.re_labels.specs.Rows.{set_at};
 ghost use Rattle.re_laws.specs.Algorithms.{Solves};
-ghost use Rattle.re_places.specs.Counting.{view_count};
+ghost use Rattle.re_algo.specs.Counting.{view_count};
 ghost use Rattle.re_problem.specs.Derived.{derived as next_problem};
 ghost use Rattle.re_problem.specs.NamedProblems.{unnamed};
 ghost use Rattle.re_step.specs.Derivations.{derivation};
-ghost use Rattle.re_places.specs.declared.counting.TheConstants.{MAX_VIEWS};
-ghost use Rattle.re_views.specs.AllViews.{all_views};
-ghost use Rattle.re_views.specs.Shown.{tree_of_view};
-ghost use Rattle.re_views.specs.Trees.{IsView};
+ghost use Rattle.re_algo.specs.declared.counting.TheConstants.{MAX_VIEWS};
+ghost use Rattle.re_laws.specs.AllViews.{all_views};
+ghost use Rattle.re_laws.specs.Shown.{tree_of_view};
+ghost use Rattle.re_laws.specs.Trees.{IsView};
 ghost use Rattle.std.specs.List.{AllByRecursion};
 ghost use Rattle.std.specs.Prelude.{◌≡◌, ◌≤◌, ◌<◌, ◌+◌, ◌∷◌, ◌↔◌, Err, IfOk, IsNone, length, map, suc};
 
 use crate::Table;
+use crate::choice::first_choice;
+use crate::counting::view_count;
 use crate::seen::back_of;
 use crate::sets::set_at;
 use arrayvec::ArrayVec;
-use re_choice::first_choice;
 use re_labels::{LabelSet, NoMemory, PortLabels, Side};
-use re_places::view_count;
+use re_laws::{View, all_views, shift};
 use re_problem::Problem;
 use re_step::Derived;
 use re_table::Constraint;
-use re_views::{View, all_views, shift};
 use std::alloc::Global;
 
 /// Why there is no table with one round more.
 #[derive(Clone, Copy, Debug, PartialEq, Eq)]
 pub enum SlowerFault {
-    /// Its radius has more active views than `re_places::MAX_VIEWS`.
+    /// Its radius has more active views than `re_algo::MAX_VIEWS`.
     TooManyViews,
     /// There was no memory.
     NoMemory,
@@ -156,7 +156,7 @@ fn slow_table(
 /// The table with one round more for the problem before, from one that solves the derived problem (Brandt, PODC 2019). At an active
 /// view it takes the sets that the answers at the neighbours' views stand for, and answers the first choice of one label of each,
 /// port 1 slowest, that is an active configuration. It is refused with `TooManyViews` exactly where there are more active views of
-/// that radius than `re_places::MAX_VIEWS`. Each active view costs a shift and a look-up over each port, and a walk over choices up
+/// that radius than `re_algo::MAX_VIEWS`. Each active view costs a shift and a look-up over each port, and a walk over choices up
 /// to the first that is active.
 pub fn slower(
     alloc: Global,

@@ -2,7 +2,7 @@
 ghost use Rattle.re_algo.specs.SeenRows.{repeated, seen_rows};
 ghost use Rattle.re_algo.specs.Tables.{entries, given};
 ghost use Rattle.re_algo.specs.Verdicts.{first_not_active, table_verdict};
-ghost use Rattle.re_config.specs.Configs.{support_of};
+ghost use Rattle.re_labels.specs.Configs.{support_of};
 ghost use Rattle.re_labels.specs.Sets.{IsLabelSet};
 ghost use Rattle.re_laws.specs.Algorithms.{Solves};
 ghost use Rattle.re_problem.specs.NamedProblems.{unnamed};
@@ -14,8 +14,7 @@ use crate::Table;
 use crate::answers::first_other;
 use crate::seen::{SeenRow, seen_rows};
 use arrayvec::ArrayVec;
-use re_config::{Config, Row};
-use re_labels::{LabelSet, MAX_LABELS, NoMemory, PortLabels};
+use re_labels::{Config, LabelSet, MAX_LABELS, NoMemory, PortLabels, Row};
 use re_problem::Problem;
 use re_table::Constraint;
 use std::alloc::Global;

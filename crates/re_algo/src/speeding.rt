@@ -1,8 +1,8 @@
 //! The table with one round less.
 ghost use Rattle.re_algo.specs.Constructions.{IsSeen, faster_table, top_places};
 ghost use Rattle.re_algo.specs.Tables.{entries};
-ghost use Rattle.re_config.specs.Orders.{placements};
-ghost use Rattle.re_config.specs.Rows.{covers, dominates, is_full, placed};
+ghost use Rattle.re_labels.specs.Orders.{placements};
+ghost use Rattle.re_labels.specs.Rows.{covers, dominates, is_full, placed};
 ghost use Rattle.re_labels.specs.Lists.{place_of};
 ghost use Rattle.re_labels.specs.Sets.{IsLabelSet};
 ghost use Rattle.re_laws.specs.Algorithms.{Solves};
@@ -17,8 +17,7 @@ use crate::Table;
 use crate::seen::{SeenRow, seen_rows};
 use crate::sets::set_at;
 use arrayvec::ArrayVec;
-use re_config::{Placement, Placements, Row};
-use re_labels::{LabelSet, MAX_LABELS, NoMemory, PortLabels};
+use re_labels::{LabelSet, MAX_LABELS, NoMemory, Placement, Placements, PortLabels, Row};
 use re_problem::Problem;
 use re_step::{Derived, place_of};
 use std::alloc::Global;

@@ -1,17 +1,18 @@
 //! Tables of the answers of an algorithm.
 ghost use Rattle.re_algo.specs.Tables.{IsTable, built_table, given};
-ghost use Rattle.re_views.specs.Shown.{tree_of_view};
-ghost use Rattle.re_views.specs.Trees.{IsView};
+ghost use Rattle.re_laws.specs.Shown.{tree_of_view};
+ghost use Rattle.re_laws.specs.Trees.{IsView};
 ghost use Rattle.std.specs.Prelude.{◌≡◌, ◌≤◌, ◌↔◌, IfSome, IsSome};
 
 use crate::answers::all_have;
+use crate::counting::view_count;
+use crate::placing::view_place;
 use re_labels::{Degrees, PortLabels, Side};
-use re_places::{view_count, view_place};
-use re_views::{View, is_view};
+use re_laws::{View, is_view};
 use std::marker::Model;
 
 /// An algorithm of some number of rounds, written out: the degrees, that number, which is the radius of the views, and for each
-/// active view of that radius, in the order of `re_views::all_views`, the labels that the node outputs. Contracts see it as a
+/// active view of that radius, in the order of `re_laws::all_views`, the labels that the node outputs. Contracts see it as a
 /// record of these, and `re_laws` as a list of views with their labels.
 #[derive(Drop)]
 pub struct Table {
@@ -32,7 +33,7 @@ impl Model for Table {
 
 impl Table {
     /// The table of these answers, one for each active view of the radius in the order of all views. The degrees are from 2 to 6.
-    /// None exactly where there are more views than `re_places::MAX_VIEWS`, another number of answers, or an answer has another
+    /// None exactly where there are more views than `re_algo::MAX_VIEWS`, another number of answers, or an answer has another
     /// number of labels than active nodes have ports. It takes no memory.
     pub fn build(degrees: Degrees, radius: u8, answers: Vec<PortLabels>) -> Option<Table>
         requires active_least { 2 ≤ degrees.active }

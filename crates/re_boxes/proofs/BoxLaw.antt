@@ -2,14 +2,14 @@
 use Rattle.std.proofs.Common.{◌≡◌, ℕ, ◌<◌, List, [], ◌∷◌, length, map, sym, ◌∙◌, subst, arith, inl, inr, refl}
 use Rattle.std.specs.Prelude.{Contains}
 use Rattle.std.specs.List.{AllByRecursion, AllZip}
-use Rattle.re_config.proofs.ChoicesOfRows.{IsUnder-refl}
-use Rattle.re_config.proofs.Placing.{Rearranged-placed, length-combined}
-use Rattle.re_config.proofs.Rearranging.{Rearranged-map, Rearranged-refl, length-Rearranged, Rearranged-sym}
-use Rattle.re_config.proofs.Sorting.{Rearranged-sorted, AllByRecursion-Rearranged, sorted_again}
-use Rattle.re_config.specs.Configs.{sorted, IsConfig}
-use Rattle.re_config.specs.Orders.{placements}
-use Rattle.re_config.specs.Rearranging.{Rearranged}
-use Rattle.re_config.specs.Rows.{IsUnder, combined, placed, singles, IsChoice}
+use Rattle.re_labels.proofs.ChoicesOfRows.{IsUnder-refl}
+use Rattle.re_labels.proofs.Placing.{Rearranged-placed, length-combined}
+use Rattle.re_labels.proofs.Rearranging.{Rearranged-map, Rearranged-refl, length-Rearranged, Rearranged-sym}
+use Rattle.re_labels.proofs.Sorting.{Rearranged-sorted, AllByRecursion-Rearranged, sorted_again}
+use Rattle.re_labels.specs.Configs.{sorted, IsConfig}
+use Rattle.re_labels.specs.Orders.{placements}
+use Rattle.re_labels.specs.Rearranging.{Rearranged}
+use Rattle.re_labels.specs.Rows.{IsUnder, combined, placed, singles, IsChoice}
 use Rattle.re_labels.proofs.Membership.{Contains-In, AllByRecursion-contains, AllByRecursion-from_contains, Contains-here, Contains-none, length-map'}
 use Rattle.re_labels.proofs.Numbers.{rising-with_label, IsLabelSet-union}
 use Rattle.re_labels.specs.Lists.{IsRising}

@@ -4,11 +4,11 @@ use Rattle.std.proofs.Common.{◌≡◌, ℕ, zero, suc, ◌<◌, true, ltb, Lis
 use Rattle.std.specs.Prelude.{Contains, filter}
 use Rattle.std.specs.List.{AllByRecursion, AllZip}
 use Rattle.std.proofs.lemmas.Bool.Decides.{nat_tests}
-use Rattle.re_config.proofs.ChoicesOfRows.{IsUnder-refl}
-use Rattle.re_config.proofs.Rearranging.{Rearranged-map, Rearranged-sym, along}
-use Rattle.re_config.proofs.Sorting.{AllByRecursion-Rearranged}
-use Rattle.re_config.specs.Rearranging.{Rearranged, chained, kept, swapped, unmoved}
-use Rattle.re_config.specs.Rows.{IsUnder, set_at}
+use Rattle.re_labels.proofs.ChoicesOfRows.{IsUnder-refl}
+use Rattle.re_labels.proofs.Rearranging.{Rearranged-map, Rearranged-sym, along}
+use Rattle.re_labels.proofs.Sorting.{AllByRecursion-Rearranged}
+use Rattle.re_labels.specs.Rearranging.{Rearranged, chained, kept, swapped, unmoved}
+use Rattle.re_labels.specs.Rows.{IsUnder, set_at}
 use Rattle.re_labels.proofs.Membership.{Contains-cases, Contains-filter, Contains-here, Contains-none}
 use Rattle.re_labels.proofs.Sets.{IsIn-one, IsIn-union, IsIn-union_cases}
 use Rattle.re_labels.specs.Sets.{IsIn, IsWithin}

@@ -2,11 +2,11 @@
 use Rattle.std.proofs.Common.{◌≡◌, ℕ, zero, suc, ◌<◌, true, false, not, ltb, List, [], ◌∷◌, length, refl, sym, ap, ◌∙◌, subst, ◌⊎◌, inl, inr, arith}
 use Rattle.std.specs.Prelude.{Contains, filter}
 use Rattle.std.proofs.lemmas.Bool.{false≢true}
-use Rattle.re_config.proofs.ChoicesOfRows.{IsUnder-refl}
-use Rattle.re_config.proofs.Rearranging.{Rearranged-refl, along}
-use Rattle.re_config.proofs.Sorting.{AllByRecursion-Rearranged}
-use Rattle.re_config.specs.Rearranging.{Rearranged, kept, swapped}
-use Rattle.re_config.specs.Rows.{IsChoice, IsUnder, set_at}
+use Rattle.re_labels.proofs.ChoicesOfRows.{IsUnder-refl}
+use Rattle.re_labels.proofs.Rearranging.{Rearranged-refl, along}
+use Rattle.re_labels.proofs.Sorting.{AllByRecursion-Rearranged}
+use Rattle.re_labels.specs.Rearranging.{Rearranged, kept, swapped}
+use Rattle.re_labels.specs.Rows.{IsChoice, IsUnder, set_at}
 use Rattle.re_labels.proofs.Membership.{Contains-filter, Contains-filter_cases, Contains-here, Contains-none}
 use Rattle.re_labels.proofs.Sets.{IsIn-has, IsIn-union_cases, has-IsIn}
 use Rattle.re_labels.specs.Sets.{IsIn, IsWithin, has, union}

@@ -2,8 +2,8 @@
 use Rattle.std.proofs.Common.{◌≡◌, ℕ, zero, suc, ◌<◌, List, [], ◌∷◌, length, refl, sym, ap, ◌∙◌, subst, ◌⊎◌, inl, inr, arith}
 use Rattle.std.specs.Prelude.{slice_set}
 use Rattle.std.specs.List.{AllZip}
-use Rattle.re_config.proofs.Rows.{AreSets, AreSets-Rearranged, not_larger, total, total-Rearranged, under_total, as_row}
-use Rattle.re_config.specs.Rows.{IsChoice, IsUnder, set_at, IsRow}
+use Rattle.re_labels.proofs.Rows.{AreSets, AreSets-Rearranged, not_larger, total, total-Rearranged, under_total, as_row}
+use Rattle.re_labels.specs.Rows.{IsChoice, IsUnder, set_at, IsRow}
 use Rattle.re_labels.proofs.Membership.{AllByRecursion-contains, Contains-here, Contains-none, In-Contains, Contains-In}
 use Rattle.re_labels.proofs.Sets.{IsIn-union, IsIn-union_cases}
 use Rattle.re_labels.specs.Sets.{IsIn, IsWithin, with_label}
@@ -12,8 +12,8 @@ use Rattle.re_table.proofs.MaxRows.{IsMaximal-max_rows, dominated, max_rows-IsMa
 use Rattle.re_table.specs.Constraints.{Constraint, Has}
 use Rattle.re_table.specs.GoodRows.{IsDominated, IsGood, max_rows, IsMaximal}
 use Rattle.re_labels.proofs.Numbers.{IsLabelSet-with_label}
-use Rattle.re_config.proofs.ChoicesOfRows.{IsUnder-refl}
-use Rattle.re_config.proofs.Rearranging.{Rearranged-sym}
+use Rattle.re_labels.proofs.ChoicesOfRows.{IsUnder-refl}
+use Rattle.re_labels.proofs.Rearranging.{Rearranged-sym}
 use Rattle.re_boxes.proofs.Spread.{AreFilled, IsGood-under, IsIn-filled, one_label}
 use Rattle.re_boxes.specs.Boxes.{IsStrength}
 use Rattle.re_boxes.specs.Grown.{GrownLaw, IsGrown, LacksLaw, added}

@@ -3,11 +3,11 @@ use Rattle.std.proofs.lemmas.List.{append-nil}
 use Rattle.re_labels.proofs.Numbers.{rising_tail}
 use Rattle.std.proofs.Common.{◌≡◌, ℕ, ◌<◌, List, [], ◌∷◌, ◌++◌, length, map, sym, ◌∙◌, subst, inl, inr, arith}
 use Rattle.std.specs.List.{AllByRecursion, AllZip}
-use Rattle.re_config.proofs.ChoicesOfRows.{IsChoice-under}
-use Rattle.re_config.proofs.Placing.{Dominates-trans}
-use Rattle.re_config.proofs.Rearranging.{Rearranged-refl, Rearranged-sym, length-AllZip}
-use Rattle.re_config.specs.Rearranging.{Rearranged}
-use Rattle.re_config.specs.Rows.{IsChoice, IsUnder, singles}
+use Rattle.re_labels.proofs.ChoicesOfRows.{IsChoice-under}
+use Rattle.re_labels.proofs.Placing.{Dominates-trans}
+use Rattle.re_labels.proofs.Rearranging.{Rearranged-refl, Rearranged-sym, length-AllZip}
+use Rattle.re_labels.specs.Rearranging.{Rearranged}
+use Rattle.re_labels.specs.Rows.{IsChoice, IsUnder, singles}
 use Rattle.re_labels.proofs.Membership.{Contains-cases, Contains-here, Contains-none, length-map'}
 use Rattle.re_labels.proofs.Sets.{IsIn-more, IsIn-union, IsIn-union_cases}
 use Rattle.re_labels.specs.Lists.{IsRising}

@@ -2,11 +2,11 @@
 use Rattle.re_table.proofs.Strengths.{Contains-Pick, Pick-Contains}
 use Rattle.std.proofs.Common.{List, [], append_assoc, cond, eqb, false, inl, inr, refl, subst, sym, true, ℕ, ◌++◌, ◌<◌, ◌∷◌, ◌≡◌}
 use Rattle.std.specs.List.{AllZip}
-use Rattle.re_config.proofs.Placing.{Pick, Rearranged-Pick, here, picked, there}
-use Rattle.re_config.proofs.Rearranging.{Rearranged-refl, Rearranged-sym}
-use Rattle.re_config.proofs.Sorting.{Rearranged-sorted}
-use Rattle.re_config.specs.Configs.{replaced, sorted}
-use Rattle.re_config.specs.Rearranging.{Rearranged, chained, kept, swapped}
+use Rattle.re_labels.proofs.Placing.{Pick, Rearranged-Pick, here, picked, there}
+use Rattle.re_labels.proofs.Rearranging.{Rearranged-refl, Rearranged-sym}
+use Rattle.re_labels.proofs.Sorting.{Rearranged-sorted}
+use Rattle.re_labels.specs.Configs.{replaced, sorted}
+use Rattle.re_labels.specs.Rearranging.{Rearranged, chained, kept, swapped}
 use Rattle.re_labels.proofs.Tests.{eqb-same, eqb-true}
 use Rattle.re_labels.specs.Sets.{IsIn}
 use Rattle.re_table.proofs.Goodness.{Has-Rearranged}

@@ -4,7 +4,7 @@ use Rattle.std.specs.List.{AllByRecursion, AllZip}
 use Rattle.std.specs.declared.cmp.Ordering.TheVariants.{Less}
 use Rattle.re_labels.specs.Lists.{IsRising}
 use Rattle.re_labels.specs.Sets.{IsIn, IsWithin, union}
-use Rattle.re_config.specs.Rows.{Dominates, IsRow, IsUnder, row_cmp, set_at}
+use Rattle.re_labels.specs.Rows.{Dominates, IsRow, IsUnder, row_cmp, set_at}
 use Rattle.re_table.specs.Constraints.{Constraint, Has, IsConstraint}
 use Rattle.re_table.specs.GoodRows.{IsDominated, IsGood, max_rows}
 

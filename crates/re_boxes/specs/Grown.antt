@@ -2,7 +2,7 @@
 use Rattle.std.specs.Prelude.{◌≡◌, ℕ, ◌<◌, ◌↔◌, List, length, slice_set, Contains}
 use Rattle.std.specs.List.{AllByRecursion}
 use Rattle.re_labels.specs.Sets.{IsIn, IsLabelSet, with_label}
-use Rattle.re_config.specs.Rows.{IsRow, set_at}
+use Rattle.re_labels.specs.Rows.{IsRow, set_at}
 use Rattle.re_table.specs.Constraints.{Constraint}
 use Rattle.re_table.specs.GoodRows.{IsDominated, IsGood, max_rows}
 

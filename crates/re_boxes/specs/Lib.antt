@@ -1,3 +1,14 @@
+pub mod Boxed
 pub mod Boxes
+pub mod Choosing
+pub mod Growing
 pub mod Grown
+pub mod Held
+pub mod HeldStrength
+pub mod Ordering
+pub mod Parts
+pub mod Rests
+pub mod Sets
+pub mod Spans
 pub mod Strength
+pub mod UpRows

@@ -1,26 +1,32 @@
-//! Why a search in the boxes of the rows of a list finds all maximal rows.
+//! Boxes of rows: what is left of a row, strength of labels, and the search for boxes that no row covers.
 #![tactic(auto)]
 
-ghost use Rattle.re_boxes.specs.Boxes.{BoxesLaw};
-ghost use Rattle.re_boxes.specs.Grown.{GrownLaw, LacksLaw};
-ghost use Rattle.re_boxes.specs.Strength.{StrengthLaw};
+mod box_laws;
+mod boxing;
+mod choosing;
+mod holding;
+mod indexing;
+mod keeper;
+mod ordering;
+mod rest_laws;
+mod searching;
+mod sets;
+mod spans;
+mod strength;
+mod strength_choosing;
+mod visiting;
+mod walking;
 
-/// A list of rows is the list of the maximal rows exactly where it is boxed.
-pub fn boxes_law()
-    ensures { BoxesLaw }
-{}
-
-/// The maximal rows are the good rows to which no label can be added.
-pub fn grown_law()
-    ensures { GrownLaw }
-{}
-
-/// A list none of whose rows dominates some good row is not the list of the maximal rows.
-pub fn lacks_law()
-    ensures { LacksLaw }
-{}
-
-/// Each label with those that are at least as strong: configurations stay when labels go up so.
-pub fn strength_law()
-    ensures { StrengthLaw }
-{}
+pub use box_laws::{boxes_law, grown_law, lacks_law, strength_law};
+pub use boxing::{has_above, nothing, up_above};
+pub use choosing::least_of;
+pub use holding::dominates;
+pub use indexing::{RowIndex, is_dominated, is_seen_dominated};
+pub use keeper::Keeper;
+pub use ordering::row_order;
+pub use rest_laws::rest_law;
+pub use sets::with_set;
+pub use strength::Strength;
+pub use strength_choosing::{bad_choice, strong_bad_choice};
+pub use visiting::up_sets;
+pub use walking::{cover_configs, cover_row};

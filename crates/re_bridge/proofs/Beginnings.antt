@@ -7,15 +7,15 @@ use Rattle.re_labels.proofs.Membership.{Contains-cases, Contains-In, Contains-no
 use Rattle.re_labels.proofs.Tests.{and-true, true-and}
 use Rattle.re_labels.specs.Lists.{place_of, same_list}
 use Rattle.re_labels.specs.Sets.{IsIn}
-use Rattle.re_config.specs.Rows.{IsChoice, set_at}
+use Rattle.re_labels.specs.Rows.{IsChoice, set_at}
 use Rattle.re_table.specs.Constraints.{Constraint, Has, IsConstraint}
 use Rattle.re_problem.specs.NamedProblems.{IsNamedProblem, NamedProblem}
 use Rattle.re_problem.specs.Steps.{SetEntry, entry_sets, label_at, label_of}
-use Rattle.re_entry_clauses.proofs.AllowedImages.{entry-over, keeps_allowed_law, over-entry}
-use Rattle.re_entry_clauses.specs.LabelsOver.{labels_over}
-use Rattle.re_entry_clauses.specs.RowEntries.{row_entries}
-use Rattle.re_entry_clauses.specs.StepClauses.{KeepsAllowed}
-use Rattle.re_clauses.specs.Clauses.{keep_allowed}
+use Rattle.re_check.proofs.AllowedImages.{entry-over, keeps_allowed_law, over-entry}
+use Rattle.re_check.specs.LabelsOver.{labels_over}
+use Rattle.re_check.specs.RowEntries.{row_entries}
+use Rattle.re_check.specs.StepClauses.{KeepsAllowed}
+use Rattle.re_check.specs.Clauses.{keep_allowed}
 use Rattle.re_bridge.proofs.Meeting.{KeepsSoFar, allowed-kept, kept-allowed, kept-so_far, so_far-kept}
 use Rattle.re_bridge.proofs.SetTests.{entries-none}
 use Rattle.re_bridge.specs.Bridges.{entries_for, keep_rows_so_far, passes_by_set, rows_of, sets_of}

@@ -4,14 +4,14 @@ use Rattle.std.specs.Prelude.{Contains}
 use Rattle.std.specs.List.{AllByRecursion}
 use Rattle.std.proofs.lemmas.List.{drop-drop, take_all, take_at}
 use Rattle.std.proofs.Math.Seq.{drop-append-add, take-add}
-use Rattle.re_config.proofs.Rearranging.{Contains-Rearranged}
-use Rattle.re_config.proofs.Sorting.{Rearranged-sorted, length-sorted}
-use Rattle.re_config.specs.Configs.{IsConfig, sorted}
-use Rattle.re_entry_clauses.proofs.NextLabels.{label-entry}
-use Rattle.re_entry_clauses.proofs.RowSets.{place_of-there}
-use Rattle.re_entry_clauses.proofs.Telling.{held-read, read-held}
-use Rattle.re_entry_clauses.proofs.AllowedImages.{mapped}
-use Rattle.re_entry_clauses.specs.RowEntries.{row_entries}
+use Rattle.re_labels.proofs.Rearranging.{Contains-Rearranged}
+use Rattle.re_labels.proofs.Sorting.{Rearranged-sorted, length-sorted}
+use Rattle.re_labels.specs.Configs.{IsConfig, sorted}
+use Rattle.re_check.proofs.NextLabels.{label-entry}
+use Rattle.re_check.proofs.RowSets.{place_of-there}
+use Rattle.re_check.proofs.Telling.{held-read, read-held}
+use Rattle.re_check.proofs.AllowedImages.{mapped}
+use Rattle.re_check.specs.RowEntries.{row_entries}
 use Rattle.re_labels.proofs.Membership.{AllByRecursion-contains, AllByRecursion-from_contains, Contains-map, length-map'}
 use Rattle.re_labels.proofs.Tests.{eqb-same, true-and}
 use Rattle.re_labels.specs.Lists.{IsBefore, IsRising, count_from, place_of}
@@ -22,9 +22,9 @@ use Rattle.re_problem.specs.NamedProblems.{IsNamedProblem, NamedProblem, unnamed
 use Rattle.re_problem.specs.Steps.{IsLowerStepByRow, IsLowerStepBySet, LowerMap, SetEntry, entry_sets, label_at, label_of}
 use Rattle.re_problem.specs.Steps.LowerMap.{by_row, by_set}
 use Rattle.re_cert.specs.declared.certificate.StepParts.{StepParts}
-use Rattle.re_entry_clauses.specs.StepClauses.{entry_labels}
-use Rattle.re_clauses.proofs.StepMeaning.{lower_clauses}
-use Rattle.re_clauses.specs.Clauses.{are_exchanged, step_fault}
+use Rattle.re_check.specs.StepClauses.{entry_labels}
+use Rattle.re_check.proofs.StepMeaning.{lower_clauses}
+use Rattle.re_check.specs.Clauses.{are_exchanged, step_fault}
 use Rattle.re_bridge.proofs.Beginnings.{set_beginnings}
 use Rattle.re_bridge.proofs.Meeting.{passes-row_step, passes-step, row_step-passes, rows-whole, step-passes}
 use Rattle.re_bridge.proofs.RowBeginnings.{row_beginnings}

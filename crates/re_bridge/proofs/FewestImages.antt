@@ -1,8 +1,8 @@
 -- What the walks tell of all maps of a problem into itself.
 use Rattle.std.proofs.Common.{◌≡◌, ℕ, zero, suc, ◌+◌, ◌<◌, ◌≤◌, List, length, Some, None, sym, ◌∙◌, subst, arith, ◌⊎◌, ◌↔◌, inl, inr, true≢false}
 use Rattle.std.proofs.lemmas.Bool.{cases_lt}
-use Rattle.re_config.proofs.LeastLabels.{length-set}
-use Rattle.re_config.proofs.Replacing.{IsLabelSet-support_of}
+use Rattle.re_labels.proofs.LeastLabels.{length-set}
+use Rattle.re_labels.proofs.Replacing.{IsLabelSet-support_of}
 use Rattle.re_labels.proofs.Tests.{below-cases}
 use Rattle.re_laws.specs.Algorithms.{Solvable}
 use Rattle.re_problem.specs.NamedProblems.{IsNamedProblem, NamedProblem, unnamed}

@@ -5,10 +5,10 @@ use Rattle.std.specs.List.{AllByRecursion}
 use Rattle.std.proofs.lemmas.List.{get_or-map}
 use Rattle.std.proofs.lemmas.List.Filters.{length-filter_both}
 use Rattle.re_changes.proofs.Counted.{length-map_counted}
-use Rattle.re_config.proofs.Rearranging.{Contains-Rearranged, Rearranged-map, Rearranged-sym}
-use Rattle.re_config.proofs.Replacing.{IsLabelSet-support_of, has-support_of}
-use Rattle.re_config.proofs.Sorting.{Rearranged-sorted}
-use Rattle.re_config.specs.Configs.{image_at, sorted, support_of}
+use Rattle.re_labels.proofs.Rearranging.{Contains-Rearranged, Rearranged-map, Rearranged-sym}
+use Rattle.re_labels.proofs.Replacing.{IsLabelSet-support_of, has-support_of}
+use Rattle.re_labels.proofs.Sorting.{Rearranged-sorted}
+use Rattle.re_labels.specs.Configs.{image_at, sorted, support_of}
 use Rattle.re_labels.proofs.Membership.{AllByRecursion-from_contains, Contains-In, Contains-count_from, Contains-filter, Contains-filter_cases, Contains-map, Contains-map_cases, count_from_range, get_or-count_from, length-count_from, length-map', map-alike}
 use Rattle.re_labels.proofs.Numbers.{IsLabelSet-filter, same_labels}
 use Rattle.re_labels.proofs.Sets.{IsIn-has, has-IsIn, has-filter}

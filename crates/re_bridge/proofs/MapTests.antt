@@ -5,9 +5,9 @@ use Rattle.std.specs.List.{AllByRecursion, list_all}
 use Rattle.std.proofs.lemmas.Bool.{cases_lt}
 use Rattle.std.proofs.lemmas.Bool.Decides.{nat_tests}
 use Rattle.std.proofs.lemmas.List.{length-take, take-append-drop, take_all, take_more}
-use Rattle.re_config.proofs.Replacing.{support_of-push}
-use Rattle.re_config.specs.Configs.{IsConfig, image_at, sorted, support_of}
-use Rattle.re_entry_clauses.proofs.Telling.{read-held}
+use Rattle.re_labels.proofs.Replacing.{support_of-push}
+use Rattle.re_labels.specs.Configs.{IsConfig, image_at, sorted, support_of}
+use Rattle.re_check.proofs.Telling.{read-held}
 use Rattle.re_labels.proofs.Membership.{AllByRecursion-In, AllByRecursion-from_contains, Contains-In, Contains-cases, Contains-count_from, Contains-here, Contains-none, In-Contains, all-In, all-In_from, all-append, map-alike}
 use Rattle.re_labels.proofs.Numbers.{IsLabelSet-count_from, IsLabelSet-filter, has_within_bound, same_labels}
 use Rattle.re_labels.proofs.Sets.{IsIn-has, has-filter}

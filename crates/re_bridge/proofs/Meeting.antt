@@ -12,11 +12,11 @@ use Rattle.re_table.specs.GoodRows.{allowed}
 use Rattle.re_problem.specs.NamedProblems.{NamedProblem, unnamed}
 use Rattle.re_problem.specs.Steps.{IsLowerStepByRow, IsLowerStepBySet, SetEntry, entry_sets, label_at, label_of}
 use Rattle.re_problem.specs.Steps.LowerMap.{by_row, by_set}
-use Rattle.re_entry_clauses.proofs.RowSets.{HasSetsOf}
-use Rattle.re_entry_clauses.specs.RowEntries.{row_entries}
-use Rattle.re_entry_clauses.specs.StepClauses.{KeepsAllowed}
-use Rattle.re_clauses.proofs.StepMeaning.{all_held, all_there, by_row-tells, lower_clauses}
-use Rattle.re_clauses.specs.Clauses.{are_exchanged, keep_allowed, keep_allowed_by_row, keep_images, step_fault}
+use Rattle.re_check.proofs.RowSets.{HasSetsOf}
+use Rattle.re_check.specs.RowEntries.{row_entries}
+use Rattle.re_check.specs.StepClauses.{KeepsAllowed}
+use Rattle.re_check.proofs.StepMeaning.{all_held, all_there, by_row-tells, lower_clauses}
+use Rattle.re_check.specs.Clauses.{are_exchanged, keep_allowed, keep_allowed_by_row, keep_images, step_fault}
 use Rattle.re_bridge.proofs.SetTests.{has_entries-sets, sets-has_entries}
 use Rattle.re_walks.specs.Begun.{is_begun}
 use Rattle.re_bridge.specs.Bridges.{entries_for, has_entries, images_for, keep_rows_so_far, passes_by_row, passes_by_set, rest_of, rows_of, sets_of, step_by}

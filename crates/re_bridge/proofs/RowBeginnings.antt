@@ -8,17 +8,17 @@ use Rattle.std.proofs.Math.Nat.{mod-lt, mul-le-mul_left}
 use Rattle.re_labels.proofs.Membership.{Contains-count_from, Contains-map, all-append, count_from_range, map-alike}
 use Rattle.re_labels.proofs.Tests.{and-true, true-and}
 use Rattle.re_labels.specs.Lists.{count_from}
-use Rattle.re_config.specs.Rows.{IsChoice}
+use Rattle.re_labels.specs.Rows.{IsChoice}
 use Rattle.re_table.proofs.Goodness.{Has-has_config, has_config-Has}
 use Rattle.re_table.specs.Constraints.{Has, has_config}
 use Rattle.re_problem.specs.NamedProblems.{IsNamedProblem, NamedProblem}
-use Rattle.re_entry_clauses.proofs.RowChoices.{keeps_allowed_by_row_law}
-use Rattle.re_entry_clauses.specs.LabelsOver.{labels_over}
-use Rattle.re_entry_clauses.specs.RowEntries.{image_entries, row_entries}
-use Rattle.re_entry_clauses.specs.StepClauses.{KeepsAllowedByRow}
-use Rattle.re_clauses.proofs.StepMeaning.{all_there, by_row-tells}
-use Rattle.re_clauses.specs.Clauses.{are_exchanged, keep_allowed_by_row, keep_images, sets_in}
-use Rattle.re_clauses.proofs.StepTests.{occurs-listed}
+use Rattle.re_check.proofs.RowChoices.{keeps_allowed_by_row_law}
+use Rattle.re_check.specs.LabelsOver.{labels_over}
+use Rattle.re_check.specs.RowEntries.{image_entries, row_entries}
+use Rattle.re_check.specs.StepClauses.{KeepsAllowedByRow}
+use Rattle.re_check.proofs.StepMeaning.{all_there, by_row-tells}
+use Rattle.re_check.specs.Clauses.{are_exchanged, keep_allowed_by_row, keep_images, sets_in}
+use Rattle.re_check.proofs.StepTests.{occurs-listed}
 use Rattle.re_problem.proofs.Walks.{count_from_split}
 use Rattle.re_bridge.proofs.Beginnings.{choice-front}
 use Rattle.re_bridge.proofs.Meeting.{rows-whole, whole-test}

@@ -9,11 +9,11 @@ use Rattle.re_labels.specs.Lists.{IsRising, same_list}
 use Rattle.re_labels.specs.Sets.{number}
 use Rattle.re_table.proofs.SaidChoices.{found-is}
 use Rattle.re_table.specs.Constraints.{Constraint, has_config}
-use Rattle.re_config.specs.Configs.{sorted}
+use Rattle.re_labels.specs.Configs.{sorted}
 use Rattle.re_problem.specs.Steps.{SetEntry, entry_sets, label_of}
-use Rattle.re_entry_clauses.proofs.RowSets.{HasSetsOf}
-use Rattle.re_entry_clauses.specs.RowEntries.{row_entries}
-use Rattle.re_clauses.proofs.StepMeaning.{all_held, all_there}
+use Rattle.re_check.proofs.RowSets.{HasSetsOf}
+use Rattle.re_check.specs.RowEntries.{row_entries}
+use Rattle.re_check.proofs.StepMeaning.{all_held, all_there}
 use Rattle.re_bridge.specs.Bridges.{has_entries}
 use Rattle.re_labels.specs.declared.TheConstants.{MAX_LABELS}
 

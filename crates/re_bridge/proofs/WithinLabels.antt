@@ -7,12 +7,12 @@ use Rattle.re_changes.proofs.Counted.{length-map_counted}
 use Rattle.re_changes.proofs.Numbering.{at_number, number-low, renumbered-built}
 use Rattle.re_changes.proofs.RenumberedProblems.{IsBuilt, built-along}
 use Rattle.re_changes.specs.Renumbering.{number_among, renumbered}
-use Rattle.re_config.proofs.Rearranging.{Contains-Rearranged, Rearranged-sym}
-use Rattle.re_config.proofs.Replacing.{IsLabelSet-support_of, has-support_of}
-use Rattle.re_config.proofs.Sorting.{Rearranged-sorted}
-use Rattle.re_config.specs.Configs.{IsConfig, image_at, sorted}
-use Rattle.re_diagram.proofs.KeptRounds.{Solvable-renumbered}
-use Rattle.re_entry_clauses.proofs.Telling.{held-read, read-held}
+use Rattle.re_labels.proofs.Rearranging.{Contains-Rearranged, Rearranged-sym}
+use Rattle.re_labels.proofs.Replacing.{IsLabelSet-support_of, has-support_of}
+use Rattle.re_labels.proofs.Sorting.{Rearranged-sorted}
+use Rattle.re_labels.specs.Configs.{IsConfig, image_at, sorted}
+use Rattle.re_changes.proofs.KeptRounds.{Solvable-renumbered}
+use Rattle.re_check.proofs.Telling.{held-read, read-held}
 use Rattle.re_labels.proofs.Before.{IsBefore-trans}
 use Rattle.re_labels.proofs.Membership.{AllByRecursion-contains, AllByRecursion-from_In, AllByRecursion-from_contains, Contains-In, Contains-filter, Contains-filter_cases, Contains-map, Contains-map_cases, In, In-Contains, In-filter_from, In-map_from, count_from_range, get_or-count_from, length-count_from, map-alike}
 use Rattle.re_labels.proofs.Rising.{rising-filter}

@@ -1,7 +1,7 @@
 -- The map of a lower step between two problems.
 use Rattle.std.specs.Prelude.{◌≡◌, ◌≤◌, ℕ, ◌==◌, ◌*◌, ◌/◌, nat_lt, Bool, true, not, ◌&&◌, ◌||◌, List, length, map, take, drop, if◌then◌else◌, Option, None, Some}
 use Rattle.std.specs.List.{list_all, list_any}
-use Rattle.re_config.specs.declared.TheConstants.{MAX_ROWS}
+use Rattle.re_labels.specs.declared.TheConstants.{MAX_ROWS}
 use Rattle.re_labels.specs.Lists.{count_from, same_list}
 use Rattle.re_table.specs.Constraints.{Constraint, has_config}
 use Rattle.re_table.specs.GoodRows.{max_rows, max_sets}
@@ -10,8 +10,8 @@ use Rattle.re_problem.specs.Steps.{LowerMap, SetEntry, entry_sets, label_of}
 use Rattle.re_problem.specs.Steps.LowerMap.{by_row, by_set}
 use Rattle.re_cert.specs.Bounds.{BoundStep, step_with}
 use Rattle.re_cert.specs.declared.certificate.StepParts.{StepParts}
-use Rattle.re_entry_clauses.specs.RowEntries.{row_entries}
-use Rattle.re_clauses.specs.Clauses.{are_exchanged, keep_allowed, keep_allowed_by_row, keep_images}
+use Rattle.re_check.specs.RowEntries.{row_entries}
+use Rattle.re_check.specs.Clauses.{are_exchanged, keep_allowed, keep_allowed_by_row, keep_images}
 use Rattle.re_walks.specs.Begun.{is_begun}
 use Rattle.re_walks.specs.Walking.{Walk, cut, found, nowhere, walk}
 

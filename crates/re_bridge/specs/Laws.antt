@@ -6,8 +6,8 @@ use Rattle.re_problem.specs.Steps.{LowerMap, SetEntry}
 use Rattle.re_problem.specs.Steps.LowerMap.{by_row, by_set}
 use Rattle.re_cert.specs.Bounds.{step_with}
 use Rattle.re_cert.specs.declared.certificate.StepParts.{StepParts}
-use Rattle.re_entry_clauses.specs.StepClauses.{entry_labels}
-use Rattle.re_clauses.specs.Clauses.{step_fault}
+use Rattle.re_check.specs.StepClauses.{entry_labels}
+use Rattle.re_check.specs.Clauses.{step_fault}
 use Rattle.re_bridge.specs.Bridges.{Bridge, bridge_of, cut_off, missing, over, step_by}
 
 -- the lower step to the next problem with this map meets its clauses

@@ -2,7 +2,7 @@
 use Rattle.std.specs.Prelude.{◌≡◌, ◌≤◌, ◌<◌, ◌↔◌, ℕ, zero, suc, nat_le, nat_lt, Bool, not, ◌&&◌, ◌||◌, List, filter, length, map, Option, None, Some}
 use Rattle.std.specs.List.{list_all}
 use Rattle.re_changes.specs.Renumbering.{number_among, renumbered}
-use Rattle.re_config.specs.Configs.{image_at, support_of}
+use Rattle.re_labels.specs.Configs.{image_at, support_of}
 use Rattle.re_labels.specs.Lists.{IsBefore, count_from}
 use Rattle.re_labels.specs.Sets.{within}
 use Rattle.re_laws.specs.Algorithms.{Solvable}

@@ -1,14 +1,12 @@
 //! Whether labels for the places of the first rows begin a map by rows.
 ghost use Rattle.re_bridge.specs.Bridges.{images_for, passes_by_row, rows_of};
-ghost use Rattle.re_clauses.specs.Clauses.{are_exchanged, keep_allowed_by_row, keep_images};
+ghost use Rattle.re_check.specs.Clauses.{are_exchanged, keep_allowed_by_row, keep_images};
 ghost use Rattle.std.specs.List.{AllByRecursion};
 ghost use Rattle.std.specs.Prelude.{◌≡◌, ◌<◌, ◌≤◌, ◌++◌, ◌-◌, IfOk, IsTrue, length, replicate, true, ◌&&◌};
 
 use re_cert::RowImage;
-use re_clauses::keep_images;
-use re_config::Row;
-use re_entry_clauses::keeps_allowed_by_row;
-use re_labels::{MAX_LABELS, NoMemory};
+use re_check::{keep_images, keeps_allowed_by_row};
+use re_labels::{MAX_LABELS, NoMemory, Row};
 use re_problem::Problem;
 use re_table::Constraint;
 use re_walks::is_begun;
@@ -63,7 +61,7 @@ fn keeps_all(before: &Problem, next: &Problem, rows: &[Row], images: &[RowImage]
 
 /// Whether the labels begin a map by rows: where the last image isn't whole, whether its labels begin a configuration; where it is,
 /// whether the images are configurations, and each choice of a label that the sets of an allowed multiset become. It makes the images,
-/// and costs what `keeps_images` and `keeps_allowed_by_row` of `re_entry_clauses` cost.
+/// and costs what `keeps_images` and `keeps_allowed_by_row` of `re_check` cost.
 pub(crate) fn passes_by_row(
     alloc: Global,
     before: &Problem,

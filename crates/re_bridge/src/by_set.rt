@@ -1,7 +1,7 @@
 //! Whether labels for the first sets begin a map by sets.
 ghost use Rattle.re_bridge.specs.Bridges.{has_entries, keep_rows_so_far, passes_by_set, rows_of, sets_of};
-ghost use Rattle.re_clauses.specs.Clauses.{are_exchanged, keep_allowed};
-ghost use Rattle.re_entry_clauses.specs.RowEntries.{row_entries};
+ghost use Rattle.re_check.specs.Clauses.{are_exchanged, keep_allowed};
+ghost use Rattle.re_check.specs.RowEntries.{row_entries};
 ghost use Rattle.re_labels.specs.Lists.{IsRising};
 ghost use Rattle.re_labels.specs.Sets.{number};
 ghost use Rattle.re_problem.specs.Steps.{entry_sets, label_of};
@@ -10,9 +10,8 @@ ghost use Rattle.std.specs.List.{AllByRecursion};
 ghost use Rattle.std.specs.Prelude.{◌≡◌, ◌<◌, ◌≤◌, ◌||◌, IfOk, length, map, not, true, ◌&&◌};
 
 use re_cert::SetEntry;
-use re_config::Row;
-use re_entry_clauses::{keeps_allowed, place_for, row_image};
-use re_labels::{LabelSet, MAX_LABELS, NoMemory};
+use re_check::{keeps_allowed, place_for, row_image};
+use re_labels::{LabelSet, MAX_LABELS, NoMemory, Row};
 use re_problem::Problem;
 use re_table::Constraint;
 use std::alloc::Global;
@@ -96,7 +95,7 @@ fn keeps_entries(before: &Problem, next: &Problem, rows: &[Row], entries: &[SetE
 }
 
 /// Whether the images of the rows and of the allowed multisets whose sets have labels are configurations: the labels are those of the
-/// first sets. It makes their entries, and costs what `keeps_rows` and `keeps_allowed` of `re_entry_clauses` cost.
+/// first sets. It makes their entries, and costs what `keeps_rows` and `keeps_allowed` of `re_check` cost.
 pub(crate) fn passes_by_set(
     alloc: Global,
     before: &Problem,

@@ -2,7 +2,7 @@
 ghost use Rattle.re_bridge.specs.Bridges.{IsFound, bridge_of, cut_off, has_many_rows, missing, over, row_bridge, rows_of, set_bridge, sets_of, walk_by_row, walk_by_set};
 ghost use Rattle.re_bridge.specs.Laws.{IsAnswer};
 ghost use Rattle.re_cert.specs.Bounds.{map_of};
-ghost use Rattle.re_clauses.specs.Clauses.{are_exchanged};
+ghost use Rattle.re_check.specs.Clauses.{are_exchanged};
 ghost use Rattle.std.specs.Prelude.{◌≡◌, ◌≤◌, Err, IfOk, MatchOption, length, false, true};
 
 use crate::by_row::images_for;
@@ -10,17 +10,16 @@ use crate::by_set::entries_for;
 use crate::row_sets::sets_of_rows;
 use crate::walking::{walk_by_row, walk_by_set};
 use re_cert::{LowerMap, StepParts};
-use re_clauses::are_exchanged;
-use re_config::{MAX_ROWS, Row};
-use re_labels::{LabelSet, NoMemory};
+use re_check::are_exchanged;
+use re_labels::{LabelSet, MAX_ROWS, NoMemory, Row};
 use re_problem::Problem;
-use re_universal::{RowsFault, maximal_rows};
+use re_step::{RowsFault, maximal_rows};
 use std::alloc::Global;
 
 /// Why it isn't known whether there is a bridge.
 #[derive(Clone, Copy, Debug, PartialEq, Eq)]
 pub enum BridgeFault {
-    /// The passive constraint before has more than `re_config::MAX_ROWS` maximal rows.
+    /// The passive constraint before has more than `re_labels::MAX_ROWS` maximal rows.
     TooManyRows,
     /// One of the walks doesn't come to an end with so many tries.
     TooManyTries,
@@ -139,8 +138,8 @@ fn bridge_parts(
 ///
 /// Each of the two walks gives labels to one place after the other, and goes back as soon as some row or some allowed multiset whose sets
 /// all have labels has an image that is no configuration, or, by rows, no configuration begins with the labels of an image. Each list of
-/// labels that is tested is a try, and costs what `keeps_rows` and `keeps_allowed` of `re_entry_clauses` cost. `TooManyTries` comes exactly where a
-/// walk needs more than `tries`, `TooManyRows` where there are more maximal rows than `re_config::MAX_ROWS`.
+/// labels that is tested is a try, and costs what `keeps_rows` and `keeps_allowed` of `re_check` cost. `TooManyTries` comes exactly where a
+/// walk needs more than `tries`, `TooManyRows` where there are more maximal rows than `re_labels::MAX_ROWS`.
 pub fn find_bridge(
     alloc: Global,
     before: &Problem,

@@ -2,8 +2,7 @@
 ghost use Rattle.re_table.specs.GoodRows.{max_rows, max_sets};
 ghost use Rattle.std.specs.Prelude.{◌≡◌, ◌*◌, ◌≤◌, IfOk, length};
 
-use re_config::{MAX_ROWS, Row};
-use re_labels::{LabelSet, MAX_LABELS, NoMemory};
+use re_labels::{LabelSet, MAX_LABELS, MAX_ROWS, NoMemory, Row};
 use re_step::sets_of;
 use re_table::Constraint;
 use std::alloc::Global;

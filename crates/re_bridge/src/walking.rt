@@ -1,15 +1,14 @@
 //! The walks over the assignments of the sets and of the rows.
 ghost use Rattle.re_bridge.specs.Bridges.{rows_of, sets_of, walk_by_row, walk_by_set};
 ghost use Rattle.re_walks.specs.Walking.{cut, found, nowhere};
-ghost use Rattle.re_clauses.specs.Clauses.{are_exchanged};
-ghost use Rattle.re_config.specs.declared.TheConstants.{MAX_ROWS};
+ghost use Rattle.re_check.specs.Clauses.{are_exchanged};
+ghost use Rattle.re_labels.specs.declared.TheConstants.{MAX_ROWS};
 ghost use Rattle.std.specs.Prelude.{◌≡◌, ◌≤◌, ◌*◌, Err, IfOk, IfSome, MatchOption, length, true};
 
 use crate::by_row::passes_by_row;
 use crate::by_set::passes_by_set;
 use crate::finding::BridgeFault;
-use re_config::Row;
-use re_labels::LabelSet;
+use re_labels::{LabelSet, Row};
 use re_problem::Problem;
 use re_walks::follow;
 use std::alloc::Global;

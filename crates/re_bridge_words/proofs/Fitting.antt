@@ -12,16 +12,16 @@ use Rattle.re_problem.specs.Steps.LowerMap.{by_row, by_set}
 use Rattle.re_cert.specs.Bounds.{Bound, entry_fits, image_fits, is_label, last_problem, map_fits, row_fits, step_fits, step_with}
 use Rattle.re_cert.specs.declared.certificate.Kind.TheVariants.{Lower}
 use Rattle.re_cert.specs.declared.certificate.StepParts.{StepParts}
-use Rattle.re_chain_parts.specs.Chains.{IsSoundChain, chain_with}
-use Rattle.re_entry_clauses.specs.StepClauses.{entry_labels}
-use Rattle.re_clauses.proofs.StepMeaning.{lower_clauses}
-use Rattle.re_clauses.specs.Clauses.{step_fault}
-use Rattle.re_tree.proofs.Entries.{rows-fit, set-is}
+use Rattle.re_chains.specs.Chains.{IsSoundChain, chain_with}
+use Rattle.re_check.specs.StepClauses.{entry_labels}
+use Rattle.re_check.proofs.StepMeaning.{lower_clauses}
+use Rattle.re_check.specs.Clauses.{step_fault}
+use Rattle.re_search.proofs.Entries.{rows-fit, set-is}
 use Rattle.re_bridge.proofs.Bridging.{held_labels, set_assignment}
 use Rattle.re_bridge.specs.Bridges.{IsFound, bridge_of, rows_of, sets_of, step_by}
 use Rattle.re_bridge.specs.Laws.{IsAnswer, Meets}
 use Rattle.re_bridge_words.specs.Bridged.{IsBridged, in_one_form}
-use Rattle.re_config.specs.declared.TheConstants.{MAX_ROWS}
+use Rattle.re_labels.specs.declared.TheConstants.{MAX_ROWS}
 
 -- a step by rows has labels of the next problem
 rows_fit : (before next : NamedProblem) (map : LowerMap) → IsNamedProblem before → IsNamedProblem next → length (rows_of before) ≤ MAX_ROWS → Meets before next map → map_fits before next map ≡ true

@@ -8,11 +8,11 @@ use Rattle.re_bridge.specs.Reductions.{IsEndomorphism, Reduces, constraint_withi
 use Rattle.re_changes.proofs.Numbering.{at_number}
 use Rattle.re_changes.proofs.RenumberedProblems.{IsProblem-renumbered}
 use Rattle.re_changes.specs.Renumbering.{number_among}
-use Rattle.re_config.proofs.Rearranging.{Contains-Rearranged, Rearranged-map, Rearranged-sym}
-use Rattle.re_config.proofs.Replacing.{has-support_of}
-use Rattle.re_config.proofs.Sorting.{Rearranged-sorted}
-use Rattle.re_config.specs.Configs.{image_at, sorted}
-use Rattle.re_entry_clauses.proofs.Telling.{read-held}
+use Rattle.re_labels.proofs.Rearranging.{Contains-Rearranged, Rearranged-map, Rearranged-sym}
+use Rattle.re_labels.proofs.Replacing.{has-support_of}
+use Rattle.re_labels.proofs.Sorting.{Rearranged-sorted}
+use Rattle.re_labels.specs.Configs.{image_at, sorted}
+use Rattle.re_check.proofs.Telling.{read-held}
 use Rattle.re_fit.specs.InputProblems.{input_fault}
 use Rattle.re_given.proofs.MappingGiven.{IsInput-same, SolvableGiven-relaxed}
 use Rattle.re_given.specs.Given.{SolvableGiven}
@@ -21,7 +21,7 @@ use Rattle.re_given_words.specs.GivenTexts.{given_input, given_problem}
 use Rattle.re_given_words.specs.InputFaults.{or_input_fault}
 use Rattle.re_given_words.specs.ProductTexts.{made_or_refused, product_answer, product_outcome, product_refusal}
 use Rattle.re_given_words.specs.declared.texts.GivenTexts.{GivenTexts}
-use Rattle.re_chain_texts.specs.OverChains.{or_fault}
+use Rattle.re_chains.specs.OverChains.{or_fault}
 use Rattle.re_frame.specs.declared.status.Status.TheVariants.{Done}
 use Rattle.re_inputs.proofs.ProductProofs.{as_solvable_named}
 use Rattle.re_inputs.specs.NamedProducts.{ProductRefuses, named_product, product_fault}

@@ -13,14 +13,14 @@ use Rattle.re_cert.specs.Bounds.{Bound, BoundStep, built, has_row_maps, is_bound
 use Rattle.re_cert.specs.declared.certificate.Kind.{Kind}
 use Rattle.re_cert.specs.declared.certificate.Kind.TheVariants.{Fixed, Lower, Upper}
 use Rattle.re_cert.specs.declared.certificate.TheConstants.{MAX_STEPS}
-use Rattle.re_chain_parts.specs.Chains.{IsSound, chain_kind, chain_with}
-use Rattle.re_chain_steps.proofs.MoreSteps.{all-sets}
-use Rattle.re_chain_steps.proofs.RowForms.{next-same, step-fits, step-form, step-sound}
-use Rattle.re_chain_steps.specs.RowForms.{by_rows, step_by_rows}
-use Rattle.re_clauses.specs.Clauses.{step_fault}
-use Rattle.re_tree.proofs.Paths.{fits-more, valid-more}
+use Rattle.re_chains.specs.Chains.{IsSound, chain_kind, chain_with}
+use Rattle.re_shaping.proofs.MoreSteps.{all-sets}
+use Rattle.re_shaping.proofs.RowForms.{next-same, step-fits, step-form, step-sound}
+use Rattle.re_shaping.specs.RowForms.{by_rows, step_by_rows}
+use Rattle.re_check.specs.Clauses.{step_fault}
+use Rattle.re_search.proofs.Paths.{fits-more, valid-more}
 use Rattle.re_bridge_words.specs.Bridged.{in_one_form}
-use Rattle.re_config.specs.declared.TheConstants.{MAX_ROWS}
+use Rattle.re_labels.specs.declared.TheConstants.{MAX_ROWS}
 
 -- the steps of a bound fit, and have maps of one form
 pub bound-parts : (bound : Bound) (kind : Kind) → is_bound bound ≡ true → bound.kind ≡ kind → (steps_fit kind bound.first bound.steps ≡ true) × (one_form bound.steps ≡ true)

@@ -11,7 +11,7 @@ use Rattle.re_frame.specs.StepLimits.{limit_line}
 use Rattle.re_frame.specs.declared.status.Status.TheVariants.{Limit, No}
 use Rattle.re_step.specs.declared.derivation.StepLimit.TheVariants.{Rows}
 use Rattle.re_labels.proofs.Tests.{eqb-same, true-and}
-use Rattle.re_clauses.specs.Clauses.{are_exchanged}
+use Rattle.re_check.specs.Clauses.{are_exchanged}
 use Rattle.re_fit.specs.Fits.{fit_walk}
 use Rattle.re_fit.specs.Laws.{TellsUpper, UpperWalkLaw}
 use Rattle.re_given.specs.Inputs.{exchanged}
@@ -19,8 +19,8 @@ use Rattle.re_walks.specs.Walking.{Walk, cut, found, nowhere}
 use Rattle.re_bridge.specs.Bridges.{Bridge, bridge_of, cut_off, has_many_rows, missing, over}
 use Rattle.re_bridge.specs.Laws.{BridgeLaw, IsBridge, Meets}
 use Rattle.std.proofs.lemmas.Bool.{false≢true}
-use Rattle.re_chain_texts.proofs.WordsGiven.{certificate_says}
-use Rattle.re_chain_texts.specs.OverChains.{certificate_outcome}
+use Rattle.re_chains.proofs.WordsGiven.{certificate_says}
+use Rattle.re_chains.specs.OverChains.{certificate_outcome}
 use Rattle.re_bridge_words.specs.Bridged.{bridged, sets_by, upper_bridged, upper_walk}
 use Rattle.re_bridge_words.specs.BridgeWords.{over_bridge, over_walk}
 use Rattle.re_bridge_words.specs.Laws.{NoLaw, NoUpperLaw}

@@ -9,8 +9,8 @@ use Rattle.re_cert.specs.declared.certificate.Kind.{Kind}
 use Rattle.re_cert.specs.declared.certificate.Kind.TheVariants.{Fixed, Lower, Upper}
 use Rattle.re_cert.specs.declared.certificate.TheConstants.{MAX_STEPS}
 use Rattle.re_check.specs.declared.verdict.Verdict.{Verdict}
-use Rattle.re_chain_texts.proofs.WordsGiven.{certificate_says, or_fault_says, problem_says}
-use Rattle.re_chain_texts.specs.OverChains.{or_refusal, steps_refusal}
+use Rattle.re_chains.proofs.WordsGiven.{certificate_says, or_fault_says, problem_says}
+use Rattle.re_chains.specs.OverChains.{or_refusal, steps_refusal}
 use Rattle.re_frame.proofs.Said.{check_says}
 use Rattle.re_frame.specs.Outcomes.{Outcome, limit, limit_of}
 use Rattle.re_frame.specs.Runs.{MaySay}
@@ -19,7 +19,7 @@ use Rattle.re_step.specs.declared.derivation.StepLimit.TheVariants.{Rows}
 use Rattle.re_walks.specs.Walking.{Walk, cut, found, nowhere}
 use Rattle.re_bridge.specs.Bridges.{Bridge, bridge_of, cut_off, has_many_rows, missing, over}
 use Rattle.re_bridge.specs.Reductions.{reduced_of}
-use Rattle.re_chain_parts.specs.Chains.{chain_of}
+use Rattle.re_chains.specs.Chains.{chain_of}
 use Rattle.re_fit.specs.InputProblems.{input_fault}
 use Rattle.re_fit.specs.declared.inputs.InputFault.{InputFault}
 use Rattle.re_given_words.specs.GivenTexts.{given_fault, given_input, given_problem}
@@ -28,7 +28,7 @@ use Rattle.re_given_words.specs.ProductTexts.{product_refusal}
 use Rattle.re_inputs.specs.NamedProducts.{named_product, product_fault}
 use Rattle.re_inputs.specs.declared.products.ProductFault.{ProductFault}
 use Rattle.re_inputs.specs.declared.products.ProductFault.TheVariants.{Nameless, NoMemory, TooManyConfigurations, TooManyLabels}
-use Rattle.re_two_texts.specs.TwoTexts.{back_problem, front_bound, has_line, two_fault}
+use Rattle.re_chains.specs.TwoTexts.{back_problem, front_bound, has_line, two_fault}
 use Rattle.re_bridge_words.specs.Bridged.{bridged, sets_by, upper_bridged, upper_walk}
 use Rattle.re_bridge_words.specs.BridgeWords.{bridge_outcome, kind_outcome, over_bridge, over_walk, sound_outcome, text_outcome, upper_outcome}
 use Rattle.re_bridge_words.specs.Answers.{word_outcome}

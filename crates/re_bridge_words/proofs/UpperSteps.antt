@@ -8,16 +8,16 @@ use Rattle.re_labels.proofs.Tests.{and-true, eqb-true, true-and, true-below}
 use Rattle.re_labels.specs.Lists.{IsRising, count_from}
 use Rattle.re_labels.specs.Sets.{IsLabelSet}
 use Rattle.re_labels.specs.declared.TheConstants.{MAX_LABELS}
-use Rattle.re_config.specs.Rows.{set_at}
+use Rattle.re_labels.specs.Rows.{set_at}
 use Rattle.re_problem.proofs.Building.{below_all}
 use Rattle.re_problem.specs.NamedProblems.{IsNamedProblem, NamedProblem, unnamed}
 use Rattle.re_problem.specs.Steps.LowerMap.{by_set}
 use Rattle.re_problem.specs.Steps.{IsUpperStep, SetEntry, entry_sets}
 use Rattle.re_cert.specs.Bounds.{Bound, BoundStep, entry_fits, is_label, step_fits}
 use Rattle.re_cert.specs.declared.certificate.Kind.TheVariants.{Upper}
-use Rattle.re_chain_parts.specs.Chains.{chain_with}
-use Rattle.re_clauses.specs.Clauses.{are_exchanged, step_fault}
-use Rattle.re_clauses.specs.Laws.{UpperStepLaw}
+use Rattle.re_chains.specs.Chains.{chain_with}
+use Rattle.re_check.specs.Clauses.{are_exchanged, step_fault}
+use Rattle.re_check.specs.ClauseLaws.{UpperStepLaw}
 use Rattle.re_changes.proofs.Counted.{pushed}
 use Rattle.re_fit.specs.Fits.{entries_of}
 use Rattle.re_bridge_words.specs.Bridged.{upper_bridged, upper_step}

@@ -5,15 +5,15 @@ use Rattle.re_cert.specs.Bounds.{Bound, last_problem}
 use Rattle.re_cert.specs.declared.certificate.Kind.{Kind}
 use Rattle.re_cert.specs.declared.certificate.Kind.TheVariants.{Fixed, Lower, Upper}
 use Rattle.re_cert.specs.declared.certificate.TheConstants.{MAX_STEPS}
-use Rattle.re_chain_parts.specs.Chains.{chain_of}
-use Rattle.re_chain_texts.specs.OverChains.{IsTextOf, certificate_outcome, or_fault, or_refusal, steps_refusal}
+use Rattle.re_chains.specs.Chains.{chain_of}
+use Rattle.re_chains.specs.OverChains.{IsTextOf, certificate_outcome, or_fault, or_refusal, steps_refusal}
 use Rattle.re_frame.specs.Outcomes.{Outcome, limit, limit_of, refused}
 use Rattle.re_frame.specs.StepLimits.{limit_line}
 use Rattle.re_step.specs.declared.derivation.StepLimit.TheVariants.{Rows}
 use Rattle.re_walks.specs.Walking.{Walk, cut, found, nowhere}
 use Rattle.re_bridge.specs.Bridges.{Bridge, bridge_of, cut_off, has_many_rows, missing, over}
 use Rattle.re_bridge_words.specs.Bridged.{IsBridged, IsUpperBridged, bridged, sets_by, upper_bridged, upper_walk}
-use Rattle.re_two_texts.specs.TwoTexts.{back_problem, front_bound, two_fault}
+use Rattle.re_chains.specs.TwoTexts.{back_problem, front_bound, two_fault}
 use Rattle.re_bridge_words.specs.declared.answering.TheConstants.{MAX_TRIES}
 
 -- the chain with the step by the map of the bridge, or that there is none, or that the tries don't suffice

@@ -5,9 +5,9 @@ use Rattle.re_problem.specs.Steps.LowerMap.{by_set}
 use Rattle.re_problem.specs.Steps.{LowerMap}
 use Rattle.re_cert.specs.Bounds.{Bound, BoundStep, has_row_maps, last_problem}
 use Rattle.re_cert.specs.declared.certificate.Kind.TheVariants.{Lower, Upper}
-use Rattle.re_chain_parts.specs.Chains.{IsSoundChain, chain_with}
-use Rattle.re_chain_steps.specs.RowForms.{step_by_rows}
-use Rattle.re_clauses.specs.Clauses.{are_exchanged}
+use Rattle.re_chains.specs.Chains.{IsSoundChain, chain_with}
+use Rattle.re_shaping.specs.RowForms.{step_by_rows}
+use Rattle.re_check.specs.Clauses.{are_exchanged}
 use Rattle.re_given.specs.Inputs.{exchanged}
 use Rattle.re_walks.specs.Walking.{Walk, found, nowhere}
 use Rattle.re_bridge.specs.Bridges.{bridge_of, missing, over, step_by}

@@ -4,8 +4,8 @@ ghost use Rattle.re_bridge_words.specs.BridgeWords.{BridgeWorth, IsBridgedText, 
 ghost use Rattle.re_cert.specs.Bounds.{last_problem};
 ghost use Rattle.re_cert.specs.declared.certificate.Kind.TheVariants.{Fixed};
 ghost use Rattle.re_cert.specs.declared.certificate.TheConstants.{MAX_STEPS};
-ghost use Rattle.re_chain_parts.specs.Chains.{chain_of};
-ghost use Rattle.re_chain_parts.specs.HeldBounds.{held_bound};
+ghost use Rattle.re_chains.specs.Chains.{chain_of};
+ghost use Rattle.re_chains.specs.HeldBounds.{held_bound};
 ghost use Rattle.re_frame.specs.Outcomes.{outcome_of};
 ghost use Rattle.re_frame.specs.declared.status.Status.TheVariants.{Done};
 ghost use Rattle.re_io.specs.declared.read.TheConstants.{MAX_BYTES};
@@ -14,14 +14,14 @@ ghost use Rattle.std.specs.Prelude.{◌≡◌, ◌<◌, ◌≤◌, IfOk, length}
 use crate::{bridge, bridge_upper};
 use re_bridge::BridgeFault;
 use re_cert::{Certificate, Kind, MAX_STEPS};
-use re_chain_parts::{Chain, LowerChain, UpperChain, chain, next_number};
-use re_chain_texts::{certificate_output, judged_chain};
+use re_chains::{
+    Chain, LowerChain, UpperChain, certificate_output, chain, judged_chain, next_number, read_two,
+};
 use re_fit::FitFault;
 use re_frame::{Output, begun, fault_output, limit_of, limit_output, refused, verdict_output};
 use re_labels::NoMemory;
 use re_problem::{Problem, TextFault};
 use re_step::StepLimit;
-use re_two_texts::read_two;
 use std::alloc::Global;
 
 // The name of the line between the chain and the problem.

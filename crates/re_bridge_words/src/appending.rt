@@ -1,16 +1,16 @@
 //! A step behind the steps of a chain, with the maps of all in one form.
 ghost use Rattle.re_bridge_words.specs.Bridged.{in_one_form};
 ghost use Rattle.re_cert.specs.Bounds.{has_row_maps as have_row_maps, is_by_row as is_map_by_row, last_problem, one_form, step_fits};
-ghost use Rattle.re_chain_parts.specs.Chains.{IsSound, chain_kind, chain_with};
-ghost use Rattle.re_chain_steps.specs.RowForms.{step_by_rows as rows_of_step};
-ghost use Rattle.re_clauses.specs.Clauses.{step_fault};
+ghost use Rattle.re_chains.specs.Chains.{IsSound, chain_kind, chain_with};
+ghost use Rattle.re_shaping.specs.RowForms.{step_by_rows as rows_of_step};
+ghost use Rattle.re_check.specs.Clauses.{step_fault};
 ghost use Rattle.std.specs.Prelude.{◌≡◌, ◌<◌, ◌||◌, ◌++◌, ◌∷◌, [], IfOk, None, length, true};
 
 use re_cert::{Certificate, Kind, MAX_STEPS, Step, is_by_row};
-use re_chain_parts::{LowerChain, copied_step, copied_steps, have_row_maps};
-use re_chain_steps::by_rows;
+use re_chains::{LowerChain, copied_step, copied_steps, have_row_maps};
 use re_labels::NoMemory;
 use re_problem::Problem;
+use re_shaping::by_rows;
 use std::alloc::Global;
 
 // Whether some step of the chain has a map by rows, or this step.

@@ -2,14 +2,14 @@
 ghost use Rattle.re_bridge.specs.Bridges.{bridge_of, cut_off, has_many_rows};
 ghost use Rattle.re_bridge_words.specs.Bridged.{IsBridged, in_one_form};
 ghost use Rattle.re_cert.specs.Bounds.{last_problem, step_fits, step_with};
-ghost use Rattle.re_chain_parts.specs.Chains.{IsSoundChain, chain_with};
-ghost use Rattle.re_clauses.specs.Clauses.{step_fault};
+ghost use Rattle.re_chains.specs.Chains.{IsSoundChain, chain_with};
+ghost use Rattle.re_check.specs.Clauses.{step_fault};
 ghost use Rattle.std.specs.Prelude.{◌≡◌, ◌<◌, ◌++◌, ◌∷◌, [], Err, IfOk, None, false, length, true};
 
 use crate::appending::with_step;
 use re_bridge::{BridgeFault, find_bridge};
 use re_cert::{Certificate, Kind, MAX_STEPS, Step, StepParts};
-use re_chain_parts::{LowerChain, over_problems};
+use re_chains::{LowerChain, over_problems};
 use re_labels::NoMemory;
 use re_problem::Problem;
 use std::alloc::Global;

@@ -14,14 +14,13 @@ ghost use Rattle.std.specs.Prelude.{◌≡◌, ◌≤◌, IfOk, None, Some, fals
 
 use crate::answering::MAX_TRIES;
 use re_bridge::{ReduceFault, reduce};
-use re_chain_texts::problem_output;
+use re_chains::{has_line, problem_output};
 use re_fit::input_fault;
 use re_frame::{Finding, Output, fault_output, limit_of};
 use re_given_words::{GIVEN, GivenTexts, GivenWord, input_fault_output, read_given};
 use re_inputs::{ProductFault, product};
 use re_labels::NoMemory;
 use re_problem::{Problem, TextFault, read_problem};
-use re_two_texts::has_line;
 use std::alloc::Global;
 
 // What the word gives to a problem.

@@ -1,8 +1,8 @@
 //! A chain of kind upper led on to a given problem.
 ghost use Rattle.re_bridge_words.specs.Bridged.{IsUpperBridged, upper_bridged, upper_walk};
 ghost use Rattle.re_cert.specs.Bounds.{last_problem, one_form, step_fits, step_with};
-ghost use Rattle.re_chain_parts.specs.Chains.{IsSoundChain, chain_with};
-ghost use Rattle.re_clauses.specs.Clauses.{step_fault};
+ghost use Rattle.re_chains.specs.Chains.{IsSoundChain, chain_with};
+ghost use Rattle.re_check.specs.Clauses.{step_fault};
 ghost use Rattle.re_fit.specs.Fits.{entries_of};
 ghost use Rattle.re_labels.specs.declared.TheConstants.{MAX_LABELS};
 ghost use Rattle.re_problem.specs.NamedProblems.{unnamed};
@@ -12,8 +12,8 @@ ghost use Rattle.std.specs.Prelude.{◌≡◌, ◌<◌, ◌≤◌, ◌++◌, ◌
 
 use crate::appending::appended;
 use re_cert::{Certificate, Kind, MAX_STEPS, SetEntry, Step, StepParts};
-use re_chain_parts::{UpperChain, over_problems};
-use re_clauses::{are_exchanged, upper_step_law};
+use re_chains::{UpperChain, over_problems};
+use re_check::{are_exchanged, upper_step_law};
 use re_fit::{FitFault, find_upper};
 use re_labels::{LabelSet, NoMemory};
 use re_problem::Problem;

@@ -1,16 +1,16 @@
 -- What lines of rows, entries and pairs give is of labels of the problems.
-use Rattle.re_sections.proofs.KnownLabels.{held_in, known_set, label_known}
+use Rattle.re_problem.proofs.KnownLabels.{held_in, known_set, label_known}
 use Rattle.re_cert.proofs.ReadEntries.{all_append}
 use Rattle.std.proofs.Common.{◌≡◌, ℕ, zero, suc, ◌<◌, ◌^◌, ◌&&◌, Bool, true, false, cond, eqb, leb, ltb, List, [], ◌∷◌, ◌++◌, length, map, flat_map, replicate, refl, sym, ap, ◌∙◌, subst, Option, Some, None, inl, inr, eq-eqb}
 use Rattle.std.specs.List.{AllByRecursion, list_all, list_any}
 use Rattle.std.specs.Option.{option_and_then}
 use Rattle.std.proofs.lemmas.Bool.{cases_lt, false≢true}
 use Rattle.std.proofs.lemmas.Nat.Bits.{bit_at_above}
-use Rattle.re_config.proofs.Sorting.{AllByRecursion-Rearranged, Rearranged-sorted, length-sorted}
-use Rattle.re_config.specs.Configs.{sorted}
-use Rattle.re_config.specs.Rows.{in_order, is_full, row_of}
-use Rattle.re_items.specs.Items.{ItemText}
-use Rattle.re_items.specs.Labels.{are_held, labels_held}
+use Rattle.re_labels.proofs.Sorting.{AllByRecursion-Rearranged, Rearranged-sorted, length-sorted}
+use Rattle.re_labels.specs.Configs.{sorted}
+use Rattle.re_labels.specs.Rows.{in_order, is_full, row_of}
+use Rattle.re_problem.specs.Items.{ItemText}
+use Rattle.re_problem.specs.Labels.{are_held, labels_held}
 use Rattle.re_labels.proofs.Membership.{AllByRecursion-contains, In, In-Contains, all-In_from, length-map'}
 use Rattle.re_labels.proofs.Numbers.{IsLabelSet-set_of, has-set_of, set_of-number}
 use Rattle.re_labels.proofs.Sets.{IsIn-has}
@@ -25,7 +25,7 @@ use Rattle.re_problem.specs.Steps.LowerMap.{by_row, by_set}
 use Rattle.re_cert.proofs.ReadLabels.{held_parts}
 use Rattle.re_cert.specs.Bounds.{entries_in, entry_fits, image_fits, map_fits, pair_fits, row_fits}
 use Rattle.re_cert.specs.Entries.{both, entry_on, entry_with, image_on, labels_in, labels_on, of_length, row_on}
-use Rattle.re_sections.specs.Pairs.{ItemPair, label_held}
+use Rattle.re_problem.specs.Pairs.{ItemPair, label_held}
 use Rattle.re_labels.specs.PortLabels.{port_labels}
 use Rattle.re_labels.specs.declared.TheConstants.{MAX_LABELS}
 

@@ -2,8 +2,8 @@
 use Rattle.std.proofs.Common.{◌≡◌, ℕ, ◌+◌, ◌≤◌, Bool, true, false, cond, List, [], ◌∷◌, ◌++◌, length, Option, Some, None, Result, Ok, Err, refl, sym, ap, ◌∙◌, subst, eqb, leb, ltb, is_some, ◌||◌, ◌⊎◌}
 use Rattle.std.proofs.lemmas.Bool.{false≢true}
 use Rattle.re_io.specs.LineReading.{LineText, line_bytes}
-use Rattle.re_items.specs.Bytes.{bad_byte, is_empty_line}
-use Rattle.re_items.specs.Items.{ItemText}
+use Rattle.re_problem.specs.Bytes.{bad_byte, is_empty_line}
+use Rattle.re_problem.specs.Items.{ItemText}
 use Rattle.re_problem.specs.ProblemTexts.{byte_fault, end_fault, fault_at, fault_or, line_items, problem_of}
 use Rattle.re_problem.specs.Steps.{SetEntry}
 use Rattle.re_problem.specs.declared.fault.InputFault.{InputFault}
@@ -15,15 +15,15 @@ use Rattle.re_cert.specs.CertificateReading.{has_first}
 use Rattle.re_cert.specs.CertificateTexts.{Brought, Part, State, and_behind, bad_section, begins, begins_text, behind, brings, goes_on, has_ended, has_images, in_phase, in_section, in_text, joined, judged, judged_in, map_begins, part_at, part_from, part_in, past, renaming_ends, set_and_label, silent, start, step_begins, takes_entry, takes_image, takes_items, takes_labels, takes_mapped, takes_pair, takes_row, takes_singles, text_ends, whole_step}
 use Rattle.re_cert.specs.CertificateTexts.Part.{First, Head, Next, Renaming}
 use Rattle.re_cert.specs.Entries.{entry_on, image_on, label_items, labels_on, row_on}
-use Rattle.re_sections.specs.Pairs.{ItemPair, pair_on}
+use Rattle.re_problem.specs.Pairs.{ItemPair, pair_on}
 use Rattle.re_cert.specs.SectionLines.{heading_of, is_end, section_of}
-use Rattle.re_sections.specs.SectionLines.{is_section}
+use Rattle.re_problem.specs.SectionLines.{is_section}
 use Rattle.re_cert.specs.declared.cert_reader.Phase.{Phase}
 use Rattle.re_cert.specs.declared.cert_reader.Phase.TheVariants as phase
 use Rattle.re_cert.specs.declared.sections.Heading.{Heading}
 use Rattle.re_cert.specs.declared.sections.Section.{Section}
 use Rattle.re_cert.specs.declared.sections.Section.TheVariants as section
-use Rattle.re_config.specs.declared.TheConstants.{MAX_ROWS}
+use Rattle.re_labels.specs.declared.TheConstants.{MAX_ROWS}
 
 pub judged_of : (r : Result Brought InputFault) (t : State) → and_behind r (λ u. Ok u) ≡ Ok t → (brought : Brought) × (r ≡ Ok brought) × (brought.state ≡ t)
 judged_of (Ok brought) t is = (brought, refl, (let same : brought.state ≡ t = cc in same))

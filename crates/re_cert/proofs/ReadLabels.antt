@@ -5,13 +5,13 @@ use Rattle.std.specs.Option.{option_and_then}
 use Rattle.std.specs.Prelude.{slice_range}
 use Rattle.std.proofs.lemmas.Bool.{false≢true}
 use Rattle.std.proofs.lemmas.Bool.Decides.{nat_tests}
-use Rattle.re_items.proofs.Words.{NextItem}
-use Rattle.re_items.specs.Items.{ItemText, item_of, items_of, items_of_words, words}
-use Rattle.re_items.specs.declared.items.Item.{Item}
+use Rattle.re_problem.proofs.Words.{NextItem}
+use Rattle.re_problem.specs.Items.{ItemText, item_of, items_of, items_of_words, words}
+use Rattle.re_problem.specs.declared.items.Item.{Item}
 use Rattle.re_labels.proofs.Tests.{and-true}
 use Rattle.re_problem.proofs.WrittenLines.{ReadItems, items_all, items_in_front, nothing_read, one_read}
 use Rattle.re_cert.specs.Entries.{image_labels, is_single, label_items, labels_in, of_length, singles_in, with_held}
-use Rattle.re_sections.specs.Pairs.{label_held}
+use Rattle.re_problem.specs.Pairs.{label_held}
 
 -- ---- lists of items
 all_but : (xs : List ItemText) (x : ItemText) (ys : List ItemText) → is_single x ≡ false → list_all is_single ((xs ++ x ∷ []) ++ ys) ≡ false

@@ -1,8 +1,8 @@
 -- A chain whose labels are merged is what the word gives, and else the line of a limit.
 use Rattle.std.proofs.Common.{◌≡◌, ℕ, None, Some, sym, ap, ◌∙◌}
 use Rattle.re_cert.specs.Bounds.{Bound}
-use Rattle.re_chain.specs.Merging.{merge_limit, merge_refusal, merged}
-use Rattle.re_chain_texts.specs.OverChains.{certificate_outcome}
+use Rattle.re_shaping.specs.Merging.{merge_limit, merge_refusal, merged}
+use Rattle.re_chains.specs.OverChains.{certificate_outcome}
 use Rattle.re_frame.specs.Outcomes.{limit}
 use Rattle.re_frame.specs.StepLimits.{limit_line}
 use Rattle.re_step.specs.declared.derivation.StepLimit.{StepLimit}

@@ -1,8 +1,8 @@
 -- A chain in whose last problem a label has another name is what the word gives.
 use Rattle.std.proofs.Common.{◌≡◌, ℕ, None, sym, ap, ◌∙◌}
 use Rattle.re_cert.specs.Bounds.{Bound}
-use Rattle.re_chain.specs.Naming.{name_refusal, named}
-use Rattle.re_chain_texts.specs.OverChains.{certificate_outcome}
+use Rattle.re_shaping.specs.Naming.{name_refusal, named}
+use Rattle.re_chains.specs.OverChains.{certificate_outcome}
 use Rattle.re_chain_words.specs.Shapings.{label_in, name_outcome, or_line, refusal_line}
 use Rattle.re_chain_words.specs.declared.labels.LabelWord.{LabelWord}
 

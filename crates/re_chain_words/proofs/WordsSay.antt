@@ -3,15 +3,15 @@ use Rattle.std.proofs.Common.{ℕ, true, false, List, [], Option, Some, None, re
 use Rattle.re_problem.specs.ProblemTexts.{first_fault, lines_of, problem_of}
 use Rattle.re_cert.specs.Bounds.{Bound, last_problem}
 use Rattle.re_cert.specs.CertificateTexts.{certificate_fault, certificate_of, text_lines}
-use Rattle.re_chain_parts.specs.Chains.{chain_with}
-use Rattle.re_chain_texts.specs.OverChains.{certificate_outcome}
-use Rattle.re_chain.specs.Tidied.{tidied}
+use Rattle.re_chains.specs.Chains.{chain_with}
+use Rattle.re_chains.specs.OverChains.{certificate_outcome}
+use Rattle.re_shaping.specs.Tidied.{tidied}
 use Rattle.re_frame.specs.Runs.{MaySay}
-use Rattle.re_chain.specs.declared.refusal.Refusal.{Refusal}
-use Rattle.re_chain_steps.specs.declared.stepping.ChainStepFault.{ChainStepFault}
-use Rattle.re_chain_steps.specs.declared.stepping.ChainStepFault.TheVariants.{Limit, NoMemory, TooManySteps}
+use Rattle.re_shaping.specs.declared.refusal.Refusal.{Refusal}
+use Rattle.re_shaping.specs.declared.stepping.ChainStepFault.{ChainStepFault}
+use Rattle.re_shaping.specs.declared.stepping.ChainStepFault.TheVariants.{Limit, NoMemory, TooManySteps}
 use Rattle.re_step.specs.declared.derivation.StepLimit.{StepLimit}
-use Rattle.re_chain_texts.proofs.WordsGiven.{certificate_says, or_fault_says, over_any_says, over_sound_says, problem_says}
+use Rattle.re_chains.proofs.WordsGiven.{certificate_says, or_fault_says, over_any_says, over_sound_says, problem_says}
 use Rattle.re_chain_words.specs.Answers.{begin_outcome, is_judging, last_outcome, or_stop, shaped_outcome, step_outcome, tidy_outcome, word_outcome}
 use Rattle.re_chain_words.specs.Shapings.{drop_outcome, merge_outcome, name_outcome, or_line, or_merge_line}
 use Rattle.re_chain_words.specs.declared.words.ChainWord.{ChainWord}

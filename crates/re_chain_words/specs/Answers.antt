@@ -8,16 +8,16 @@ use Rattle.re_cert.specs.declared.certificate.TheConstants.{MAX_STEPS}
 use Rattle.re_frame.specs.Outcomes.{Outcome, limit, limit_of}
 use Rattle.re_frame.specs.StepLimits.{limit_line}
 use Rattle.re_frame.specs.declared.status.Status.TheVariants.{Done}
-use Rattle.re_chain_parts.specs.Chains.{chain_with}
-use Rattle.re_chain_steps.specs.Stepped.{stepped, stepping_fault}
-use Rattle.re_chain_steps.specs.declared.stepping.ChainStepFault.{ChainStepFault}
-use Rattle.re_chain_steps.specs.declared.stepping.ChainStepFault.TheVariants.{Limit}
-use Rattle.re_chain_texts.specs.ChainTexts.{text_chain}
-use Rattle.re_chain_texts.specs.OverChains.{IsSoundText, IsTextOf, certificate_outcome, or_fault, over_any, over_sound, problem_outcome}
-use Rattle.re_chain.specs.Dropping.{dropped}
-use Rattle.re_chain.specs.Merging.{merged}
-use Rattle.re_chain.specs.Naming.{named}
-use Rattle.re_chain.specs.Tidied.{tidied}
+use Rattle.re_chains.specs.Chains.{chain_with}
+use Rattle.re_shaping.specs.Stepped.{stepped, stepping_fault}
+use Rattle.re_shaping.specs.declared.stepping.ChainStepFault.{ChainStepFault}
+use Rattle.re_shaping.specs.declared.stepping.ChainStepFault.TheVariants.{Limit}
+use Rattle.re_chains.specs.ChainTexts.{text_chain}
+use Rattle.re_chains.specs.OverChains.{IsSoundText, IsTextOf, certificate_outcome, or_fault, over_any, over_sound, problem_outcome}
+use Rattle.re_shaping.specs.Dropping.{dropped}
+use Rattle.re_shaping.specs.Merging.{merged}
+use Rattle.re_shaping.specs.Naming.{named}
+use Rattle.re_shaping.specs.Tidied.{tidied}
 use Rattle.re_chain_words.specs.Shapings.{drop_outcome, label_in, merge_outcome, name_outcome}
 use Rattle.re_chain_words.specs.declared.words.ChainWord.{ChainWord}
 use Rattle.re_chain_words.specs.declared.words.ChainWord.TheVariants.{Begin, Last, Shape, Tidy}

@@ -6,12 +6,12 @@ use Rattle.re_frame.specs.Outcomes.{Outcome, limit, refused}
 use Rattle.re_frame.specs.SearchLines.{not_lower_line, not_upper_line}
 use Rattle.re_frame.specs.StepLimits.{limit_line}
 use Rattle.re_step.specs.declared.derivation.StepLimit.{StepLimit}
-use Rattle.re_chain.specs.Dropping.{drop_refusal, dropped}
-use Rattle.re_chain.specs.Merging.{merge_limit, merge_refusal, merged}
-use Rattle.re_chain.specs.Naming.{name_refusal, named}
-use Rattle.re_chain.specs.declared.refusal.Refusal.{Refusal}
-use Rattle.re_chain.specs.declared.refusal.Refusal.TheVariants.{NotALabel, NotLower, NotUpper, NoStep, Same, Taken}
-use Rattle.re_chain_texts.specs.OverChains.{certificate_outcome}
+use Rattle.re_shaping.specs.Dropping.{drop_refusal, dropped}
+use Rattle.re_shaping.specs.Merging.{merge_limit, merge_refusal, merged}
+use Rattle.re_shaping.specs.Naming.{name_refusal, named}
+use Rattle.re_shaping.specs.declared.refusal.Refusal.{Refusal}
+use Rattle.re_shaping.specs.declared.refusal.Refusal.TheVariants.{NotALabel, NotLower, NotUpper, NoStep, Same, Taken}
+use Rattle.re_chains.specs.OverChains.{certificate_outcome}
 use Rattle.re_chain_words.specs.LabelWords.{given_text}
 use Rattle.re_chain_words.specs.declared.labels.LabelWord.{LabelWord}
 

@@ -1,9 +1,9 @@
 //! What the words answer.
-ghost use Rattle.re_chain_parts.specs.Chains.{IsSoundChain, chain_with};
+ghost use Rattle.re_chains.specs.Chains.{IsSoundChain, chain_with};
 ghost use Rattle.re_cert.specs.CertificateTexts.{certificate_of, text_lines};
-ghost use Rattle.re_chain.specs.Tidied.{tidied};
-ghost use Rattle.re_chain_texts.specs.ChainTexts.{text_chain};
-ghost use Rattle.re_chain_texts.specs.OverChains.{GivesSound, GivesText, certificate_outcome, over_any, over_sound};
+ghost use Rattle.re_shaping.specs.Tidied.{tidied};
+ghost use Rattle.re_chains.specs.ChainTexts.{text_chain};
+ghost use Rattle.re_chains.specs.OverChains.{GivesSound, GivesText, certificate_outcome, over_any, over_sound};
 ghost use Rattle.re_chain_words.specs.Answers.{WordWorth, begin_outcome, begun, last_outcome, shaped, shaped_outcome, tidy_outcome, word_outcome};
 ghost use Rattle.re_frame.specs.Outcomes.{outcome_of};
 ghost use Rattle.re_frame.specs.declared.status.Status.TheVariants.{Done};
@@ -13,14 +13,14 @@ ghost use Rattle.std.specs.Prelude.{◌≡◌, ◌≤◌, [], IfOk, length};
 use crate::shaping::shaped_output;
 use crate::words::{ChainWord, Shaping};
 use re_cert::{Certificate, Kind, read_certificate};
-use re_chain::tidy;
-use re_chain_parts::{chain_kind, over_problems};
-use re_chain_texts::{
-    ChainRead, StepsRead, certificate_output, problem_output, read_any, read_sound,
+use re_chains::{
+    ChainRead, StepsRead, certificate_output, chain_kind, over_problems, problem_output, read_any,
+    read_sound,
 };
 use re_frame::{Finding, Output, fault_output};
 use re_labels::NoMemory;
 use re_problem::{Problem, TextFault, read_problem};
+use re_shaping::tidy;
 use std::alloc::Global;
 
 // The chain of this kind without steps.

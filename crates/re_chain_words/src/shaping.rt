@@ -1,11 +1,11 @@
 //! The words that shape the last problem of a sound chain.
-ghost use Rattle.re_chain.specs.Dropping.{dropped};
-ghost use Rattle.re_chain.specs.Merging.{merged};
-ghost use Rattle.re_chain.specs.Naming.{named};
-ghost use Rattle.re_chain.specs.declared.refusal.Refusal.{Refusal};
-ghost use Rattle.re_chain_parts.specs.Chains.{IsSoundChain};
-ghost use Rattle.re_chain_steps.specs.Stepped.{stepped};
-ghost use Rattle.re_chain_texts.specs.OverChains.{GivesSound};
+ghost use Rattle.re_shaping.specs.Dropping.{dropped};
+ghost use Rattle.re_shaping.specs.Merging.{merged};
+ghost use Rattle.re_shaping.specs.Naming.{named};
+ghost use Rattle.re_shaping.specs.declared.refusal.Refusal.{Refusal};
+ghost use Rattle.re_chains.specs.Chains.{IsSoundChain};
+ghost use Rattle.re_shaping.specs.Stepped.{stepped};
+ghost use Rattle.re_chains.specs.OverChains.{GivesSound};
 ghost use Rattle.re_chain_words.specs.Answers.{shaped, shaped_outcome, step_outcome};
 ghost use Rattle.re_chain_words.specs.LabelWords.{given_text};
 ghost use Rattle.re_chain_words.specs.Shapings.{drop_outcome, label_in, merge_outcome, name_outcome, refusal_line};
@@ -15,14 +15,13 @@ ghost use Rattle.std.specs.Prelude.{◌≡◌, ◌++◌, IfOk, codes};
 use crate::labels::{LabelWord, push_given};
 use crate::words::Shaping;
 use re_cert::{Certificate, MAX_STEPS};
-use re_chain::{
-    ChainFault, MergeFault, Refusal, drop_label, drop_law, merge, merge_law, name_label, name_law,
-};
-use re_chain_parts::next_number;
-use re_chain_steps::{ChainStepFault, step, step_law};
-use re_chain_texts::certificate_output;
+use re_chains::{certificate_output, next_number};
 use re_frame::{Output, begun, limit_of, limit_output, push_words, refused};
 use re_labels::NoMemory;
+use re_shaping::{
+    ChainFault, ChainStepFault, MergeFault, Refusal, drop_label, drop_law, merge, merge_law,
+    name_label, name_law, step, step_law,
+};
 use std::alloc::Global;
 
 // The label of the last problem that the word gives, or the number of labels where it gives none.

@@ -2,8 +2,8 @@
 use Rattle.std.proofs.Common.{◌≡◌, ℕ, zero, suc, ◌+◌, ◌-◌, ◌<◌, ◌≤◌, eqb, Bool, true, false, cond, not, ◌||◌, ◌&&◌, List, [], ◌∷◌, length, map, get_or, flat_map, Option, None, Some, refl, sym, ap, ◌∙◌, subst, arith, inl, inr}
 use Rattle.std.proofs.lemmas.Bool.{false≢true}
 use Rattle.std.specs.Prelude.{Contains, filter, option_and_then, if◌then◌else◌}
-use Rattle.re_config.proofs.Sorting.{sorted_again}
-use Rattle.re_config.specs.Configs.{IsConfig, image_at, image_of, sorted}
+use Rattle.re_labels.proofs.Sorting.{sorted_again}
+use Rattle.re_labels.specs.Configs.{IsConfig, image_at, image_of, sorted}
 use Rattle.re_labels.proofs.Membership.{AllByRecursion-In, Contains-In, In, In-Contains, In-filter_from, In-flat_map_from, In-map_from, length-count_from, length-map'}
 use Rattle.re_labels.proofs.Rising.{rising-map}
 use Rattle.re_labels.proofs.Sets.{IsIn-has, has-filter}

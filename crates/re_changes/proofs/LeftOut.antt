@@ -10,7 +10,7 @@ use Rattle.re_labels.proofs.Rising.{rising-filter}
 use Rattle.re_labels.specs.Lists.{IsBefore}
 use Rattle.re_labels.specs.ListSets.{list_set, with_list}
 use Rattle.re_labels.specs.Sets.{has}
-use Rattle.re_config.specs.Configs.{image_of}
+use Rattle.re_labels.specs.Configs.{image_of}
 use Rattle.re_changes.specs.Renumbering.{constraint_image}
 use Rattle.re_table.specs.Constraints.{Constraint, IsConstraint, images_of}
 use Rattle.re_table.specs.Strength.{constraint_without}

@@ -2,8 +2,8 @@
 use Rattle.std.proofs.Common.{◌≡◌, ℕ, zero, suc, ◌+◌, ◌<◌, true, cond, List, [], length, map, get_or, None, Some, refl, sym, ap, ◌∙◌, subst, arith, inl, inr, ◌-◌}
 use Rattle.std.specs.Prelude.{Contains, option_and_then}
 use Rattle.std.proofs.lemmas.List.{get_or-map}
-use Rattle.re_config.proofs.Sorting.{sorted_map}
-use Rattle.re_config.specs.Configs.{image_at, sorted}
+use Rattle.re_labels.proofs.Sorting.{sorted_map}
+use Rattle.re_labels.specs.Configs.{image_at, sorted}
 use Rattle.re_labels.proofs.Membership.{In, In-Contains, In-flat_map_from, In-map_from, count_from_range, get_or-count_from, length-count_from, length-map'}
 use Rattle.re_labels.proofs.Sets.{IsIn-has}
 use Rattle.re_labels.specs.Lists.{count_from}

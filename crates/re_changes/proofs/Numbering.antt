@@ -7,9 +7,9 @@ use Rattle.std.specs.List.{list_all}
 use Rattle.std.proofs.lemmas.Bool.Decides.{nat_tests}
 use Rattle.std.proofs.lemmas.List.{get_or-map, take_all}
 use Rattle.std.proofs.lemmas.List.Sums.{length-filter}
-use Rattle.re_config.proofs.Rearranging.{Contains-Rearranged, Rearranged-sym}
-use Rattle.re_config.proofs.Sorting.{Rearranged-sorted}
-use Rattle.re_config.specs.Configs.{image_at, sorted}
+use Rattle.re_labels.proofs.Rearranging.{Contains-Rearranged, Rearranged-sym}
+use Rattle.re_labels.proofs.Sorting.{Rearranged-sorted}
+use Rattle.re_labels.specs.Configs.{image_at, sorted}
 use Rattle.re_labels.proofs.Before.{IsBefore-trans}
 use Rattle.re_labels.proofs.ListSets.{In-list_set, list_set-In, one_set, rising-list_set}
 use Rattle.re_labels.proofs.Membership.{AllByRecursion-In, Contains-In, In, In-Contains, In-map_from, all-In_from, length-map'}

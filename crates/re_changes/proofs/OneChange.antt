@@ -4,7 +4,7 @@ use Rattle.std.specs.Prelude.{filter}
 use Rattle.std.specs.List.{AllByRecursion}
 use Rattle.std.proofs.lemmas.Bool.{false≢true}
 use Rattle.std.proofs.lemmas.List.{get_or-map}
-use Rattle.re_config.specs.Configs.{image_at}
+use Rattle.re_labels.specs.Configs.{image_at}
 use Rattle.re_labels.proofs.Membership.{AllByRecursion-from_In, Contains-In, In, In-Contains, In-filter, In-filter_from, In-map_from, count_from_range, Contains-count_from, get_or-count_from, length-count_from, any-In}
 use Rattle.re_labels.proofs.Numbers.{IsLabelSet-count_from, IsLabelSet-filter}
 use Rattle.re_labels.proofs.Sets.{IsIn-has}
@@ -16,7 +16,7 @@ use Rattle.re_problem.specs.NamedProblems.{IsNamedProblem, NamedProblem, OccursI
 use Rattle.re_problem.specs.Problems.{IsProblem}
 use Rattle.re_table.specs.Constraints.{Constraint}
 use Rattle.re_table.specs.Strength.{constraint_without}
-use Rattle.re_config.proofs.LeastLabels.{length-set}
+use Rattle.re_labels.proofs.LeastLabels.{length-set}
 use Rattle.re_changes.proofs.Counted.{length-map_counted}
 use Rattle.re_changes.proofs.Numbering.{at_number, number-low, renumbered-built}
 use Rattle.re_changes.proofs.RenumberedProblems.{IsBuilt, IsProblem-renumbered, built-along}

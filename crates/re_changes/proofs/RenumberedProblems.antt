@@ -1,6 +1,6 @@
 -- Problems that are numbered anew are problems.
 use Rattle.std.proofs.Common.{◌≡◌, ℕ, ◌<◌, List, [], length, map, get_or, Some, sym, ap, ◌∙◌, subst, arith}
-use Rattle.re_config.specs.Configs.{image_at}
+use Rattle.re_labels.specs.Configs.{image_at}
 use Rattle.re_labels.proofs.Membership.{In, length-map'}
 use Rattle.re_problem.specs.NamedProblems.{NamedProblem, built, unnamed}
 use Rattle.re_problem.specs.Problems.{IsProblem}

@@ -13,8 +13,8 @@ use Rattle.re_cert.specs.Stages.{stages_of}
 use Rattle.re_cert.specs.declared.certificate.Kind.{Kind}
 use Rattle.re_cert.specs.declared.certificate.Kind.TheVariants.{Upper}
 use Rattle.re_cert.specs.declared.certificate.TheConstants.{MAX_STEPS}
-use Rattle.re_clauses.proofs.StepMeaning.{upper_clauses}
-use Rattle.re_clauses.specs.Clauses.{step_fault}
+use Rattle.re_check.proofs.StepMeaning.{upper_clauses}
+use Rattle.re_check.specs.Clauses.{step_fault}
 use Rattle.re_check.proofs.Meaning.{is_zero, kind-upper, neither, no_end_fault, unmapped}
 use Rattle.re_check.specs.UpperBounds.{UpperLaw}
 use Rattle.re_check.specs.Verdicts.{bound_fault, end_fault, fault_at, steps_fault, verdict_of, verdict_with}

@@ -1,19 +1,24 @@
-//! What an accepted upper bound is made of.
-ghost use Rattle.re_check.specs.UpperBounds.{IsUpperWhereAccepted, UpperLaw};
+//! What an upper step is that meets its clauses.
+ghost use Rattle.re_check.specs.ClauseLaws.{HaveSets, IsUpperWhereMet};
 
-use crate::checking::problems;
-use re_cert::Certificate;
+use re_cert::{SetEntry, Step};
+use re_problem::Problem;
 
-/// A certificate that is accepted as an upper bound has upper steps alone, and they lead to a problem that is Zero. So it gives an
-/// algorithm (`re_laws::extract_law`).
-pub fn upper_law()
-    ensures { UpperLaw }
-{}
-
-/// The same of a certificate in memory. It goes once over the steps, and takes no memory.
-pub fn upper_steps(certificate: &Certificate)
-    ensures { IsUpperWhereAccepted certificate.now }
+// That the entries have sets.
+fn have_sets(entries: &[SetEntry])
+    ensures { HaveSets entries.now }
 {
-    let _first = certificate.first().active();
-    problems(certificate.steps());
+    let [entry, others @ ..] = entries else {
+        return;
+    };
+    let _count = entry.set.count();
+    have_sets(others)
+}
+
+/// The same as `upper_step_law`, of a step in memory, whose entries have sets. It goes once over the entries, and takes no memory.
+pub fn upper_step(before: &Problem, step: &Step)
+    ensures { IsUpperWhereMet before.now step.now }
+{
+    let _before = before;
+    have_sets(step.entries());
 }

@@ -3,7 +3,7 @@ use Rattle.std.proofs.Common.{◌≡◌, ◌+◌, ◌*◌, ◌≤◌, subst, ari
 use Rattle.re_classes.proofs.ApartClasses.{constant_apart, log_star_above_constant}
 use Rattle.re_classes.specs.Classes.{IsConstantLocal}
 use Rattle.re_classes.specs.Laws.{AboveLogStarLaw, BelowLogStarLaw, ConstantLaw, IsUnsolvable, MoreThanConstantLaw, NothingBetweenLaw, OrderLogStarLaw}
-use Rattle.re_few_colours.proofs.FewColours.{few_colours_local, last_hops}
+use Rattle.re_local.proofs.FewColours.{few_colours_local, last_hops}
 use Rattle.re_local.specs.LocalAlgorithms.{SolvableLocal}
 use Rattle.re_local.specs.Towers.{tower}
 use Rattle.re_ordered.proofs.BeyondLocal.{beyond_local}

@@ -1,3 +1,14 @@
 pub mod ApartClasses
+pub mod Certain
 pub mod Decided
+pub mod Derandomised
+pub mod Drawn
+pub mod DrawnColours
+pub mod FewerNames
+pub mod NamedRandomness
+pub mod NamedViews
+pub mod Numbered
+pub mod Powers
+pub mod RandomGap
+pub mod ViewCounts
 pub mod WorkedClasses

@@ -3,21 +3,21 @@ use Rattle.std.proofs.Common.{◌≡◌, ℕ, zero, suc, ◌≤◌, ◌<◌, Lis
 use Rattle.std.specs.Prelude.{◌==◌, true, Contains}
 use Rattle.re_classes.proofs.Decided.{order_log_star}
 use Rattle.re_classes.specs.Examples.{PathColouringLaw, SinklessClassLaw}
-use Rattle.re_config.proofs.Rearranging.{Contains-Rearranged}
-use Rattle.re_config.proofs.Sorting.{Rearranged-sorted}
-use Rattle.re_config.specs.Configs.{sorted, support_of}
-use Rattle.re_config.specs.Orders.{multisets}
+use Rattle.re_labels.proofs.Rearranging.{Contains-Rearranged}
+use Rattle.re_labels.proofs.Sorting.{Rearranged-sorted}
+use Rattle.re_labels.specs.Configs.{sorted, support_of}
+use Rattle.re_labels.specs.Orders.{multisets}
 use Rattle.re_cover.proofs.Outputs.{no_solution_law}
 use Rattle.re_cover.specs.Graphs.{IsGraphOf, IsPassiveEnd, IsSolution, PortGraph, active_end}
 use Rattle.re_cover.specs.declared.ends.GraphEnd.{GraphEnd}
-use Rattle.re_few_colours.proofs.ColouredHops.{IsProblem-colouring}
+use Rattle.re_local.proofs.ColouredHops.{IsProblem-colouring}
 use Rattle.re_given.proofs.Colourings.{IsInput-colouring}
 use Rattle.re_given.proofs.Itself.{SolvableGiven-itself}
 use Rattle.re_given.specs.Unavoidable.{colouring}
 use Rattle.re_labels.proofs.Membership.{AllByRecursion-contains, Contains-cases, Contains-filter_cases, Contains-here, Contains-later, Contains-none}
 use Rattle.re_problem.specs.Problems.{IsProblem}
-use Rattle.re_separating.proofs.Separated.{sinkless_unique}
-use Rattle.re_separating.specs.Laws.{identifier_base}
+use Rattle.re_local.proofs.Separated.{sinkless_unique}
+use Rattle.re_local.specs.SeparatingLaws.{identifier_base}
 use Rattle.re_table.specs.Constraints.{Has}
 
 is_three : IsProblem (colouring 2 2 3)

@@ -3,7 +3,7 @@ use Rattle.std.specs.Prelude.{ℕ, ◌+◌, ◌*◌, ◌≤◌}
 use Rattle.re_local.specs.LocalAlgorithms.{SolvableLocal}
 use Rattle.re_local.specs.Towers.{tower}
 use Rattle.re_problem.specs.Problems.{Problem}
-use Rattle.re_separating.specs.Laws.{IsBeyondLocal, IsBeyondPower}
+use Rattle.re_local.specs.SeparatingLaws.{IsBeyondLocal, IsBeyondPower}
 
 -- takes a constant number of rounds, however many identifiers there are
 abbrev pub IsConstantLocal : Problem → Type 0

@@ -1,9 +1,18 @@
-//! The classes of problems by the number of rounds that local algorithms take, what decides them, and that they are apart: laws alone, no code.
+//! Classes of problems, with identifiers and with random strings: laws alone, no code.
 #![tactic(auto)]
+
+mod random;
 
 ghost use Rattle.re_classes.specs.Examples.{PathColouringLaw, SinklessClassLaw};
 ghost use Rattle.re_classes.specs.Laws.{AboveLogStarLaw, BelowLogStarLaw, ConstantLaw, MoreThanConstantLaw, OrderLogStarLaw};
 ghost use Rattle.re_classes.specs.Laws.{ApartLaw, NothingBetweenLaw, WeakerLaw};
+
+pub use random::{
+    certain_law, certain_named_law, derandomised_law, derandomised_named_law, drawn_colour_law,
+    fewer_names_law, named_constant_law, named_gap_law, named_randomness_law,
+    randomised_constant_law, randomised_gap_law, randomised_law, randomised_named_law,
+    sinkless_random_law, unnoticed_names_law,
+};
 
 /// A problem takes a constant number of rounds with unique identifiers exactly where some number is enough with port numbers alone.
 pub fn constant_law()

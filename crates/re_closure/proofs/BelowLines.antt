@@ -2,11 +2,11 @@
 use Rattle.std.proofs.Common.{◌≡◌, ℕ, ◌<◌, List, [], ◌∷◌, length, map, sym, ap, ◌∙◌, subst, arith}
 use Rattle.std.specs.Prelude.{Contains, filter}
 use Rattle.std.specs.List.{AllByRecursion}
-use Rattle.re_config.proofs.LawsOfRows.{multisets_law}
-use Rattle.re_config.proofs.OrdersAt.{get_or-map}
-use Rattle.re_config.proofs.Rearranging.{Contains-Rearranged, Rearranged-map, Rearranged-sym}
-use Rattle.re_config.specs.Orders.{multisets}
-use Rattle.re_config.specs.Rows.{IsChoice, IsUnder, placed, set_at}
+use Rattle.re_labels.proofs.LawsOfRows.{multisets_law}
+use Rattle.re_labels.proofs.OrdersAt.{get_or-map}
+use Rattle.re_labels.proofs.Rearranging.{Contains-Rearranged, Rearranged-map, Rearranged-sym}
+use Rattle.re_labels.specs.Orders.{multisets}
+use Rattle.re_labels.specs.Rows.{IsChoice, IsUnder, placed, set_at}
 use Rattle.re_labels.proofs.Membership.{Contains-count_from, Contains-filter, Contains-filter_cases, Contains-here, Contains-later, count_from_range, length-map'}
 use Rattle.re_labels.proofs.Places.{get-place_of, place_of-below}
 use Rattle.re_labels.proofs.Sets.{IsWithin-within, within-IsWithin}

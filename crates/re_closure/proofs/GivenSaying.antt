@@ -5,8 +5,8 @@ use Rattle.re_problem.specs.declared.fault.InputFault.{InputFault}
 use Rattle.re_cert.specs.Bounds.{Bound}
 use Rattle.re_cert.specs.declared.certificate.Kind.{Kind}
 use Rattle.re_cert.specs.declared.certificate.Kind.TheVariants.{Fixed, Lower, Upper}
-use Rattle.re_chain_steps.specs.Stepped.{stepped, stepping_fault}
-use Rattle.re_chain_texts.specs.OverChains.{steps_refusal}
+use Rattle.re_shaping.specs.Stepped.{stepped, stepping_fault}
+use Rattle.re_chains.specs.OverChains.{steps_refusal}
 use Rattle.re_check.specs.declared.verdict.Verdict.{Verdict}
 use Rattle.re_fit.specs.InputProblems.{input_fault}
 use Rattle.re_fit.specs.declared.inputs.InputFault.{InputFault as NoInput}
@@ -15,8 +15,8 @@ use Rattle.re_frame.specs.Outcomes.{Outcome}
 use Rattle.re_frame.specs.Runs.{MaySay}
 use Rattle.re_given_words.proofs.Saying.{given_says}
 use Rattle.re_given_words.specs.declared.words.BoundWord.TheVariants.{Given}
-use Rattle.re_two_texts.proofs.GivenSays.{given_text_says}
-use Rattle.re_two_texts.specs.TwoTexts.{back_problem, front_chain, two_fault}
+use Rattle.re_chains.proofs.GivenSays.{given_text_says}
+use Rattle.re_chains.specs.TwoTexts.{back_problem, front_chain, two_fault}
 use Rattle.re_closure.proofs.Saying.{give_says, step_says}
 use Rattle.re_closure.specs.GivenClosures.{IsUnfoundGiven, MayFindGiven, MayFindGivenWithin, MayGiveGiven, MayGiveGivenAt, MayGiveGivenInput, MayGiveGivenRead, MayGiveGivenSound, MayGiveText, MayGiveTextBy, MayGoOnGiven, has_input}
 use Rattle.re_closure.specs.declared.answering.ClosureWord.{ClosureWord}

@@ -10,8 +10,8 @@ use Rattle.re_cert.specs.Bounds.{Bound, is_bound, is_lower, last_problem, next_p
 use Rattle.re_cert.specs.declared.certificate.Kind.{Kind}
 use Rattle.re_cert.specs.declared.certificate.Kind.TheVariants.{Fixed}
 use Rattle.re_cert.specs.declared.certificate.TheConstants.{MAX_STEPS}
-use Rattle.re_chain_parts.specs.Chains.{IsOverProblems, IsSoundLower}
-use Rattle.re_chain_texts.specs.OverChains.{or_refusal, refusal_of, steps_refusal}
+use Rattle.re_chains.specs.Chains.{IsOverProblems, IsSoundLower}
+use Rattle.re_chains.specs.OverChains.{or_refusal, refusal_of, steps_refusal}
 use Rattle.re_check.proofs.Meaning.{lower_chain, named-last}
 use Rattle.re_fit.proofs.Judged.{judged-none}
 use Rattle.re_fit.specs.InputProblems.{input_fault}

@@ -5,15 +5,15 @@ use Rattle.re_problem.specs.NamedProblems.{NamedProblem}
 use Rattle.re_problem.specs.declared.fault.InputFault.{InputFault}
 use Rattle.re_cert.specs.Bounds.{Bound}
 use Rattle.re_cert.specs.declared.certificate.Kind.TheVariants.{Fixed}
-use Rattle.re_chain_steps.specs.Stepped.{stepped, stepping_fault}
-use Rattle.re_chain_steps.specs.declared.stepping.ChainStepFault.{ChainStepFault}
+use Rattle.re_shaping.specs.Stepped.{stepped, stepping_fault}
+use Rattle.re_shaping.specs.declared.stepping.ChainStepFault.{ChainStepFault}
 use Rattle.re_fit.specs.InputProblems.{input_fault}
 use Rattle.re_frame.specs.Outcomes.{Outcome, outcome_of}
 use Rattle.re_frame.specs.TextFaults.{fault_outcome}
 use Rattle.re_frame.specs.declared.output.Output.{Output}
 use Rattle.re_given_words.specs.Extensions.{GoesOnGiven}
-use Rattle.re_two_texts.specs.GivenTexts.{GivesBoth, given_text_outcome}
-use Rattle.re_two_texts.specs.TwoTexts.{back_problem, front_chain, two_fault}
+use Rattle.re_chains.specs.GivenTexts.{GivesBoth, given_text_outcome}
+use Rattle.re_chains.specs.TwoTexts.{back_problem, front_chain, two_fault}
 use Rattle.re_closure.specs.Closures.{IsClosed}
 use Rattle.re_closure.specs.ClosureWords.{MayStep, stop_outcome}
 use Rattle.re_closure.specs.GivenClosures.{Closes, IsFoundGiven, MayFindGivenWithin, MayGiveGiven, MayGiveGivenInput, MayGiveGivenRead}

@@ -13,13 +13,13 @@ use Rattle.re_labels.proofs.Places.{place_of-below}
 use Rattle.re_labels.proofs.Tests.{and-true, or-left, or-right, true-and, true-below}
 use Rattle.re_labels.specs.Lists.{count_from, place_of}
 use Rattle.re_labels.specs.declared.TheConstants.{MAX_LABELS}
-use Rattle.re_config.proofs.Rearranging.{Contains-Rearranged, Rearranged-sym}
-use Rattle.re_config.specs.declared.TheConstants.{MAX_ROWS}
-use Rattle.re_config.specs.Rows.{placed}
+use Rattle.re_labels.proofs.Rearranging.{Contains-Rearranged, Rearranged-sym}
+use Rattle.re_labels.specs.declared.TheConstants.{MAX_ROWS}
+use Rattle.re_labels.specs.Rows.{placed}
 use Rattle.re_table.proofs.MaxSets.{max_sets-from}
 use Rattle.re_table.specs.Constraints.{Constraint}
-use Rattle.re_entry_clauses.proofs.RowSets.{row_sets_law}
-use Rattle.re_entry_clauses.specs.StepClauses.{HasRowSets}
+use Rattle.re_check.proofs.RowSets.{row_sets_law}
+use Rattle.re_check.specs.StepClauses.{HasRowSets}
 use Rattle.re_table.specs.GoodRows.{max_rows, max_sets}
 use Rattle.re_problem.proofs.Building.{below_all}
 use Rattle.re_problem.proofs.TextLines.{last_push}
@@ -29,25 +29,25 @@ use Rattle.re_problem.specs.ProblemTexts.{last_or}
 use Rattle.re_problem.specs.Problems.{IsProblem, Problem}
 use Rattle.re_problem.specs.Steps.{IsLowerStep, IsRenamed, SetEntry, entry_sets}
 use Rattle.re_problem.specs.Zero.{zero_place}
-use Rattle.re_maps.proofs.VerdictLaws.{renames_law}
-use Rattle.re_maps.specs.Verdicts.{renaming_verdict}
-use Rattle.re_maps.specs.declared.verdict.MapVerdict.TheVariants.{Yes}
+use Rattle.re_problem.proofs.VerdictLaws.{renames_law}
+use Rattle.re_problem.specs.Verdicts.{renaming_verdict}
+use Rattle.re_problem.specs.declared.verdict.MapVerdict.TheVariants.{Yes}
 use Rattle.re_cert.proofs.FittingStates.{one_more}
 use Rattle.re_cert.specs.Bounds.{Bound, BoundStep, entry_fits, has_row_maps, is_bound, is_by_row, is_label, last_problem, next_problems, one_form, pair_fits, problem_at, renaming_fits, row_fits, step_fits, steps_fit}
 use Rattle.re_cert.specs.declared.certificate.Kind.TheVariants.{Fixed, Lower}
 use Rattle.re_cert.specs.declared.certificate.TheConstants.{MAX_STEPS}
-use Rattle.re_clauses.proofs.StepMeaning.{lower_clauses}
-use Rattle.re_clauses.specs.Clauses.{step_fault}
+use Rattle.re_check.proofs.StepMeaning.{lower_clauses}
+use Rattle.re_check.specs.Clauses.{step_fault}
 use Rattle.re_check.proofs.Meaning.{verdict_means, named-last}
 use Rattle.re_check.specs.Verdicts.{Means, end_fault, fault_at, fault_or, goes_back, is_yes, meets_back, meets_end, steps_fault, verdict_of, verdict_with}
 use Rattle.re_check.specs.declared.verdict.Verdict.{Verdict}
 use Rattle.re_check.specs.declared.verdict.Verdict.TheVariants.{Accepted}
-use Rattle.re_chain_parts.specs.Chains.{IsOverProblems, IsSoundLower}
-use Rattle.re_tree.proofs.Entries.{rows-fit, set-is}
-use Rattle.re_tree.proofs.Paths.{fits-more, valid-more}
-use Rattle.re_chain_steps.proofs.RowForms.{step-fits, step-form, step-sound}
+use Rattle.re_chains.specs.Chains.{IsOverProblems, IsSoundLower}
+use Rattle.re_search.proofs.Entries.{rows-fit, set-is}
+use Rattle.re_search.proofs.Paths.{fits-more, valid-more}
+use Rattle.re_shaping.proofs.RowForms.{step-fits, step-form, step-sound}
 use Rattle.re_step.proofs.NameLemmas.{length-label_names}
-use Rattle.re_extend.specs.Extensions.{GoesOn}
+use Rattle.re_shaping.specs.Extensions.{GoesOn}
 use Rattle.re_closure_laws.proofs.Closing.{closure_bound_law, zero_lines_law}
 use Rattle.re_closure_laws.proofs.Entries.{sets_by}
 use Rattle.re_closure_laws.proofs.FirstSteps.{of_maximal}
@@ -308,8 +308,8 @@ module _ (chain : Bound) (over : IsOverProblems chain) (problem : Problem) (is_p
   ended : end_fault (bound_by r chain t1 active passive) ≡ None
   ended =
       let end : meets_end bound ≡ true = ap (λ p. is_none (zero_place (unnamed p))) ends ∙ ap is_none not_zero_Q in
-      (λ i. if not (end i) then Some (fault_at (length bound.steps) Rattle.re_clauses.specs.declared.clause.Clause.TheVariants.End)
-      else if not (back i) then Some (fault_at (length bound.steps) Rattle.re_clauses.specs.declared.clause.Clause.TheVariants.Back) else None)
+      (λ i. if not (end i) then Some (fault_at (length bound.steps) Rattle.re_check.specs.declared.clause.Clause.TheVariants.End)
+      else if not (back i) then Some (fault_at (length bound.steps) Rattle.re_check.specs.declared.clause.Clause.TheVariants.Back) else None)
 
   pub valid : verdict_of (bound_by r chain t1 active passive) ≡ Accepted Fixed (length (bound_by r chain t1 active passive).steps)
   valid = (λ i. verdict_with Fixed (length bound.steps) (fault_or (longer.valid i) (ended i)))

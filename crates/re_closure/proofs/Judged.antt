@@ -2,12 +2,12 @@
 use Rattle.std.proofs.Common.{◌≡◌, ℕ, List, length, Option, Result, Ok, Err, sym, subst}
 use Rattle.std.specs.Prelude.{IfOk}
 use Rattle.re_cert.specs.Bounds.{Bound, last_problem}
-use Rattle.re_chain_parts.specs.HeldBounds.{held_bound}
-use Rattle.re_chain_parts.specs.declared.chains.Chain.{Chain}
-use Rattle.re_chain_parts.specs.declared.chains.Chain.TheVariants.{Lower, Upper}
-use Rattle.re_chain_parts.specs.declared.one_kind.LowerChain.{LowerChain}
-use Rattle.re_chain_parts.specs.declared.one_kind.UpperChain.{UpperChain}
-use Rattle.re_chain_texts.specs.OverChains.{IsJudged, steps_refusal}
+use Rattle.re_chains.specs.HeldBounds.{held_bound}
+use Rattle.re_chains.specs.declared.chains.Chain.{Chain}
+use Rattle.re_chains.specs.declared.chains.Chain.TheVariants.{Lower, Upper}
+use Rattle.re_chains.specs.declared.one_kind.LowerChain.{LowerChain}
+use Rattle.re_chains.specs.declared.one_kind.UpperChain.{UpperChain}
+use Rattle.re_chains.specs.OverChains.{IsJudged, steps_refusal}
 use Rattle.re_check.specs.declared.verdict.Verdict.{Verdict}
 use Rattle.re_closure.specs.ClosureWords.{MayFindBy, MayGiveAt, MayGiveSound}
 use Rattle.re_closure.specs.DiagramTexts.{AreEdges}

@@ -2,7 +2,7 @@
 use Rattle.std.proofs.Common.{◌<◌, ◌∷◌, ℕ, List, [], zero, suc, get_or, length}
 use Rattle.std.specs.List.{AllByRecursion}
 use Rattle.re_labels.proofs.Membership.{AllByRecursion-from_contains}
-use Rattle.re_config.specs.Rows.{placed}
+use Rattle.re_labels.specs.Rows.{placed}
 use Rattle.re_closure_laws.proofs.Generated.{closure_families_law}
 use Rattle.re_closure_laws.specs.Closures.{AreClosure}
 use Rattle.re_closure_laws.specs.Lines.{Family}

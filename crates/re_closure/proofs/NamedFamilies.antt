@@ -2,11 +2,11 @@
 use Rattle.std.proofs.Common.{◌≡◌, ℕ, ◌<◌, ◌≤◌, List, [], ◌∷◌, length, map, Option, None, Some, sym, ap, ◌∙◌, subst, inl, inr, ◌⊎◌, arith}
 use Rattle.std.specs.Prelude.{Contains, MatchOption}
 use Rattle.std.specs.List.{AllByRecursion}
-use Rattle.re_config.proofs.ChoicesOfRows.{IsUnder-refl}
-use Rattle.re_config.proofs.Rearranging.{Contains-Rearranged, Rearranged-refl}
-use Rattle.re_config.proofs.Sorting.{Rearranged-sorted}
-use Rattle.re_config.specs.Configs.{sorted}
-use Rattle.re_config.specs.Rows.{IsUnder, placed, set_at}
+use Rattle.re_labels.proofs.ChoicesOfRows.{IsUnder-refl}
+use Rattle.re_labels.proofs.Rearranging.{Contains-Rearranged, Rearranged-refl}
+use Rattle.re_labels.proofs.Sorting.{Rearranged-sorted}
+use Rattle.re_labels.specs.Configs.{sorted}
+use Rattle.re_labels.specs.Rows.{IsUnder, placed, set_at}
 use Rattle.re_labels.proofs.Membership.{AllByRecursion-contains, Contains-here, Contains-later, Contains-map, length-map'}
 use Rattle.re_labels.proofs.Places.{get-place_of, map-get-place_of, place_of-below}
 use Rattle.re_labels.specs.Lists.{place_of}

@@ -1,7 +1,7 @@
 -- All closures of a problem have one certificate, and one answer.
 use Rattle.std.proofs.Common.{◌≡◌, ℕ, suc, ◌<◌, Bool, List, [], ◌∷◌, ◌++◌, length, map, None, Some, refl, sym, ap, ◌∙◌, subst, ◌⊎◌, inl, inr, arith}
 use Rattle.std.specs.Prelude.{slice_index_or}
-use Rattle.re_config.specs.Rows.{placed}
+use Rattle.re_labels.specs.Rows.{placed}
 use Rattle.re_labels.proofs.Membership.{Contains-In, In, In-Contains}
 use Rattle.re_labels.proofs.Rising.{same_members}
 use Rattle.re_labels.specs.Lists.{count_from, place_of}
@@ -14,7 +14,7 @@ use Rattle.re_problem.specs.Steps.{SetEntry}
 use Rattle.re_problem.specs.Zero.{zero_place}
 use Rattle.re_cert.specs.Bounds.{Bound, BoundStep, has_row_maps, last_problem}
 use Rattle.re_cert.specs.declared.certificate.Kind.TheVariants.{Fixed}
-use Rattle.re_chain_texts.specs.OverChains.{certificate_outcome}
+use Rattle.re_chains.specs.OverChains.{certificate_outcome}
 use Rattle.re_step.specs.LabelNames.{label_names}
 use Rattle.re_closure_laws.proofs.Generated.{active_first, passive_first}
 use Rattle.re_closure_laws.proofs.Unique.{closure_unique_law, occurs_too}

@@ -2,8 +2,8 @@
 use Rattle.std.proofs.Common.{◌≡◌, ℕ, true, List, length, map, refl, sym, ap, ◌∙◌, ◌⊎◌, inl, inr, arith}
 use Rattle.re_algo.specs.Constructions.{top_places}
 use Rattle.re_cert.specs.Bounds.{Bound, last_problem}
-use Rattle.re_chain_steps.specs.RowForms.{by_rows}
-use Rattle.re_chain_texts.specs.OverChains.{certificate_outcome}
+use Rattle.re_shaping.specs.RowForms.{by_rows}
+use Rattle.re_chains.specs.OverChains.{certificate_outcome}
 use Rattle.re_problem.specs.NamedProblems.{NamedProblem, unnamed}
 use Rattle.re_problem.specs.Problems.{IsProblem, Problem}
 use Rattle.re_problem.specs.Steps.LowerMap.{by_row}

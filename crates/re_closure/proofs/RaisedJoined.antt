@@ -6,15 +6,15 @@ use Rattle.re_algo.specs.Constructions.{IsSeen, top_places}
 use Rattle.re_cert.specs.Bounds.{Bound, BoundStep, is_bound, is_by_row, last_problem, next_problems, one_form, renaming_fits, step_fits, steps_fit}
 use Rattle.re_cert.specs.declared.certificate.Kind.TheVariants.{Fixed}
 use Rattle.re_cert.specs.declared.certificate.TheConstants.{MAX_STEPS}
-use Rattle.re_chain.proofs.FirstSteps.{row_step-fits}
-use Rattle.re_chain_parts.specs.Chains.{IsOverProblems, IsSoundLower}
-use Rattle.re_chain_steps.proofs.RowForms.{next-same, step-form, steps-fit, steps-sound}
-use Rattle.re_chain_steps.specs.RowForms.{by_rows, step_by_rows}
+use Rattle.re_shaping.proofs.FirstSteps.{row_step-fits}
+use Rattle.re_chains.specs.Chains.{IsOverProblems, IsSoundLower}
+use Rattle.re_shaping.proofs.RowForms.{next-same, step-form, steps-fit, steps-sound}
+use Rattle.re_shaping.specs.RowForms.{by_rows, step_by_rows}
 use Rattle.re_check.proofs.Meaning.{named-last}
-use Rattle.re_clauses.proofs.StepMeaning.{lower_clauses}
-use Rattle.re_clauses.specs.Clauses.{step_fault}
-use Rattle.re_config.specs.declared.TheConstants.{MAX_ROWS}
-use Rattle.re_extend.specs.Extensions.{GoesOn}
+use Rattle.re_check.proofs.StepMeaning.{lower_clauses}
+use Rattle.re_check.specs.Clauses.{step_fault}
+use Rattle.re_labels.specs.declared.TheConstants.{MAX_ROWS}
+use Rattle.re_shaping.specs.Extensions.{GoesOn}
 use Rattle.re_labels.proofs.Membership.{AllByRecursion-from_contains, length-map'}
 use Rattle.re_labels.proofs.Tests.{and-true, true-and}
 use Rattle.re_labels.specs.declared.TheConstants.{MAX_LABELS}

@@ -3,10 +3,10 @@ use Rattle.std.proofs.Common.{◌≡◌, ℕ, suc, ◌<◌, Bool, true, false, c
 use Rattle.std.proofs.lemmas.List.{map-id}
 use Rattle.std.specs.List.{AllByRecursion}
 use Rattle.std.specs.Prelude.{Contains}
-use Rattle.re_config.proofs.Rearranging.{Rearranged-map}
-use Rattle.re_config.proofs.Sorting.{IsConfig-sorted, Rearranged-sorted, sorted_again}
-use Rattle.re_config.specs.Configs.{IsConfig, replaced, sorted}
-use Rattle.re_config.specs.Rows.{IsChoice, placed, set_at}
+use Rattle.re_labels.proofs.Rearranging.{Rearranged-map}
+use Rattle.re_labels.proofs.Sorting.{IsConfig-sorted, Rearranged-sorted, sorted_again}
+use Rattle.re_labels.specs.Configs.{IsConfig, replaced, sorted}
+use Rattle.re_labels.specs.Rows.{IsChoice, placed, set_at}
 use Rattle.re_labels.proofs.Membership.{AllByRecursion-contains, AllByRecursion-from_contains}
 use Rattle.re_labels.proofs.Tests.{eqb-true}
 use Rattle.re_labels.specs.Sets.{IsIn}

@@ -3,11 +3,11 @@ use Rattle.std.proofs.Common.{◌≡◌, ℕ, ◌<◌, ◌≤◌, List, [], ◌�
 use Rattle.std.specs.List.{AllByRecursion}
 use Rattle.std.specs.Prelude.{Contains}
 use Rattle.re_algo.specs.Constructions.{IsSeen, top_places}
-use Rattle.re_chain.proofs.DerivedRelaxations.{derived_relaxation}
-use Rattle.re_chain.proofs.ImagesOfRows.{all_seen, from_image, image-set, in_image, placed_top, row-sets, top, top_is}
-use Rattle.re_chain.proofs.RelaxedSteps.{relaxed-step}
-use Rattle.re_chain.specs.Relaxing.{row_image, set_image, top_image, top_images}
-use Rattle.re_config.proofs.Rearranging.{Contains-Rearranged, Rearranged-sym}
+use Rattle.re_shaping.proofs.DerivedRelaxations.{derived_relaxation}
+use Rattle.re_shaping.proofs.ImagesOfRows.{all_seen, from_image, image-set, in_image, placed_top, row-sets, top, top_is}
+use Rattle.re_shaping.proofs.RelaxedSteps.{relaxed-step}
+use Rattle.re_shaping.specs.Relaxing.{row_image, set_image, top_image, top_images}
+use Rattle.re_labels.proofs.Rearranging.{Contains-Rearranged, Rearranged-sym}
 use Rattle.re_labels.proofs.Membership.{AllByRecursion-contains, map-alike}
 use Rattle.re_labels.proofs.Places.{get-place_of, place_of-below}
 use Rattle.re_labels.specs.Lists.{place_of}

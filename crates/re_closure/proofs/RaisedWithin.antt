@@ -7,14 +7,14 @@ use Rattle.re_cert.proofs.FittingStates.{one_more}
 use Rattle.re_cert.specs.Bounds.{Bound, BoundStep, is_bound, last_problem, next_problems, step_fits, steps_fit}
 use Rattle.re_cert.specs.declared.certificate.Kind.TheVariants.{Fixed, Lower}
 use Rattle.re_cert.specs.declared.certificate.TheConstants.{MAX_STEPS}
-use Rattle.re_chain.proofs.FirstSteps.{relaxed-fits, relaxed-meets}
-use Rattle.re_chain.proofs.LastSteps.{chain_with-bound}
-use Rattle.re_chain.specs.Relaxing.{relaxed_limit}
-use Rattle.re_chain_parts.specs.Chains.{IsOverProblems, IsSound, IsSoundLower}
-use Rattle.re_chain_steps.specs.RowForms.{step_by_rows}
+use Rattle.re_shaping.proofs.FirstSteps.{relaxed-fits, relaxed-meets}
+use Rattle.re_shaping.proofs.LastSteps.{chain_with-bound}
+use Rattle.re_shaping.specs.Relaxing.{relaxed_limit}
+use Rattle.re_chains.specs.Chains.{IsOverProblems, IsSound, IsSoundLower}
+use Rattle.re_shaping.specs.RowForms.{step_by_rows}
 use Rattle.re_check.proofs.Meaning.{named-last}
-use Rattle.re_clauses.specs.Clauses.{step_fault}
-use Rattle.re_config.specs.Configs.{IsConfig, image_at}
+use Rattle.re_check.specs.Clauses.{step_fault}
+use Rattle.re_labels.specs.Configs.{IsConfig, image_at}
 use Rattle.re_frame.specs.Outcomes.{Outcome}
 use Rattle.re_labels.proofs.Membership.{AllByRecursion-contains, get_or-count_from, length-map'}
 use Rattle.re_labels.proofs.Tests.{and-true, true-and}
@@ -23,7 +23,7 @@ use Rattle.re_problem.specs.NamedProblems.{IsNamedProblem, NamedProblem, unnamed
 use Rattle.re_problem.specs.Steps.{IsRelaxed}
 use Rattle.re_problem.specs.Zero.{zero_place}
 use Rattle.re_table.specs.Constraints.{Constraint, Has, IsConstraint}
-use Rattle.re_tree.proofs.Paths.{fits-more, valid-more}
+use Rattle.re_search.proofs.Paths.{fits-more, valid-more}
 use Rattle.re_closure.proofs.Joined.{IsLonger, is_formed, one_form-of}
 use Rattle.re_closure.proofs.RaisedJoined.{written_begun}
 use Rattle.re_closure.proofs.RaisedProblems.{raised-named, raised-relaxed}

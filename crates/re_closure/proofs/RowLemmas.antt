@@ -12,8 +12,8 @@ use Rattle.std.proofs.lemmas.List.{get_or_default}
 use Rattle.std.proofs.lemmas.List.Elements.{Contains-append_cases, Contains-append_left, Contains-append_right, Contains-get_or}
 use Rattle.std.proofs.lemmas.List.MinMax.{ranks_by}
 use Rattle.std.proofs.lemmas.List.Sorted.{Contains-permutation, IsPermutation-sym, length_permutation}
-use Rattle.re_config.proofs.Rows.{AreSets, as_row}
-use Rattle.re_config.specs.Rows.{IsRow, in_order, is_full, row_cmp, row_of}
+use Rattle.re_labels.proofs.Rows.{AreSets, as_row}
+use Rattle.re_labels.specs.Rows.{IsRow, in_order, is_full, row_cmp, row_of}
 use Rattle.re_labels.proofs.Before.{IsBefore-trans, slice_cmp-same, three_orders}
 use Rattle.re_labels.proofs.Membership.{AllByRecursion-weaker, Contains-In, Contains-cases, Contains-here, Contains-later, Contains-map, Contains-map_cases, Contains-none, In, In-Contains, length-map'}
 use Rattle.re_labels.proofs.Places.{get-place_of, place_of-below}
@@ -25,7 +25,7 @@ use Rattle.re_labels.specs.declared.TheConstants.{MAX_LABELS}
 use Rattle.re_table.proofs.MaxRows.{rising-max_rows}
 use Rattle.re_table.specs.GoodRows.{max_rows}
 use Rattle.re_boxes.proofs.Spread.{IsIn-filled}
-use Rattle.re_strength.specs.Ordering.{is_row_before}
+use Rattle.re_boxes.specs.Ordering.{is_row_before}
 use Rattle.re_problem.specs.Problems.{IsProblem, Problem}
 use Rattle.re_closure_laws.proofs.FirstSteps.{of_maximal}
 use Rattle.re_closure_laws.proofs.Generated.{closure_families_law}

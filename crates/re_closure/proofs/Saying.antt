@@ -7,18 +7,18 @@ use Rattle.re_problem.specs.declared.fault.InputFault.{InputFault}
 use Rattle.re_cert.specs.Bounds.{Bound, last_problem}
 use Rattle.re_cert.specs.declared.certificate.Kind.{Kind}
 use Rattle.re_cert.specs.declared.certificate.Kind.TheVariants.{Fixed, Lower, Upper}
-use Rattle.re_chain_steps.specs.Stepped.{stepped, stepping_fault}
-use Rattle.re_chain_steps.specs.declared.stepping.ChainStepFault.{ChainStepFault}
-use Rattle.re_chain_steps.specs.declared.stepping.ChainStepFault.TheVariants as chain_step_fault
-use Rattle.re_chain_texts.specs.ChainTexts.{chain_fault, text_chain}
-use Rattle.re_chain_texts.specs.OverChains.{steps_refusal}
+use Rattle.re_shaping.specs.Stepped.{stepped, stepping_fault}
+use Rattle.re_shaping.specs.declared.stepping.ChainStepFault.{ChainStepFault}
+use Rattle.re_shaping.specs.declared.stepping.ChainStepFault.TheVariants as chain_step_fault
+use Rattle.re_chains.specs.ChainTexts.{chain_fault, text_chain}
+use Rattle.re_chains.specs.OverChains.{steps_refusal}
 use Rattle.re_check.specs.declared.verdict.Verdict.{Verdict}
-use Rattle.re_chain_texts.proofs.WordsGiven.{certificate_says}
+use Rattle.re_chains.proofs.WordsGiven.{certificate_says}
 use Rattle.re_frame.proofs.Said.{check_says, fault_says, says_as}
 use Rattle.re_frame.specs.Outcomes.{Outcome}
 use Rattle.re_frame.specs.Runs.{MaySay}
 use Rattle.re_closure.specs.declared.answering.ClosureWord.{ClosureWord}
-use Rattle.re_chain.specs.Relaxing.{relaxed_limit}
+use Rattle.re_shaping.specs.Relaxing.{relaxed_limit}
 use Rattle.re_closure.specs.ClosureWords.{IsClosureLine, IsRaisedLine, MayFind, MayFindBehind, MayFindBy, MayFindRaised, MayFindRaisedBehind, MayFindRaisedWithin, MayFindWithin, MayGive, MayGiveAt, MayGiveBy, MayGiveRead, MayGiveSound, MayGoOn, MayGoOnRaised, MayStep, stop_outcome}
 use Rattle.re_closure.specs.DiagramTexts.{diagram_edges, diagram_fault, front_chain, has_diagram}
 use Rattle.re_closure.specs.Diagrams.{raised}

@@ -3,8 +3,8 @@ use Rattle.std.proofs.Common.{◌≡◌, ◌<◌, ◌-◌, ℕ, zero, suc, List,
 use Rattle.re_problem.specs.NamedProblems.{unnamed}
 use Rattle.re_problem.specs.Zero.{zero_place}
 use Rattle.re_cert.specs.Bounds.{Bound, last_problem}
-use Rattle.re_chain_steps.specs.Stepped.{stepped, stepping_fault}
-use Rattle.re_chain_steps.specs.declared.stepping.ChainStepFault.{ChainStepFault}
+use Rattle.re_shaping.specs.Stepped.{stepped, stepping_fault}
+use Rattle.re_shaping.specs.declared.stepping.ChainStepFault.{ChainStepFault}
 use Rattle.re_closure.specs.Closures.{HasRoom, IsSolvableBy}
 use Rattle.re_closure.specs.ClosureWords.{IsClosureLine, IsFound, IsLimitLine, MayFindBehind, MayFindWithin, MayGoOn, MayStep, stop_outcome}
 use Rattle.re_frame.specs.Outcomes.{Outcome, refused}

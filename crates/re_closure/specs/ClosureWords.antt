@@ -9,15 +9,15 @@ use Rattle.re_cert.specs.Bounds.{Bound, last_problem}
 use Rattle.re_cert.specs.declared.certificate.TheConstants.{MAX_STEPS}
 use Rattle.re_cert.specs.declared.certificate.Kind.{Kind}
 use Rattle.re_cert.specs.declared.certificate.Kind.TheVariants.{Upper}
-use Rattle.re_items.specs.Numerals.{number_of}
-use Rattle.re_chain_steps.specs.RowForms.{by_rows}
-use Rattle.re_chain_steps.specs.Stepped.{stepped, stepping_fault}
-use Rattle.re_chain_steps.specs.declared.stepping.ChainStepFault.{ChainStepFault}
-use Rattle.re_chain_steps.specs.declared.stepping.ChainStepFault.TheVariants as chain_step_fault
-use Rattle.re_chain_texts.specs.ChainTexts.{chain_fault, text_chain}
-use Rattle.re_chain_texts.specs.OverChains.{GivesText, certificate_outcome, steps_refusal}
+use Rattle.re_problem.specs.Numerals.{number_of}
+use Rattle.re_shaping.specs.RowForms.{by_rows}
+use Rattle.re_shaping.specs.Stepped.{stepped, stepping_fault}
+use Rattle.re_shaping.specs.declared.stepping.ChainStepFault.{ChainStepFault}
+use Rattle.re_shaping.specs.declared.stepping.ChainStepFault.TheVariants as chain_step_fault
+use Rattle.re_chains.specs.ChainTexts.{chain_fault, text_chain}
+use Rattle.re_chains.specs.OverChains.{GivesText, certificate_outcome, steps_refusal}
 use Rattle.re_check.specs.declared.verdict.Verdict.{Verdict}
-use Rattle.re_chain.specs.Relaxing.{relaxed_limit}
+use Rattle.re_shaping.specs.Relaxing.{relaxed_limit}
 use Rattle.re_closure.specs.Closures.{HasRoom, IsClosed, IsSolvableBy, LimitIs}
 use Rattle.re_closure.specs.DiagramTexts.{diagram_edges, diagram_fault, front_chain, has_diagram}
 use Rattle.re_closure.specs.Diagrams.{raised}

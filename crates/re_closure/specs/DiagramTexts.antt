@@ -2,16 +2,16 @@
 use Rattle.std.specs.Prelude.{◌≡◌, ℕ, ◌+◌, ◌<◌, Bool, ◌||◌, List, [], ◌∷◌, ◌++◌, codes, flat_map, is_none, length, option_map, if◌then◌else◌, Option, None, Some, Result, Ok, Err}
 use Rattle.std.specs.List.{AllByRecursion}
 use Rattle.re_cert.specs.Bounds.{Bound, last_problem}
-use Rattle.re_chain_texts.specs.ChainTexts.{chain_fault, text_chain}
-use Rattle.re_items.specs.Bytes.{bad_byte, is_empty_line}
+use Rattle.re_chains.specs.ChainTexts.{chain_fault, text_chain}
+use Rattle.re_problem.specs.Bytes.{bad_byte, is_empty_line}
 use Rattle.re_problem.specs.ProblemTexts.{byte_fault, bytes_of, fault_if, or_else}
 use Rattle.re_problem.specs.declared.fault.InputFault.{InputFault}
 use Rattle.re_problem.specs.declared.fault.InputFault.TheVariants.{BadEntry, BadItem, BadSection}
 use Rattle.re_problem.specs.declared.fault.TextFault.{TextFault}
 use Rattle.re_problem.specs.declared.fault.TextFault.TheVariants.{Bad, NoMemory}
-use Rattle.re_sections.specs.Pairs.{ItemPair, label_held, pair_on}
-use Rattle.re_sections.specs.SectionLines.{is_section}
-use Rattle.re_two_texts.specs.TwoTexts.{at_line, front_text, has_line, lines_behind, lines_to}
+use Rattle.re_problem.specs.Pairs.{ItemPair, label_held, pair_on}
+use Rattle.re_problem.specs.SectionLines.{is_section}
+use Rattle.re_chains.specs.TwoTexts.{at_line, front_text, has_line, lines_behind, lines_to}
 use Rattle.re_closure.specs.declared.reading.DiagramText.{DiagramText}
 
 abbrev pub has_diagram : List ℕ → Bool

@@ -6,8 +6,8 @@ use Rattle.re_problem.specs.declared.fault.InputFault.{InputFault}
 use Rattle.re_cert.specs.Bounds.{Bound}
 use Rattle.re_cert.specs.declared.certificate.Kind.{Kind}
 use Rattle.re_cert.specs.declared.certificate.Kind.TheVariants.{Fixed, Upper}
-use Rattle.re_chain_steps.specs.Stepped.{stepped, stepping_fault}
-use Rattle.re_chain_texts.specs.OverChains.{steps_refusal}
+use Rattle.re_shaping.specs.Stepped.{stepped, stepping_fault}
+use Rattle.re_chains.specs.OverChains.{steps_refusal}
 use Rattle.re_check.specs.declared.verdict.Verdict.{Verdict}
 use Rattle.re_fit.specs.InputProblems.{input_fault}
 use Rattle.re_fit.specs.declared.inputs.InputFault.{InputFault as NoInput}
@@ -20,8 +20,8 @@ use Rattle.re_given_words.specs.Extensions.{GoesOnGiven, IsTaken}
 use Rattle.re_given_words.specs.InputFaults.{fault_line}
 use Rattle.re_given_words.specs.Verdicts.{given_outcome}
 use Rattle.re_given_words.specs.declared.words.BoundWord.TheVariants.{Given}
-use Rattle.re_two_texts.specs.GivenTexts.{GivesBoth, given_text_outcome}
-use Rattle.re_two_texts.specs.TwoTexts.{back_problem, front_chain, has_line, two_fault}
+use Rattle.re_chains.specs.GivenTexts.{GivesBoth, given_text_outcome}
+use Rattle.re_chains.specs.TwoTexts.{back_problem, front_chain, has_line, two_fault}
 use Rattle.re_closure.specs.Closures.{HasRoom, IsClosed}
 use Rattle.re_closure.specs.ClosureWords.{IsClosureLine, IsLimitLine, MayGive, MayStep}
 use Rattle.re_closure.specs.DiagramTexts.{has_diagram}

@@ -5,8 +5,8 @@ use Rattle.re_table.specs.declared.constraint_table.TheConstants.{MAX_CONFIGURAT
 use Rattle.re_problem.specs.Problems.{Problem}
 use Rattle.re_closure_laws.specs.Closures.{AreClosure}
 use Rattle.re_closure_laws.specs.Lines.{Family, below}
-use Rattle.re_closure_lines.specs.ProblemFamilies.{HasManySide, HasManySideCombinations}
-use Rattle.re_config.specs.declared.TheConstants.{MAX_ROWS}
+use Rattle.re_closure.specs.ProblemFamilies.{HasManySide, HasManySideCombinations}
+use Rattle.re_labels.specs.declared.TheConstants.{MAX_ROWS}
 use Rattle.re_closure.specs.declared.types.ClosureLimit.{ClosureLimit}
 use Rattle.re_closure.specs.declared.types.ClosureLimit.TheVariants.{Combinations, Configurations, Labels, Rows, Steps}
 

@@ -4,12 +4,12 @@ use Rattle.re_algo.specs.Constructions.{top_places}
 use Rattle.re_cert.specs.Bounds.{Bound, BoundStep, last_problem}
 use Rattle.re_cert.specs.declared.certificate.Kind.TheVariants.{Fixed, Lower}
 use Rattle.re_cert.specs.declared.certificate.TheConstants.{MAX_STEPS}
-use Rattle.re_chain.specs.Relaxing.{relaxed_step}
-use Rattle.re_chain_parts.specs.Chains.{chain_with}
-use Rattle.re_chain_steps.specs.RowForms.{by_rows}
-use Rattle.re_config.specs.Configs.{image_at}
-use Rattle.re_config.specs.declared.TheConstants.{MAX_ROWS}
-use Rattle.re_extend.specs.Extensions.{GoesOn}
+use Rattle.re_shaping.specs.Relaxing.{relaxed_step}
+use Rattle.re_chains.specs.Chains.{chain_with}
+use Rattle.re_shaping.specs.RowForms.{by_rows}
+use Rattle.re_labels.specs.Configs.{image_at}
+use Rattle.re_labels.specs.declared.TheConstants.{MAX_ROWS}
+use Rattle.re_shaping.specs.Extensions.{GoesOn}
 use Rattle.re_labels.specs.Lists.{count_from}
 use Rattle.re_labels.specs.declared.TheConstants.{MAX_LABELS}
 use Rattle.re_problem.specs.NamedProblems.{NamedProblem, unnamed}

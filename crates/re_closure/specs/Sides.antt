@@ -3,8 +3,8 @@ use Rattle.std.specs.Prelude.{◌≡◌, ℕ, suc, ◌≤◌, Bool, true, List, 
 use Rattle.std.specs.declared.cmp.Ordering.TheVariants.{Less}
 use Rattle.re_labels.specs.Lists.{count_from}
 use Rattle.re_labels.specs.Sets.{within}
-use Rattle.re_config.specs.Rows.{row_cmp, set_at}
-use Rattle.re_config.specs.declared.TheConstants.{MAX_ROWS}
+use Rattle.re_labels.specs.Rows.{row_cmp, set_at}
+use Rattle.re_labels.specs.declared.TheConstants.{MAX_ROWS}
 use Rattle.re_table.specs.Constraints.{Constraint}
 use Rattle.re_table.specs.GoodRows.{max_rows, max_sets}
 use Rattle.re_problem.specs.NamedProblems.{NamedProblem, unnamed}
@@ -14,7 +14,7 @@ use Rattle.re_problem.specs.Steps.LowerMap.{by_set}
 use Rattle.re_cert.specs.Bounds.{Bound, BoundStep, has_row_maps, last_problem}
 use Rattle.re_cert.specs.declared.certificate.Kind.TheVariants.{Fixed}
 use Rattle.re_step.specs.LabelNames.{label_names}
-use Rattle.re_chain_steps.specs.RowForms.{step_by_rows}
+use Rattle.re_shaping.specs.RowForms.{step_by_rows}
 use Rattle.re_closure_laws.specs.Lines.{Family, below, entries_to, entries_within, topmost}
 use Rattle.re_closure.specs.declared.types.StepMap.{StepMap}
 

@@ -1,14 +1,14 @@
 //! The word, and what it answers.
 ghost use Rattle.re_cert.specs.Bounds.{Bound, last_problem};
-ghost use Rattle.re_chain_parts.specs.HeldBounds.{held_bound};
-ghost use Rattle.re_chain_texts.specs.ChainTexts.{chain_fault, text_chain};
-ghost use Rattle.re_chain_texts.specs.OverChains.{IsJudged, steps_refusal};
+ghost use Rattle.re_chains.specs.HeldBounds.{held_bound};
+ghost use Rattle.re_chains.specs.ChainTexts.{chain_fault, text_chain};
+ghost use Rattle.re_chains.specs.OverChains.{IsJudged, steps_refusal};
 ghost use Rattle.re_closure.specs.ClosureWords.{MayFindWithin, MayGive, MayGiveRead, MayGiveSound, closure_help, closure_with, closure_word_of, stop_outcome};
 ghost use Rattle.re_closure.specs.DiagramTexts.{AreEdges, diagram_edges, diagram_fault, front_chain};
 ghost use Rattle.re_closure.specs.GivenClosures.{MayGiveText, has_input};
 ghost use Rattle.re_frame.specs.Outcomes.{outcome_of};
 ghost use Rattle.re_io.specs.declared.read.TheConstants.{MAX_BYTES};
-ghost use Rattle.re_two_texts.specs.TwoTexts.{IsCut};
+ghost use Rattle.re_chains.specs.TwoTexts.{IsCut};
 ghost use Rattle.std.specs.Prelude.{◌≡◌, ◌<◌, ◌≤◌, ◌+◌, ℕ, Err, IfOk, List, None, Some, codes, length, map, string_bytes};
 
 use crate::given::given_output;
@@ -16,19 +16,18 @@ use crate::limit_lines::{limit_output, solvable_closure};
 use crate::raised_output::raised_output;
 use crate::reading::{DiagramText, read_diagram};
 use crate::{Closing, ClosureFault, ClosureLimit, find_closure};
-use re_chain_parts::{Chain, LowerChain};
-use re_chain_steps::{ChainStepFault, step_lower};
-use re_chain_texts::{certificate_output, judged_chain, read_chain};
+use re_chains::{
+    Chain, Cut, LowerChain, certificate_output, cut_at, has_line, judged_chain, read_chain,
+};
 use re_check::Verdict;
 use re_frame::{
     Finding, Output, fault_output, limit_output as step_limit_output, not_lower_output,
     solvable_output, verdict_output,
 };
 use re_given_words::GIVEN;
-use re_items::read_number;
 use re_labels::NoMemory;
-use re_problem::TextFault;
-use re_two_texts::{Cut, cut_at, has_line};
+use re_problem::{TextFault, read_number};
+use re_shaping::{ChainStepFault, step_lower};
 use std::alloc::Global;
 
 /// The most steps by which the word goes on where a closure is solvable without communication.

@@ -1,14 +1,14 @@
 //! Certificates of a chain, a step to the problem between, and the steps to a closure and back.
 ghost use Rattle.re_cert.specs.Bounds.{is_bound};
 ghost use Rattle.re_closure.specs.Closed.{made_bound};
-ghost use Rattle.re_entry_clauses.specs.StepClauses.{HasRowSets};
+ghost use Rattle.re_check.specs.StepClauses.{HasRowSets};
 ghost use Rattle.re_labels.specs.Lists.{count_from};
 ghost use Rattle.std.specs.Prelude.{◌≡◌, IfOk, map, true};
 
 use crate::closure::Closure;
 use crate::stepping::step_with;
 use re_cert::{Certificate, Kind, Step};
-use re_chain_parts::copied_steps;
+use re_chains::copied_steps;
 use re_labels::NoMemory;
 use std::alloc::Global;
 

@@ -2,24 +2,25 @@
 ghost use Rattle.re_closure.specs.Closed.{Computes, IsClosureOf, IsSide, SidePasses};
 ghost use Rattle.re_closure.specs.Limits.{PassesLimit};
 ghost use Rattle.re_closure.specs.Sides.{family_of};
-ghost use Rattle.re_config.specs.declared.TheConstants.{MAX_ROWS};
+ghost use Rattle.re_labels.specs.declared.TheConstants.{MAX_ROWS};
 ghost use Rattle.re_closure_laws.specs.Closures.{AreClosure};
 ghost use Rattle.re_closure_laws.specs.Lines.{AreApart, IsFamily, others};
 ghost use Rattle.re_problem.specs.NamedProblems.{IsNamedProblem, unnamed};
 ghost use Rattle.re_step.specs.LabelNames.{label_names};
-ghost use Rattle.re_closure_lines.specs.ProblemFamilies.{active_family, passive_family};
+ghost use Rattle.re_closure.specs.ProblemFamilies.{active_family, passive_family};
 ghost use Rattle.std.specs.Prelude.{◌≡◌, ◌≤◌, Err, IfOk, length, map};
 
 use crate::constraints::{below_of, topmost_of};
+use crate::families::{Families, closure_families, others_of};
+use crate::line::SetLine;
 use crate::occurring::map_of;
 use crate::rows::maximal_of;
 use crate::sets::all_within;
+use crate::topmost::LinesFault;
 use crate::types::{ClosureFault, ClosureLimit, StepMap};
-use re_closure_lines::{Families, LinesFault, SetLine, closure_families, others_of};
-use re_exist::AllowedFault;
 use re_labels::{LabelSet, MAX_LABELS, NoMemory};
 use re_problem::Problem;
-use re_step::names_of;
+use re_step::{AllowedFault, names_of};
 use re_table::Constraint;
 use std::alloc::Global;
 

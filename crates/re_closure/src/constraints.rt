@@ -1,19 +1,17 @@
 //! The constraints of one side of a closure.
 ghost use Rattle.re_closure.specs.Sides.{family_of};
-ghost use Rattle.re_config.specs.Configs.{sorted};
-ghost use Rattle.re_config.specs.declared.TheConstants.{MAX_ROWS};
+ghost use Rattle.re_labels.specs.Configs.{sorted};
+ghost use Rattle.re_labels.specs.declared.TheConstants.{MAX_ROWS};
 ghost use Rattle.re_labels.specs.Lists.{place_of};
 ghost use Rattle.re_closure_laws.specs.Lines.{IsFamily, below, topmost};
 ghost use Rattle.re_table.specs.declared.constraint_table.TheConstants.{MAX_CONFIGURATIONS};
 ghost use Rattle.std.specs.Prelude.{◌≡◌, ◌<◌, ◌≤◌, Contains, IfOk, IsErrOf, List, length, map, ℕ};
 
+use crate::line::SetLine;
 use crate::sets::all_around;
 use arrayvec::ArrayVec;
-use re_closure_lines::SetLine;
-use re_config::Config;
-use re_exist::{AllowedFault, allowed};
-use re_labels::{LabelSet, MAX_LABELS, NoMemory};
-use re_step::place_of;
+use re_labels::{Config, LabelSet, MAX_LABELS, NoMemory};
+use re_step::{AllowedFault, allowed, place_of};
 use re_table::{Constraint, InsertFault};
 use std::alloc::Global;
 
@@ -64,7 +62,7 @@ pub(crate) fn topmost_of(
     Ok(configs)
 }
 
-/// The constraint of all that lies below the lines, of which the topmost constraint is given. It costs what `re_exist::allowed` costs.
+/// The constraint of all that lies below the lines, of which the topmost constraint is given. It costs what `re_step::allowed` costs.
 pub(crate) fn below_of(
     alloc: Global,
     top: &Constraint,

@@ -2,7 +2,7 @@
 ghost use Rattle.re_closure.specs.DiagramTexts.{AreEdges};
 ghost use Rattle.re_closure.specs.Diagrams.{all_below, raised, with_lower};
 ghost use Rattle.re_closure.specs.declared.types.ClosureLimit.TheVariants.{Configurations};
-ghost use Rattle.re_config.specs.Rows.{set_at};
+ghost use Rattle.re_labels.specs.Rows.{set_at};
 ghost use Rattle.re_labels.specs.Lists.{count_from};
 ghost use Rattle.re_labels.specs.declared.TheConstants.{MAX_LABELS};
 ghost use Rattle.re_table.specs.declared.constraint_table.TheConstants.{MAX_CONFIGURATIONS};
@@ -10,9 +10,9 @@ ghost use Rattle.std.specs.Prelude.{◌≡◌, ◌<◌, ◌≤◌, ◌∷◌, []
 
 use crate::types::{ClosureFault, ClosureLimit};
 use arrayvec::ArrayVec;
-use re_exist::{AllowedFault, allowed};
 use re_labels::LabelSet;
 use re_problem::Problem;
+use re_step::{AllowedFault, allowed};
 use std::alloc::Global;
 
 // Each label alone.
@@ -63,7 +63,7 @@ fn all_below(edges: &[(u8, u8)], labels: u8) -> ArrayVec<LabelSet, 128>
 }
 
 /// The problem in which around passive nodes each label may stand for each one below it, in the least order that holds the edges; or the
-/// limit of its passive configurations. With n labels it costs n for each edge, and that of `re_exist::allowed`.
+/// limit of its passive configurations. With n labels it costs n for each edge, and that of `re_step::allowed`.
 pub(crate) fn raised(
     alloc: Global,
     problem: &Problem,

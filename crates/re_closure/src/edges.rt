@@ -1,16 +1,17 @@
 //! The lines of a diagram.
 ghost use Rattle.re_closure.specs.DiagramTexts.{AreEdgesOf, EdgeGives, EdgesRefuse, TakesLine, edge_held};
 ghost use Rattle.re_io.specs.declared.read.TheConstants.{MAX_BYTES};
-ghost use Rattle.re_items.specs.Items.{ItemText};
-ghost use Rattle.re_items.specs.Steps.{StandsOn};
+ghost use Rattle.re_problem.specs.Items.{ItemText};
+ghost use Rattle.re_problem.specs.ItemSteps.{StandsOn};
 ghost use Rattle.re_problem.specs.ProblemTexts.{lines_of};
-ghost use Rattle.re_sections.specs.Readings.{ReadsItem};
+ghost use Rattle.re_problem.specs.Readings.{ReadsItem};
 ghost use Rattle.std.specs.Prelude.{◌≡◌, ◌<◌, ◌≤◌, ◌+◌, IfErr, IfOk, IfSome, length};
 
-use re_items::{Item, first_bad_byte, is_empty_line};
 use re_labels::Names;
-use re_problem::{InputFault, TextFault, cut_line};
-use re_sections::{begins_section, read_label, read_pair};
+use re_problem::{
+    InputFault, Item, TextFault, begins_section, cut_line, first_bad_byte, is_empty_line,
+    read_label, read_pair,
+};
 use std::alloc::Global;
 
 // The edge between the labels of two items, or None exactly where one of them isn't known.

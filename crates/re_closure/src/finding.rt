@@ -3,8 +3,8 @@ ghost use Rattle.re_cert.specs.Bounds.{has_row_maps as have_row_maps, last_probl
 ghost use Rattle.re_closure.specs.Closed.{IsClosureOf};
 ghost use Rattle.re_closure.specs.Closures.{Answers, HasRoom, IsClosed, IsSolvableBy, LimitIs};
 ghost use Rattle.re_closure.specs.Sides.{IsMapOf};
-ghost use Rattle.re_config.specs.Rows.{placed, set_at};
-ghost use Rattle.re_config.specs.declared.TheConstants.{MAX_ROWS};
+ghost use Rattle.re_labels.specs.Rows.{placed, set_at};
+ghost use Rattle.re_labels.specs.declared.TheConstants.{MAX_ROWS};
 ghost use Rattle.re_labels.specs.Lists.{place_of};
 ghost use Rattle.re_problem.specs.NamedProblems.{unnamed};
 ghost use Rattle.re_problem.specs.Zero.{zero_place};
@@ -13,17 +13,15 @@ ghost use Rattle.std.specs.Prelude.{◌≡◌, ◌≤◌, Err, IfOk, None, Some,
 
 use crate::certificates::certificate_by;
 use crate::closure::{Closure, closure_of};
+use crate::families::set_at;
 use crate::occurring::map_of;
 use crate::stepping::step_with;
 use crate::types::{Closing, ClosureFault, ClosureLimit, StepMap};
 use re_cert::{Certificate, MAX_STEPS};
-use re_chain_parts::{LowerChain, have_row_maps, over_problems};
-use re_closure_lines::set_at;
-use re_config::Row;
-use re_labels::{LabelSet, MAX_LABELS, NoMemory};
-use re_problem::Problem;
-use re_universal::{RowsFault, maximal_rows};
-use re_zero::zero_round;
+use re_chains::{LowerChain, have_row_maps, over_problems};
+use re_labels::{LabelSet, MAX_LABELS, NoMemory, Row};
+use re_problem::{Problem, zero_round};
+use re_step::{RowsFault, maximal_rows};
 use std::alloc::Global;
 
 /// How many steps lead to the closure and back.
@@ -121,7 +119,7 @@ fn closed(alloc: Global, chain: &LowerChain) -> Result<Closing, ClosureFault>
 /// The answer is `Solvable` exactly where the last problem is solvable without communication. Else the first limit that is passed is
 /// refused: of steps; of rows or of combinations, on the way to the closure; of labels; of configurations; and then the answer is `SolvableClosure` exactly
 /// where the closure is solvable without communication, and else `Found`: such a certificate comes of each problem whose closure passes
-/// no limit. The cost is that of `re_closure_lines::closure_families`, of `re_exist::allowed` for both sides, and of `re_universal::maximal_rows`
+/// no limit. The cost is that of `re_closure::closure_families`, of `re_step::allowed` for both sides, and of `re_step::maximal_rows`
 /// for the last problem.
 pub fn find_closure(alloc: Global, chain: &LowerChain) -> Result<Closing, ClosureFault>
     ensures answers { IfOk result (Answers chain.now.certificate) }

@@ -1,28 +1,28 @@
 //! What the word gives where a solution of an input problem is given.
 ghost use Rattle.re_cert.specs.Bounds.{Bound};
-ghost use Rattle.re_chain_texts.specs.OverChains.{IsJudged, steps_refusal};
+ghost use Rattle.re_chains.specs.OverChains.{IsJudged, steps_refusal};
 ghost use Rattle.re_closure.specs.Closures.{HasRoom, IsClosed};
 ghost use Rattle.re_closure.specs.GivenClosures.{Closes, Declines, MayFindGivenWithin, MayGiveGiven, MayGiveGivenSound};
 ghost use Rattle.re_frame.specs.Outcomes.{outcome_of};
 ghost use Rattle.re_given_words.specs.Extensions.{IsTaken};
 ghost use Rattle.re_io.specs.declared.read.TheConstants.{MAX_BYTES};
-ghost use Rattle.re_two_texts.specs.TwoTexts.{has_line};
+ghost use Rattle.re_chains.specs.TwoTexts.{has_line};
 ghost use Rattle.std.specs.Prelude.{◌≡◌, ◌≤◌, IfOk, codes, length, true};
 
 use crate::answering::{ClosureWord, stop_output};
 use crate::limit_lines::{limit_output, solvable_closure};
 use crate::{Closing, ClosureFault, find_closure};
 use re_cert::Certificate;
-use re_chain_parts::{Chain, LowerChain, over_problems};
-use re_chain_steps::step_lower;
-use re_chain_texts::judged_chain;
+use re_chains::{
+    Chain, LowerChain, TwoTexts, judged_chain, over_problems, print_given, read_chain_two,
+};
 use re_check::Verdict;
 use re_fit::input_fault;
 use re_frame::{Output, fault_output, not_lower_output, verdict_output};
 use re_given_words::{GIVEN, answer_law, given_verdict, input_fault_output, is_done, taken_law};
 use re_labels::NoMemory;
 use re_problem::{Problem, TextFault};
-use re_two_texts::{TwoTexts, print_given, read_chain_two};
+use re_shaping::step_lower;
 use std::alloc::Global;
 
 /// What is said of a chain without a further step.

@@ -1,10 +1,10 @@
 //! What the word gives to a chain with a diagram.
 ghost use Rattle.re_cert.specs.Bounds.{is_bound, last_problem};
 ghost use Rattle.re_cert.specs.declared.certificate.Kind.TheVariants.{Lower};
-ghost use Rattle.re_chain.specs.Relaxing.{relaxed_limit};
-ghost use Rattle.re_chain_parts.specs.Chains.{chain_with};
-ghost use Rattle.re_chain_steps.specs.declared.stepping.ChainStepFault.TheVariants as why;
-ghost use Rattle.re_chain_steps.specs.declared.stepping.ChainStepFault.{ChainStepFault as WhyNoStep};
+ghost use Rattle.re_shaping.specs.Relaxing.{relaxed_limit};
+ghost use Rattle.re_chains.specs.Chains.{chain_with};
+ghost use Rattle.re_shaping.specs.declared.stepping.ChainStepFault.TheVariants as why;
+ghost use Rattle.re_shaping.specs.declared.stepping.ChainStepFault.{ChainStepFault as WhyNoStep};
 ghost use Rattle.re_closure.specs.Closures.{HasRoom};
 ghost use Rattle.re_closure.specs.ClosureWords.{MayFindRaisedWithin};
 ghost use Rattle.re_closure.specs.DiagramTexts.{AreEdges};
@@ -23,13 +23,11 @@ use crate::raising::find_raised;
 use crate::types::{Closing, ClosureFault};
 use arrayvec::ArrayVec;
 use re_cert::{Certificate, Kind, Step};
-use re_chain::relaxed_step;
-use re_chain_parts::{LowerChain, copied_steps, over_problems};
-use re_chain_steps::{ChainStepFault, by_rows};
-use re_chain_texts::certificate_output;
+use re_chains::{LowerChain, certificate_output, copied_steps, over_problems};
 use re_frame::{Output, solvable_output};
 use re_labels::NoMemory;
 use re_problem::Problem;
+use re_shaping::{ChainStepFault, by_rows, relaxed_step};
 use re_step::StepFault;
 use std::alloc::Global;
 

@@ -7,7 +7,7 @@ ghost use Rattle.re_closure.specs.DiagramTexts.{AreEdges};
 ghost use Rattle.re_closure.specs.Diagrams.{raised};
 ghost use Rattle.re_closure.specs.RaisedClosures.{IsRaisedClosed, MayRise, RaisedAnswers, RaisedLimitIs};
 ghost use Rattle.re_closure.specs.declared.types.ClosureLimit.TheVariants.{Rows};
-ghost use Rattle.re_config.specs.declared.TheConstants.{MAX_ROWS};
+ghost use Rattle.re_labels.specs.declared.TheConstants.{MAX_ROWS};
 ghost use Rattle.re_labels.specs.declared.TheConstants.{MAX_LABELS};
 ghost use Rattle.re_problem.specs.NamedProblems.{unnamed};
 ghost use Rattle.re_problem.specs.Steps.LowerMap.{by_row};
@@ -23,14 +23,11 @@ use crate::diagrams::raised;
 use crate::finding::{CLOSURE_STEPS, fit_at, rows_of};
 use crate::types::{Closing, ClosureFault, ClosureLimit};
 use re_cert::{Certificate, LowerMap, MAX_STEPS, RowImage, Step, StepParts};
-use re_chain::top_labels;
-use re_chain_parts::{LowerChain, over_problems};
-use re_chain_steps::by_rows;
-use re_config::Row;
-use re_labels::{LabelSet, NoMemory};
-use re_problem::Problem;
-use re_universal::{RowsFault, maximal_rows};
-use re_zero::zero_round;
+use re_chains::{LowerChain, over_problems};
+use re_labels::{LabelSet, NoMemory, Row};
+use re_problem::{Problem, zero_round};
+use re_shaping::{by_rows, top_labels};
+use re_step::{RowsFault, maximal_rows};
 use std::alloc::Global;
 
 // The maximal rows of the problem, or the limit that they are too many.

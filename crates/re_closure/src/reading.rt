@@ -3,14 +3,13 @@ ghost use Rattle.re_cert.specs.Bounds.{last_problem};
 ghost use Rattle.re_cert.specs.declared.certificate.Kind.TheVariants.{Fixed};
 ghost use Rattle.re_closure.specs.DiagramTexts.{AreEdges, TextGives};
 ghost use Rattle.re_io.specs.declared.read.TheConstants.{MAX_BYTES};
-ghost use Rattle.re_two_texts.specs.TwoTexts.{IsCut};
+ghost use Rattle.re_chains.specs.TwoTexts.{IsCut};
 ghost use Rattle.std.specs.Prelude.{◌≡◌, ◌<◌, ◌≤◌, ◌+◌, ℕ, IfOk, List, codes, length};
 
 use crate::edges::read_edges;
 use re_cert::Certificate;
-use re_chain_texts::read_chain;
+use re_chains::{Cut, at_line, read_chain};
 use re_problem::TextFault;
-use re_two_texts::{Cut, at_line};
 use std::alloc::Global;
 
 /// A chain, and the edges of a diagram of labels of its last problem.

@@ -1,21 +1,20 @@
 //! The rows of lines: in place of each set the labels whose sets lie within it.
 ghost use Rattle.re_closure.specs.Sides.{IsRowBefore, family_of, row_at};
-ghost use Rattle.re_config.specs.Rows.{row_cmp};
-ghost use Rattle.re_config.specs.declared.TheConstants.{MAX_ROWS};
+ghost use Rattle.re_labels.specs.Rows.{row_cmp};
+ghost use Rattle.re_labels.specs.declared.TheConstants.{MAX_ROWS};
 ghost use Rattle.re_labels.specs.Lists.{IsRising};
 ghost use Rattle.re_closure_laws.specs.Lines.{AreApart, IsFamily, below, labels_within, row_within};
-ghost use Rattle.re_strength.specs.Ordering.{is_row_before};
+ghost use Rattle.re_boxes.specs.Ordering.{is_row_before};
 ghost use Rattle.re_table.specs.GoodRows.{max_rows};
 ghost use Rattle.std.specs.List.Sorted.{IsPermutation, IsSortedBy};
 ghost use Rattle.std.specs.Prelude.{◌≡◌, ◌<◌, ◌≤◌, ◌-◌, ◌↔◌, Contains, IfOk, IsTrue, List, false, length, map, ℕ};
 ghost use Rattle.std.specs.declared.cmp.Ordering.TheVariants.{Equal};
 
+use crate::line::SetLine;
 use crate::sets::labels_within;
 use arrayvec::ArrayVec;
-use re_closure_lines::SetLine;
-use re_config::Row;
-use re_labels::{LabelSet, MAX_LABELS, NoMemory};
-use re_strength::row_order;
+use re_boxes::row_order;
+use re_labels::{LabelSet, MAX_LABELS, NoMemory, Row};
 use std::alloc::Global;
 use std::cmp::Ordering;
 

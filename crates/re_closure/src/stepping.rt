@@ -1,13 +1,13 @@
 //! Steps of a map: by its sets, or written by rows.
 ghost use Rattle.re_closure.specs.Sides.{in_form, step_to};
-ghost use Rattle.re_entry_clauses.specs.StepClauses.{HasRowSets};
+ghost use Rattle.re_check.specs.StepClauses.{HasRowSets};
 ghost use Rattle.std.specs.Prelude.{◌≡◌, IfOk};
 
 use crate::types::StepMap;
 use re_cert::{Step, StepParts};
-use re_chain_steps::lower_map;
 use re_labels::NoMemory;
 use re_problem::Problem;
+use re_shaping::lower_map;
 use std::alloc::Global;
 
 /// The lower step to a problem with this map, whose entries have the sets of its rows: by sets, or written by rows. By rows a set of a row

@@ -2,8 +2,7 @@
 ghost use Rattle.std.specs.Prelude.{◌≡◌};
 
 use re_cert::{Certificate, SetEntry};
-use re_config::Row;
-use re_labels::{LabelSet, NoMemory};
+use re_labels::{LabelSet, NoMemory, Row};
 use std::alloc::AllocError;
 
 /// What the closure of the last problem of a chain comes to.
@@ -30,10 +29,10 @@ pub(crate) struct StepMap {
 /// What the closure of a problem has too many of, in the order in which it is told, but `Steps`, which comes first.
 #[derive(Clone, Copy, Debug, PartialEq, Eq)]
 pub enum ClosureLimit {
-    /// More than `re_config::MAX_ROWS` lines of one side, of which none dominates another, that come together on the way to the closure; with a
+    /// More than `re_labels::MAX_ROWS` lines of one side, of which none dominates another, that come together on the way to the closure; with a
     /// diagram also so many maximal rows of the last problem, told before all of the closure.
     Rows,
-    /// More than `re_closure_lines::MAX_COMBINATIONS` combinations of lines of one side that wait, or have to be looked at, on the way.
+    /// More than `re_closure::MAX_COMBINATIONS` combinations of lines of one side that wait, or have to be looked at, on the way.
     Combinations,
     /// More than `re_labels::MAX_LABELS` labels, and how many.
     Labels(usize),

@@ -2,16 +2,16 @@
 use Rattle.std.proofs.Common.{◌≡◌, ℕ, ◌<◌, List, [], ◌∷◌, length, map, refl, sym, ◌∙◌, subst, arith}
 use Rattle.std.specs.Prelude.{Contains}
 use Rattle.std.specs.List.{AllByRecursion}
-use Rattle.re_config.proofs.ChoicesOfRows.{IsUnder-refl, IsUnder-trans}
-use Rattle.re_config.proofs.LawsOfRows.{multisets_law}
-use Rattle.re_config.proofs.Placing.{placed-Rearranged}
-use Rattle.re_config.proofs.Rearranging.{Rearranged-map, Rearranged-refl, Rearranged-sym}
-use Rattle.re_config.proofs.Rows.{AreSets, as_row}
-use Rattle.re_config.proofs.Sorting.{AllByRecursion-Rearranged, IsConfig-sorted, Rearranged-sorted}
-use Rattle.re_config.specs.Configs.{IsConfig, sorted}
-use Rattle.re_config.specs.Orders.{multisets, placements}
-use Rattle.re_config.specs.Rearranging.{Rearranged, chained}
-use Rattle.re_config.specs.Rows.{IsChoice, IsUnder, combined, placed, set_at, singles}
+use Rattle.re_labels.proofs.ChoicesOfRows.{IsUnder-refl, IsUnder-trans}
+use Rattle.re_labels.proofs.LawsOfRows.{multisets_law}
+use Rattle.re_labels.proofs.Placing.{placed-Rearranged}
+use Rattle.re_labels.proofs.Rearranging.{Rearranged-map, Rearranged-refl, Rearranged-sym}
+use Rattle.re_labels.proofs.Rows.{AreSets, as_row}
+use Rattle.re_labels.proofs.Sorting.{AllByRecursion-Rearranged, IsConfig-sorted, Rearranged-sorted}
+use Rattle.re_labels.specs.Configs.{IsConfig, sorted}
+use Rattle.re_labels.specs.Orders.{multisets, placements}
+use Rattle.re_labels.specs.Rearranging.{Rearranged, chained}
+use Rattle.re_labels.specs.Rows.{IsChoice, IsUnder, combined, placed, set_at, singles}
 use Rattle.re_labels.proofs.Membership.{Contains-In, Contains-filter, Contains-filter_cases, Contains-here, Contains-later, Contains-none, In-Contains, length-map'}
 use Rattle.re_labels.proofs.Places.{get-place_of, place_of-below}
 use Rattle.re_labels.specs.Lists.{place_of}

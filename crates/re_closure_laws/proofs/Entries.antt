@@ -2,7 +2,7 @@
 use Rattle.std.proofs.Common.{◌≡◌, ℕ, zero, suc, ◌<◌, List, [], ◌∷◌, length, map, refl, sym, ap, ◌∙◌, inl, inr, arith}
 use Rattle.std.specs.Prelude.{Contains}
 use Rattle.std.specs.List.{AllByRecursion}
-use Rattle.re_config.specs.Rows.{placed, set_at}
+use Rattle.re_labels.specs.Rows.{placed, set_at}
 use Rattle.re_labels.proofs.Membership.{Contains-cases, Contains-here, Contains-later, Contains-none}
 use Rattle.re_labels.proofs.Places.{get-place_of, place_of-below}
 use Rattle.re_labels.specs.Lists.{place_of}

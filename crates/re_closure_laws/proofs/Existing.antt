@@ -4,9 +4,9 @@ use Rattle.std.specs.Prelude.{Contains, filter, flat_map}
 use Rattle.std.specs.List.{AllByRecursion, list_all, list_any}
 use Rattle.std.proofs.lemmas.Bool.{false≢true}
 use Rattle.std.proofs.lemmas.List.Elements.{Contains-append_cases, Contains-append_left, Contains-append_right}
-use Rattle.re_config.proofs.Placing.{Dominates-dominates, Dominates-refl, Dominates-trans, dominates-Dominates, placed-Rearranged}
-use Rattle.re_config.specs.Orders.{placements}
-use Rattle.re_config.specs.Rows.{Dominates, combined, dominates, placed}
+use Rattle.re_labels.proofs.Placing.{Dominates-dominates, Dominates-refl, Dominates-trans, dominates-Dominates, placed-Rearranged}
+use Rattle.re_labels.specs.Orders.{placements}
+use Rattle.re_labels.specs.Rows.{Dominates, combined, dominates, placed}
 use Rattle.re_labels.proofs.Before.{same_list-refl, same_list-same}
 use Rattle.re_labels.proofs.Membership.{AllByRecursion-contains, Contains-In, Contains-cases, Contains-count_from, Contains-filter, Contains-filter_cases, Contains-flat_map, Contains-flat_map_cases, Contains-here, Contains-later, Contains-map, Contains-map_cases, Contains-none, In, In-Contains, all-In, any_found, any_true, count_from_range, not_all}
 use Rattle.re_labels.proofs.Numbers.{IsLabelSet-count_from, set_of-number}

@@ -3,15 +3,15 @@ use Rattle.std.proofs.Common.{◌≡◌, ℕ, ◌<◌, true, false, not, List, [
 use Rattle.std.specs.Prelude.{Contains}
 use Rattle.std.specs.List.{AllByRecursion}
 use Rattle.std.proofs.lemmas.Bool.{false≢true}
-use Rattle.re_config.proofs.OrdersAt.{get_or-map}
-use Rattle.re_config.proofs.Placing.{placed-Rearranged}
-use Rattle.re_config.proofs.Rearranging.{Contains-Rearranged, Rearranged-map, Rearranged-sym}
-use Rattle.re_config.proofs.Rows.{AreSets}
-use Rattle.re_config.proofs.Sorting.{AllByRecursion-Rearranged, Rearranged-sorted}
-use Rattle.re_config.specs.Configs.{IsConfig, sorted}
-use Rattle.re_config.specs.Orders.{placements}
-use Rattle.re_config.specs.Rearranging.{Rearranged}
-use Rattle.re_config.specs.Rows.{IsChoice, IsUnder, combined, placed, set_at, singles}
+use Rattle.re_labels.proofs.OrdersAt.{get_or-map}
+use Rattle.re_labels.proofs.Placing.{placed-Rearranged}
+use Rattle.re_labels.proofs.Rearranging.{Contains-Rearranged, Rearranged-map, Rearranged-sym}
+use Rattle.re_labels.proofs.Rows.{AreSets}
+use Rattle.re_labels.proofs.Sorting.{AllByRecursion-Rearranged, Rearranged-sorted}
+use Rattle.re_labels.specs.Configs.{IsConfig, sorted}
+use Rattle.re_labels.specs.Orders.{placements}
+use Rattle.re_labels.specs.Rearranging.{Rearranged}
+use Rattle.re_labels.specs.Rows.{IsChoice, IsUnder, combined, placed, set_at, singles}
 use Rattle.re_labels.proofs.Membership.{AllByRecursion-contains, Contains-In, Contains-count_from, Contains-filter, Contains-filter_cases, Contains-here, Contains-later, In-Contains, count_from_range, length-map'}
 use Rattle.re_labels.proofs.Places.{get-place_of, place_of-below}
 use Rattle.re_labels.proofs.Sets.{IsIn-has, has-IsIn}

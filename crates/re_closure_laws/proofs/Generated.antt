@@ -3,13 +3,13 @@ use Rattle.std.proofs.Common.{◌≡◌, ℕ, zero, suc, ◌<◌, ◌≤◌, Lis
 use Rattle.std.specs.Prelude.{Contains, not}
 use Rattle.std.specs.List.{AllByRecursion, AllZip}
 use Rattle.std.proofs.lemmas.Bool.{cases_lt}
-use Rattle.re_config.proofs.Placing.{Rearranged-placed}
-use Rattle.re_config.proofs.Rearranging.{length-Rearranged}
-use Rattle.re_config.proofs.Sorting.{AllByRecursion-Rearranged, sorted_again}
-use Rattle.re_config.specs.Configs.{IsConfig}
-use Rattle.re_config.specs.Orders.{placements}
-use Rattle.re_config.specs.Rearranging.{Rearranged}
-use Rattle.re_config.specs.Rows.{IsChoice, combined, meets, placed, set_at}
+use Rattle.re_labels.proofs.Placing.{Rearranged-placed}
+use Rattle.re_labels.proofs.Rearranging.{length-Rearranged}
+use Rattle.re_labels.proofs.Sorting.{AllByRecursion-Rearranged, sorted_again}
+use Rattle.re_labels.specs.Configs.{IsConfig}
+use Rattle.re_labels.specs.Orders.{placements}
+use Rattle.re_labels.specs.Rearranging.{Rearranged}
+use Rattle.re_labels.specs.Rows.{IsChoice, combined, meets, placed, set_at}
 use Rattle.re_labels.proofs.Membership.{AllByRecursion-contains, Contains-In, Contains-map, Contains-map_cases, length-map'}
 use Rattle.re_labels.proofs.Numbers.{IsLabelSet-count_from, IsLabelSet-filter, IsLabelSet-union, number-Sub}
 use Rattle.re_labels.proofs.Sets.{IsWithin-Sub}

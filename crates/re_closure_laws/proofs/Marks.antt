@@ -3,10 +3,10 @@ use Rattle.std.proofs.Common.{◌≡◌, ℕ, zero, suc, true, false, not, eqb, 
 use Rattle.std.specs.Prelude.{Contains}
 use Rattle.std.specs.List.{AllByRecursion}
 use Rattle.std.proofs.lemmas.Bool.{false≢true}
-use Rattle.re_config.proofs.Rearranging.{Rearranged-map}
-use Rattle.re_config.proofs.Sorting.{AllByRecursion-Rearranged}
-use Rattle.re_config.specs.Rearranging.{Rearranged}
-use Rattle.re_config.specs.Rows.{Dominates, IsUnder, combined, meets, placed, set_at}
+use Rattle.re_labels.proofs.Rearranging.{Rearranged-map}
+use Rattle.re_labels.proofs.Sorting.{AllByRecursion-Rearranged}
+use Rattle.re_labels.specs.Rearranging.{Rearranged}
+use Rattle.re_labels.specs.Rows.{Dominates, IsUnder, combined, meets, placed, set_at}
 use Rattle.re_labels.proofs.Membership.{AllByRecursion-weaker, Contains-filter, Contains-filter_cases, Contains-map, Contains-map_cases}
 use Rattle.re_labels.proofs.Numbers.{IsLabelSet-filter, IsLabelSet-union}
 use Rattle.re_labels.proofs.Sets.{IsIn-meet, IsIn-meet_cases, IsIn-union, IsIn-union_cases}

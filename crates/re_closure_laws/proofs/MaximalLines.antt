@@ -2,11 +2,11 @@
 use Rattle.std.proofs.Common.{◌≡◌, ℕ, ◌≤◌, List, [], ◌∷◌, length, map, sym, ap, ◌∙◌, subst}
 use Rattle.std.specs.Prelude.{Contains}
 use Rattle.std.specs.List.{AllByRecursion}
-use Rattle.re_config.proofs.Rearranging.{Rearranged-map}
-use Rattle.re_config.proofs.Rows.{AreSets, row_numbers}
-use Rattle.re_config.proofs.Sorting.{sorted-Rearranged, sorted_again}
-use Rattle.re_config.specs.Rearranging.{Rearranged, chained}
-use Rattle.re_config.specs.Rows.{Dominates, IsRow, IsUnder, in_order}
+use Rattle.re_labels.proofs.Rearranging.{Rearranged-map}
+use Rattle.re_labels.proofs.Rows.{AreSets, row_numbers}
+use Rattle.re_labels.proofs.Sorting.{sorted-Rearranged, sorted_again}
+use Rattle.re_labels.specs.Rearranging.{Rearranged, chained}
+use Rattle.re_labels.specs.Rows.{Dominates, IsRow, IsUnder, in_order}
 use Rattle.re_labels.proofs.Membership.{Contains-here, Contains-later}
 use Rattle.re_labels.proofs.Places.{get-place_of}
 use Rattle.re_labels.proofs.Rising.{rising-map}

@@ -1,11 +1,11 @@
 -- Larger lines have larger combinations; so what comes from some lines lies below a closed list, where these do.
 use Rattle.std.proofs.Common.{◌≡◌, ℕ, zero, suc, ◌<◌, List, [], ◌∷◌, length, sym, ◌∙◌, subst, inl, inr, arith}
 use Rattle.std.specs.Prelude.{Contains}
-use Rattle.re_config.proofs.Placing.{Rearranged-placed, placed-Rearranged}
-use Rattle.re_config.proofs.Rearranging.{AllZip-Rearranged, Rearranged-sym, length-AllZip, length-Rearranged}
-use Rattle.re_config.specs.Orders.{placements}
-use Rattle.re_config.specs.Rearranging.{Rearranged, chained}
-use Rattle.re_config.specs.Rows.{IsUnder, combined, meets, placed}
+use Rattle.re_labels.proofs.Placing.{Rearranged-placed, placed-Rearranged}
+use Rattle.re_labels.proofs.Rearranging.{AllZip-Rearranged, Rearranged-sym, length-AllZip, length-Rearranged}
+use Rattle.re_labels.specs.Orders.{placements}
+use Rattle.re_labels.specs.Rearranging.{Rearranged, chained}
+use Rattle.re_labels.specs.Rows.{IsUnder, combined, meets, placed}
 use Rattle.re_labels.proofs.Membership.{Contains-In, In-Contains}
 use Rattle.re_labels.proofs.Sets.{IsIn-meet, IsIn-meet_cases, IsIn-union, IsIn-union_cases}
 use Rattle.re_labels.specs.Sets.{IsWithin, meet, union}

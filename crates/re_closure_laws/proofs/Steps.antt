@@ -2,15 +2,15 @@
 use Rattle.std.proofs.Common.{◌≡◌, ℕ, ◌<◌, List, [], ◌∷◌, length, map, refl, sym, ap, ◌∙◌, subst, arith}
 use Rattle.std.specs.Prelude.{Contains}
 use Rattle.std.specs.List.{AllByRecursion}
-use Rattle.re_config.proofs.AllMultisets.{rising-multisets}
-use Rattle.re_config.proofs.OrdersAt.{get_or-map}
-use Rattle.re_config.proofs.LawsOfRows.{multisets_law}
-use Rattle.re_config.proofs.Rearranging.{Rearranged-map, Rearranged-sym, Contains-Rearranged}
-use Rattle.re_config.proofs.Sorting.{IsConfig-sorted, Rearranged-sorted, sorted-Rearranged}
-use Rattle.re_config.specs.Configs.{IsConfig, sorted}
-use Rattle.re_config.specs.Orders.{multisets}
-use Rattle.re_config.specs.Rearranging.{Rearranged, chained}
-use Rattle.re_config.specs.Rows.{IsChoice, IsUnder, placed, set_at}
+use Rattle.re_labels.proofs.AllMultisets.{rising-multisets}
+use Rattle.re_labels.proofs.OrdersAt.{get_or-map}
+use Rattle.re_labels.proofs.LawsOfRows.{multisets_law}
+use Rattle.re_labels.proofs.Rearranging.{Rearranged-map, Rearranged-sym, Contains-Rearranged}
+use Rattle.re_labels.proofs.Sorting.{IsConfig-sorted, Rearranged-sorted, sorted-Rearranged}
+use Rattle.re_labels.specs.Configs.{IsConfig, sorted}
+use Rattle.re_labels.specs.Orders.{multisets}
+use Rattle.re_labels.specs.Rearranging.{Rearranged, chained}
+use Rattle.re_labels.specs.Rows.{IsChoice, IsUnder, placed, set_at}
 use Rattle.re_labels.proofs.Before.{IsBefore-trans}
 use Rattle.re_labels.proofs.ListSets.{law as list_set_law}
 use Rattle.re_labels.proofs.Membership.{AllByRecursion-from_contains, Contains-filter_cases, Contains-here, Contains-later, Contains-map, Contains-map_cases, length-map', map-alike}

@@ -1,11 +1,11 @@
 -- Rows of labels in place of lines of sets: what lies within what.
 use Rattle.std.proofs.Common.{◌≡◌, ℕ, zero, suc, ◌<◌, List, [], ◌∷◌, length, map, refl, sym, ap, subst, inl, inr, arith}
 use Rattle.std.specs.List.{AllByRecursion, AllZip}
-use Rattle.re_config.proofs.ChoicesOfRows.{IsUnder-refl}
-use Rattle.re_config.proofs.Placing.{Dominates-trans, beside_map, from_beside}
-use Rattle.re_config.proofs.Rearranging.{along}
-use Rattle.re_config.specs.Rearranging.{Rearranged}
-use Rattle.re_config.specs.Rows.{IsChoice, IsUnder, combined, meets, placed, set_at, singles}
+use Rattle.re_labels.proofs.ChoicesOfRows.{IsUnder-refl}
+use Rattle.re_labels.proofs.Placing.{Dominates-trans, beside_map, from_beside}
+use Rattle.re_labels.proofs.Rearranging.{along}
+use Rattle.re_labels.specs.Rearranging.{Rearranged}
+use Rattle.re_labels.specs.Rows.{IsChoice, IsUnder, combined, meets, placed, set_at, singles}
 use Rattle.re_labels.proofs.Membership.{Contains-cases, Contains-count_from, Contains-filter, Contains-filter_cases, Contains-none, count_from_range}
 use Rattle.re_labels.proofs.Numbers.{IsLabelSet-count_from, IsLabelSet-filter}
 use Rattle.re_labels.proofs.Sets.{IsIn-meet, IsIn-meet_cases, IsIn-union, IsIn-union_cases, IsWithin-within, within-IsWithin}
@@ -23,7 +23,7 @@ pub dominated_under : (rows : List (List (List ℕ))) (r t : List (List ℕ)) �
 dominated_under rows r t u (top, held, dom) = (top, held, Dominates-trans top r t dom (r, same, u))
   where
     same : Rearranged r r
-    same = Rattle.re_config.proofs.Rearranging.Rearranged-refl r
+    same = Rattle.re_labels.proofs.Rearranging.Rearranged-refl r
 
 -- ---- another order of a mapped list
 pub map_moved : {X Y : Type 0} (f : X → Y) (xs : List X) (ys : List Y) → Rearranged (map f xs) ys → (zs : List X) × Rearranged xs zs × (ys ≡ map f zs)

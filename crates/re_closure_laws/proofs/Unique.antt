@@ -2,14 +2,14 @@
 use Rattle.std.proofs.Common.{◌≡◌, ℕ, ◌<◌, ◌≤◌, Bool, cond, List, [], ◌∷◌, length, map, refl, sym, ap, ◌∙◌, subst, inl, inr, arith}
 use Rattle.std.specs.Prelude.{Contains, filter}
 use Rattle.std.specs.List.{AllByRecursion}
-use Rattle.re_config.proofs.Placing.{Dominates-trans}
-use Rattle.re_config.proofs.Rearranging.{Contains-Rearranged, Rearranged-map, Rearranged-sym}
-use Rattle.re_config.proofs.Rows.{total, total-Rearranged}
-use Rattle.re_config.proofs.Sorting.{AllByRecursion-Rearranged, sorted-Rearranged}
-use Rattle.re_config.specs.Configs.{sorted}
-use Rattle.re_config.specs.Orders.{multisets}
-use Rattle.re_config.specs.Rearranging.{Rearranged}
-use Rattle.re_config.specs.Rows.{Dominates, IsUnder, placed}
+use Rattle.re_labels.proofs.Placing.{Dominates-trans}
+use Rattle.re_labels.proofs.Rearranging.{Contains-Rearranged, Rearranged-map, Rearranged-sym}
+use Rattle.re_labels.proofs.Rows.{total, total-Rearranged}
+use Rattle.re_labels.proofs.Sorting.{AllByRecursion-Rearranged, sorted-Rearranged}
+use Rattle.re_labels.specs.Configs.{sorted}
+use Rattle.re_labels.specs.Orders.{multisets}
+use Rattle.re_labels.specs.Rearranging.{Rearranged}
+use Rattle.re_labels.specs.Rows.{Dominates, IsUnder, placed}
 use Rattle.re_labels.proofs.ListSets.{In-list_set, list_set-In, one_set, rising-list_set}
 use Rattle.re_labels.proofs.Membership.{Contains-In, In, In-Contains, In-map, In-map_from}
 use Rattle.re_labels.proofs.Numbers.{number-Sub}

@@ -2,7 +2,7 @@
 use Rattle.std.proofs.Common.{◌≡◌, ℕ, ◌<◌, true, false, cond, ltb, List, [], ◌∷◌, refl, sym, ◌∙◌, subst, inl, inr, arith}
 use Rattle.std.specs.Prelude.{Contains, ◌↔◌}
 use Rattle.std.proofs.lemmas.Bool.Decides.{nat_tests}
-use Rattle.re_config.specs.Rows.{set_at}
+use Rattle.re_labels.specs.Rows.{set_at}
 use Rattle.re_labels.proofs.Membership.{Contains-In, Contains-cases, Contains-here, Contains-none}
 use Rattle.re_labels.specs.Sets.{IsIn, IsWithin}
 use Rattle.re_table.proofs.MaxRows.{max_rows-IsMaximal}

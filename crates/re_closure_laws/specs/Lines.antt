@@ -3,9 +3,9 @@ use Rattle.std.specs.Prelude.{◌≡◌, ℕ, ◌<◌, ◌≤◌, ◌↔◌, not
 use Rattle.re_labels.specs.Lists.{count_from, place_of}
 use Rattle.re_labels.specs.ListSets.{list_set}
 use Rattle.re_labels.specs.Sets.{IsLabelSet, IsWithin, has, within}
-use Rattle.re_config.specs.Configs.{sorted}
-use Rattle.re_config.specs.Orders.{multisets, placements}
-use Rattle.re_config.specs.Rows.{Dominates, IsChoice, combined, in_order, placed, set_at}
+use Rattle.re_labels.specs.Configs.{sorted}
+use Rattle.re_labels.specs.Orders.{multisets, placements}
+use Rattle.re_labels.specs.Rows.{Dominates, IsChoice, combined, in_order, placed, set_at}
 use Rattle.re_table.specs.Constraints.{Constraint, Has}
 use Rattle.re_table.specs.GoodRows.{IsDominated, is_dominated, max_sets}
 use Rattle.re_table.specs.Strength.{up_set}

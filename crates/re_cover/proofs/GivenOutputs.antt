@@ -17,7 +17,7 @@ use Rattle.re_laws.proofs.Ports.{AllByRecursion-count, length-ports, map-at_port
 use Rattle.re_laws.specs.Algorithms.{at_port}
 use Rattle.re_problem.specs.Problems.{Problem}
 use Rattle.re_table.specs.Constraints.{Has}
-use Rattle.re_views.specs.Trees.{IsView, backs, shift}
+use Rattle.re_laws.specs.Trees.{IsView, backs, shift}
 
 -- what is listed by the ports of a list is the list
 by-ports : (labels : List ℕ) (d : ℕ) → length labels ≡ d → map (at_port labels) (count_from 1 d) ≡ labels

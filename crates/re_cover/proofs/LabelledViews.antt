@@ -6,7 +6,7 @@ use Rattle.re_cover.specs.declared.ends.GraphEnd.{GraphEnd}
 use Rattle.re_cover.specs.Graphs.{IsEndOf}
 use Rattle.re_cover.proofs.Views.{IsWay, behind-is, end_is}
 use Rattle.re_cover.specs.GivenGraphs.{in_row, labelled}
-use Rattle.re_config.proofs.Rearranging.{Rearranged-sym}
+use Rattle.re_labels.proofs.Rearranging.{Rearranged-sym}
 use Rattle.re_given.proofs.Fitting.{FitsAround-others, Rearranged-front}
 use Rattle.re_given.specs.InputViews.{Fits, FitsAround, InputView}
 use Rattle.re_labels.proofs.Membership.{get_or-count_from, length-count_from}
@@ -14,9 +14,9 @@ use Rattle.re_labels.specs.Lists.{count_from}
 use Rattle.re_laws.proofs.Ports.{AllByRecursion-count, length-ports}
 use Rattle.re_table.proofs.Goodness.{Has-Rearranged}
 use Rattle.re_table.specs.Constraints.{Constraint, Has}
-use Rattle.re_views.proofs.Branchwise.{backs-child}
-use Rattle.re_views.proofs.ViewLaws.{IsChild, others-cut, put-others, shift-at}
-use Rattle.re_views.specs.Trees.{Child, IsTree, IsView, backs, child_at, cut, leaf, more, others, put, shift, turned}
+use Rattle.re_laws.proofs.Branchwise.{backs-child}
+use Rattle.re_laws.proofs.ViewLaws.{IsChild, others-cut, put-others, shift-at}
+use Rattle.re_laws.specs.Trees.{Child, IsTree, IsView, backs, child_at, cut, leaf, more, others, put, shift, turned}
 
 -- ---- rows of children
 no_child : Child ℕ

@@ -13,7 +13,7 @@ use Rattle.re_labels.specs.Lists.{count_from}
 use Rattle.re_laws.proofs.Ports.{AllByRecursion-count, length-ports}
 use Rattle.re_laws.specs.Algorithms.{Plain, answer, around, at_port, back_at}
 use Rattle.re_table.specs.Constraints.{Has}
-use Rattle.re_views.specs.Trees.{IsView, shift}
+use Rattle.re_laws.specs.Trees.{IsView, shift}
 
 pub edge_law : EdgeLaw
 edge_law graph is = (over_active graph is, over_passive graph is)

@@ -8,7 +8,7 @@ use Rattle.re_given.specs.Inputs.{IsInput}
 use Rattle.re_labels.specs.Lists.{count_from}
 use Rattle.re_laws.specs.Algorithms.{at_port}
 use Rattle.re_problem.specs.Problems.{Problem}
-use Rattle.re_views.specs.Trees.{Child, IsView, Tree, backs, end, leaf, more, others, shift}
+use Rattle.re_laws.specs.Trees.{Child, IsView, Tree, backs, end, leaf, more, others, shift}
 
 -- the tree of these children
 abbrev pub in_row : {E : Type 0} → List (Child E) → Tree E

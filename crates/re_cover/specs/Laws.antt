@@ -6,7 +6,7 @@ use Rattle.re_cover.specs.Unfolded.{active_view, passive_view}
 use Rattle.re_labels.specs.Lists.{count_from}
 use Rattle.re_laws.specs.Algorithms.{Plain, Solvable, SolvesBy, back_at}
 use Rattle.re_problem.specs.Problems.{Problem}
-use Rattle.re_views.specs.Trees.{IsView, shift}
+use Rattle.re_laws.specs.Trees.{IsView, shift}
 
 -- over each edge and back one comes to where one was
 abbrev pub EdgeLaw : Type 0

@@ -4,8 +4,8 @@ use Rattle.re_cover.specs.declared.ends.GraphEnd.{GraphEnd}
 use Rattle.re_cover.specs.Graphs.{PortGraph, active_end, passive_end}
 use Rattle.re_labels.specs.Lists.{count_from}
 use Rattle.re_laws.specs.Algorithms.{Plain}
-use Rattle.re_views.specs.Ends.{branchwise}
-use Rattle.re_views.specs.Trees.{leaf}
+use Rattle.re_laws.specs.Ends.{branchwise}
+use Rattle.re_laws.specs.Trees.{leaf}
 
 -- the view of a radius of a node of degree d, where `over` leads over an edge from an end on its side to the one on the other side, whose
 -- nodes have degree e, and `back` leads back: child q has as back port the port to which the edge of port q leads, and behind it stands the

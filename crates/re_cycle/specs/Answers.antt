@@ -5,7 +5,7 @@ use Rattle.re_problem.specs.NamedProblems.{NamedProblem, unnamed}
 use Rattle.re_problem.specs.Zero.{zero_place}
 use Rattle.re_cert.specs.Bounds.{Bound, last_problem}
 use Rattle.re_cert.specs.declared.certificate.Kind.TheVariants.{Fixed}
-use Rattle.re_extend.specs.Extensions.{GoesOn}
+use Rattle.re_shaping.specs.Extensions.{GoesOn}
 use Rattle.re_given_words.specs.Extensions.{GoesOnGiven}
 use Rattle.re_cycle.specs.declared.finding.Cycle.{Cycle}
 use Rattle.re_cycle.specs.declared.finding.Cycle.TheVariants.{Found, NotFound, Solvable, TooMany}

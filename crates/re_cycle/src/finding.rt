@@ -9,11 +9,10 @@ ghost use Rattle.std.specs.Prelude.{◌≡◌, IfOk, IfSome, None};
 use crate::nodes::{Graph, Return};
 use crate::walking::{Left, Walk, Walked};
 use re_cert::{Certificate, Kind, MAX_STEPS, Step};
-use re_extend::{Extension, extended, route_steps, takes_merges};
 use re_given_words::extended_given;
 use re_labels::{MAX_LABELS, NoMemory};
-use re_problem::{LabelMap, Problem};
-use re_zero::zero_round;
+use re_problem::{LabelMap, Problem, zero_round};
+use re_shaping::{Extension, extended, route_steps, takes_merges};
 use std::alloc::Global;
 
 /// What the search comes to.

@@ -1,10 +1,9 @@
 //! The graph of the problems that were looked at.
 use re_cert::Certificate;
 use re_changes::Changed;
-use re_extend::{Route, Stop};
 use re_labels::NoMemory;
 use re_problem::{LabelMap, Problem};
-use re_renaming::{Coloured, Renaming, renaming_to};
+use re_shaping::{Coloured, Renaming, Route, Stop, renaming_to};
 use std::alloc::Global;
 
 /// Where a step leads: to the problem of this number of the chain, before its last one, or to the problem at this place among those that

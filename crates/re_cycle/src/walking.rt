@@ -4,9 +4,8 @@ use crate::returning::shortest_return;
 use re_changes::{Change, Changed};
 use re_given_words::{Ends, ends_after};
 use re_labels::NoMemory;
-use re_problem::{LabelMap, Problem};
+use re_problem::{LabelMap, Problem, zero_round};
 use re_step::{Derived, StepFault, step};
-use re_zero::zero_round;
 use std::alloc::Global;
 
 /// What the walk comes to.

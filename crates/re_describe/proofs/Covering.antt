@@ -6,15 +6,15 @@ use Rattle.std.specs.List.Sorted.{IsPermutation}
 use Rattle.std.proofs.lemmas.List.Sorted.{Contains-permutation, IsPermutation-sym}
 use Rattle.std.proofs.lemmas.List.{take_all}
 use Rattle.std.proofs.lemmas.List.Elements.{Contains-get_or}
-use Rattle.re_config.proofs.Placing.{Dominates-dominates, Dominates-refl, dominates-Dominates}
-use Rattle.re_config.proofs.Sorting.{sorted_again}
-use Rattle.re_config.specs.Configs.{IsConfig, sorted}
-use Rattle.re_config.specs.Rows.{Dominates, IsChoice, dominates, singles}
+use Rattle.re_labels.proofs.Placing.{Dominates-dominates, Dominates-refl, dominates-Dominates}
+use Rattle.re_labels.proofs.Sorting.{sorted_again}
+use Rattle.re_labels.specs.Configs.{IsConfig, sorted}
+use Rattle.re_labels.specs.Rows.{Dominates, IsChoice, dominates, singles}
 use Rattle.re_labels.proofs.Membership.{AllByRecursion-contains, any_found, any_true, Contains-In, Contains-cases, Contains-here, Contains-none, In-Contains, In-append_left}
 use Rattle.re_table.proofs.ClosureLaw.{closure_law}
 use Rattle.re_table.specs.Constraints.{Constraint, IsConstraint}
 use Rattle.re_table.specs.GoodRows.{IsDominated, IsGood, is_dominated, max_rows}
-use Rattle.re_universal.proofs.Keeping.{up_to, contains_last, contains_either}
+use Rattle.re_step.proofs.Keeping.{up_to, contains_last, contains_either}
 use Rattle.re_describe.specs.Spelling.{Spells, TakesIn}
 
 abbrev pub Rows : Type 0

@@ -5,20 +5,20 @@ use Rattle.std.specs.List.{AllByRecursion, IsDistinct}
 use Rattle.std.specs.List.Sorted.{IsPermutation}
 use Rattle.std.proofs.lemmas.List.Sorted.{Contains-permutation, IsPermutation-sym}
 use Rattle.std.proofs.lemmas.Map.Keys.{IsDistinct-IsPermutation}
-use Rattle.re_config.proofs.ChoicesOfRows.{IsChoice-Rearranged, IsChoice-under}
-use Rattle.re_config.proofs.Placing.{dominates-Dominates}
-use Rattle.re_config.proofs.Rearranging.{Rearranged-sym}
-use Rattle.re_config.proofs.Sorting.{sorted-Rearranged, sorted_again}
-use Rattle.re_config.specs.Configs.{IsConfig, sorted}
-use Rattle.re_config.specs.Rows.{Dominates, dominates, singles}
-use Rattle.re_config.specs.declared.TheConstants.{MAX_ROWS}
+use Rattle.re_labels.proofs.ChoicesOfRows.{IsChoice-Rearranged, IsChoice-under}
+use Rattle.re_labels.proofs.Placing.{dominates-Dominates}
+use Rattle.re_labels.proofs.Rearranging.{Rearranged-sym}
+use Rattle.re_labels.proofs.Sorting.{sorted-Rearranged, sorted_again}
+use Rattle.re_labels.specs.Configs.{IsConfig, sorted}
+use Rattle.re_labels.specs.Rows.{Dominates, dominates, singles}
+use Rattle.re_labels.specs.declared.TheConstants.{MAX_ROWS}
 use Rattle.re_labels.proofs.Membership.{AllByRecursion-contains, Contains-In, Contains-cases, Contains-here, Contains-later, Contains-none}
 use Rattle.re_table.proofs.Closure.{Choice-singles}
 use Rattle.re_table.proofs.ClosureLaw.{closure_law}
 use Rattle.re_table.proofs.MaxRows.{max_rows-IsMaximal}
 use Rattle.re_table.specs.Constraints.{Constraint, IsConstraint}
 use Rattle.re_table.specs.GoodRows.{IsDominated, max_rows}
-use Rattle.re_universal.proofs.Keeping.{contains_either}
+use Rattle.re_step.proofs.Keeping.{contains_either}
 use Rattle.re_describe.proofs.Covering.{Rows, SpellsFirst, all_first, chosen_alone, max_spells, spells_moved, taken_in}
 use Rattle.re_describe.specs.Spelling.{AreAlone, AreApart, AreGroups, AreSources, AreTaken, AreTops, Spells, TakesIn, comparable}
 

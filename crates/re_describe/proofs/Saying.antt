@@ -2,7 +2,7 @@
 use Rattle.std.proofs.Common.{ℕ, false, List, Option, Some, None, sym, subst}
 use Rattle.re_problem.specs.declared.fault.InputFault.{InputFault}
 use Rattle.re_cert.specs.Bounds.{Bound}
-use Rattle.re_chain_texts.specs.ChainTexts.{chain_fault, text_bound}
+use Rattle.re_chains.specs.ChainTexts.{chain_fault, text_bound}
 use Rattle.re_frame.proofs.Said.{fault_says}
 use Rattle.re_frame.specs.Outcomes.{Outcome}
 use Rattle.re_frame.specs.Runs.{MaySay}

@@ -5,7 +5,7 @@ use Rattle.std.specs.Str.{bytes_eq}
 use Rattle.re_io.specs.declared.read.TheConstants.{MAX_BYTES}
 use Rattle.re_problem.specs.declared.fault.InputFault.{InputFault}
 use Rattle.re_cert.specs.Bounds.{Bound}
-use Rattle.re_chain_texts.specs.ChainTexts.{chain_fault, is_certificate_text, text_bound}
+use Rattle.re_chains.specs.ChainTexts.{chain_fault, is_certificate_text, text_bound}
 use Rattle.re_describe.specs.Heads.{head}
 use Rattle.re_describe.specs.Latex.{latex_of}
 use Rattle.re_describe.specs.declared.answering.DescribeWord.{DescribeWord}

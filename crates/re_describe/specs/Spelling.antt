@@ -1,8 +1,8 @@
 -- Rows that spell a constraint.
 use Rattle.std.specs.Prelude.{◌≡◌, ℕ, ◌<◌, ◌≤◌, ◌⊎◌, Bool, ◌||◌, List, [], ◌∷◌, ◌++◌, Contains, MatchOption, Option, length}
 use Rattle.std.specs.List.{IsDistinct}
-use Rattle.re_config.specs.Rows.{Dominates, dominates, singles}
-use Rattle.re_config.specs.declared.TheConstants.{MAX_ROWS}
+use Rattle.re_labels.specs.Rows.{Dominates, dominates, singles}
+use Rattle.re_labels.specs.declared.TheConstants.{MAX_ROWS}
 use Rattle.re_table.specs.Constraints.{Constraint}
 use Rattle.re_table.specs.GoodRows.{IsDominated, IsGood, IsMaximal, max_rows}
 use Rattle.re_describe.specs.declared.condensing.TheConstants.{MOST_LISTED}

@@ -1,5 +1,5 @@
 //! The words, and what they answer.
-ghost use Rattle.re_chain_texts.specs.ChainTexts.{chain_fault, text_bound};
+ghost use Rattle.re_chains.specs.ChainTexts.{chain_fault, text_bound};
 ghost use Rattle.re_describe.specs.DescribeWords.{IsGivenBy, IsLatexReport, MayDescribe, describe_help, describe_word_of};
 ghost use Rattle.re_frame.specs.Outcomes.{outcome_of};
 ghost use Rattle.re_io.specs.declared.read.TheConstants.{MAX_BYTES};
@@ -9,7 +9,7 @@ use crate::groups::in_groups;
 use crate::latex::in_latex;
 use crate::report;
 use re_cert::Certificate;
-use re_chain_texts::read_bound;
+use re_chains::read_bound;
 use re_frame::{Finding, Output, done, fault_output};
 use re_labels::NoMemory;
 use re_problem::TextFault;

@@ -1,5 +1,5 @@
 //! A certificate or a problem, written with its configurations in groups.
-ghost use Rattle.re_chain_texts.specs.ChainTexts.{chain_fault, is_certificate_text, text_bound};
+ghost use Rattle.re_chains.specs.ChainTexts.{chain_fault, is_certificate_text, text_bound};
 ghost use Rattle.re_describe.specs.DescribeWords.{WritesSame};
 ghost use Rattle.re_io.specs.declared.read.TheConstants.{MAX_BYTES};
 ghost use Rattle.re_labels.specs.declared.TheConstants.{MAX_LABELS};
@@ -11,14 +11,13 @@ use crate::joining::{Line, joined_lines};
 use crate::latex::lines_of;
 use crate::pieces::{push_count, push_items};
 use re_cert::Certificate;
-use re_cert_text::print_certificate;
-use re_chain_texts::{is_certificate_text, read_bound};
-use re_config::Row;
+use re_chains::{is_certificate_text, read_bound};
 use re_frame::push_words;
 use re_io::MAX_BYTES;
-use re_labels::{Names, NoMemory};
+use re_labels::{Names, NoMemory, Row};
 use re_problem::{Problem, TextFault};
 use re_table::Constraint;
+use re_texts::print_certificate;
 use std::alloc::Global;
 
 // The rows as lines.

@@ -2,8 +2,7 @@
 ghost use Rattle.std.specs.Prelude.{◌≡◌, ◌<◌, ◌≤◌, ◌++◌, ◌∷◌, [], length};
 
 use arrayvec::ArrayVec;
-use re_config::Row;
-use re_labels::{LabelSet, NoMemory};
+use re_labels::{LabelSet, NoMemory, Row};
 use re_table::Constraint;
 use std::alloc::Global;
 use std::cmp::Ordering;

@@ -2,11 +2,11 @@
 ghost use Rattle.re_boxes.specs.Boxes.{IsUp};
 ghost use Rattle.re_describe.specs.Meanings.{IsAbove, Means};
 ghost use Rattle.re_labels.specs.Sets.{IsIn, IsLabelSet, IsWithin};
-ghost use Rattle.re_strength.specs.Held.{ups_in};
+ghost use Rattle.re_boxes.specs.HeldStrength.{ups_in};
 ghost use Rattle.std.specs.Prelude.{◌≡◌, ◌<◌, ◌≤◌, ◌↔◌, ℕ, IsTrue};
 
+use re_boxes::Strength;
 use re_labels::LabelSet;
-use re_strength::Strength;
 
 /// What a set of labels means.
 #[derive(Clone, Copy, Debug)]

@@ -4,9 +4,8 @@ ghost use Rattle.std.specs.Prelude.{◌≡◌, ◌++◌, OnOk};
 
 use crate::condensing::condensed;
 use crate::pieces::{push_count, push_items, push_margin};
-use re_config::Row;
 use re_frame::push_words;
-use re_labels::{Names, NoMemory};
+use re_labels::{Names, NoMemory, Row};
 use re_problem::Problem;
 use re_table::Constraint;
 

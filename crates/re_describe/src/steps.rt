@@ -1,19 +1,18 @@
 //! The steps of a certificate: what the labels of each next problem stand for.
 ghost use Rattle.re_boxes.specs.Boxes.{IsUp};
 ghost use Rattle.re_labels.specs.Sets.{IsIn};
-ghost use Rattle.re_strength.specs.Held.{ups_in};
+ghost use Rattle.re_boxes.specs.HeldStrength.{ups_in};
 ghost use Rattle.std.specs.Prelude.{ℕ, ◌≤◌};
 
 use crate::marks::push_step_mark;
 use crate::meanings::{Meaning, meaning_of};
 use crate::pieces::{push_count, push_group, push_listed, push_margin, push_named, push_places};
+use re_boxes::Strength;
 use re_cert::{LowerMap, RowImage, SetEntry, Step, StepParts, set_fits};
 use re_check::Verdict;
-use re_config::Row;
 use re_frame::push_words;
-use re_labels::{LabelSet, Names, NoMemory};
+use re_labels::{LabelSet, Names, NoMemory, Row};
 use re_problem::Problem;
-use re_strength::Strength;
 
 // The meaning of a set of labels of the problem before.
 fn push_meaning(

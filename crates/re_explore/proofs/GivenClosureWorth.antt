@@ -9,10 +9,10 @@ use Rattle.re_problem.specs.declared.fault.InputFault.{InputFault}
 use Rattle.re_cert.specs.Bounds.{Bound, BoundStep, next_problems}
 use Rattle.re_cert.specs.declared.certificate.Kind.{Kind}
 use Rattle.re_cert.specs.declared.certificate.Kind.TheVariants as kind
-use Rattle.re_chain_steps.specs.Stepped.{next_step, stepped, stepping_fault}
-use Rattle.re_chain_steps.specs.declared.stepping.ChainStepFault.{ChainStepFault}
-use Rattle.re_chain_texts.proofs.WordsGiven.{fault_not_done}
-use Rattle.re_chain_texts.specs.OverChains.{refusal_of}
+use Rattle.re_shaping.specs.Stepped.{next_step, stepped, stepping_fault}
+use Rattle.re_shaping.specs.declared.stepping.ChainStepFault.{ChainStepFault}
+use Rattle.re_chains.proofs.WordsGiven.{fault_not_done}
+use Rattle.re_chains.specs.OverChains.{refusal_of}
 use Rattle.re_check.specs.Verdicts.{steps_fault}
 use Rattle.re_check.specs.declared.verdict.ClauseFault.{ClauseFault}
 use Rattle.re_closure.specs.ClosureWords.{MayStep, stop_outcome}
@@ -26,8 +26,8 @@ use Rattle.re_frame.specs.declared.status.Status.TheVariants.{Done}
 use Rattle.re_given_bounds.specs.GivenBounds.{MeansGiven}
 use Rattle.re_given_words.proofs.GoingOn.{done_taken}
 use Rattle.re_given_words.specs.Extensions.{GoesOnGiven}
-use Rattle.re_two_texts.specs.GivenTexts.{IsGivenText}
-use Rattle.re_two_texts.specs.TwoTexts.{back_problem, front_chain, two_fault}
+use Rattle.re_chains.specs.GivenTexts.{IsGivenText}
+use Rattle.re_chains.specs.TwoTexts.{back_problem, front_chain, two_fault}
 use Rattle.re_explore.proofs.GivenWorth.{accepted}
 use Rattle.re_explore.proofs.Undone.{stop_undone, undone}
 use Rattle.re_explore.specs.Worth.{IsAcceptedGiven}

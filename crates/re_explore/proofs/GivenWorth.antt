@@ -7,8 +7,8 @@ use Rattle.re_problem.specs.declared.fault.InputFault.{InputFault}
 use Rattle.re_cert.specs.Bounds.{Bound}
 use Rattle.re_cert.specs.declared.certificate.Kind.{Kind}
 use Rattle.re_cert.specs.declared.certificate.Kind.TheVariants as kind
-use Rattle.re_chain_texts.proofs.WordsGiven.{fault_not_done}
-use Rattle.re_chain_texts.specs.OverChains.{or_fault, refusal_of}
+use Rattle.re_chains.proofs.WordsGiven.{fault_not_done}
+use Rattle.re_chains.specs.OverChains.{or_fault, refusal_of}
 use Rattle.re_check.specs.Verdicts.{steps_fault}
 use Rattle.re_check.specs.declared.verdict.ClauseFault.{ClauseFault}
 use Rattle.re_fit.specs.InputProblems.{input_fault}
@@ -23,8 +23,8 @@ use Rattle.re_given_words.specs.declared.words.BoundWord.TheVariants.{Given}
 use Rattle.re_search_words.specs.GivenAnswers.{IsFoundGiven, MayFindBy, MayFindElse, MayFindGiven, MayGiveGiven, MayGiveGivenAt, MayGiveGivenInput, MayGiveGivenRead, MayGiveGivenSound, given_chain}
 use Rattle.re_search_words.specs.declared.words.SearchWord.{SearchWord}
 use Rattle.re_search_words.specs.declared.words.SearchWord.TheVariants.{Cycle, Longest, Shortest}
-use Rattle.re_two_texts.specs.GivenTexts.{IsGivenText}
-use Rattle.re_two_texts.specs.TwoTexts.{back_problem, front_bound, two_fault}
+use Rattle.re_chains.specs.GivenTexts.{IsGivenText}
+use Rattle.re_chains.specs.TwoTexts.{back_problem, front_bound, two_fault}
 use Rattle.re_explore.proofs.Undone.{undone}
 use Rattle.re_explore.specs.Worth.{IsAcceptedGiven, SearchWorthGiven}
 

@@ -11,24 +11,24 @@ use Rattle.re_problem.specs.declared.fault.InputFault.{InputFault}
 use Rattle.re_cert.specs.Bounds.{Bound, BoundStep, last_problem, next_problems}
 use Rattle.re_cert.specs.declared.certificate.Kind.{Kind}
 use Rattle.re_cert.specs.declared.certificate.Kind.TheVariants as kind
-use Rattle.re_chain_steps.specs.RowForms.{by_rows}
-use Rattle.re_chain_steps.specs.Stepped.{next_step, stepped, stepping_fault}
-use Rattle.re_chain_steps.specs.declared.stepping.ChainStepFault.{ChainStepFault}
-use Rattle.re_chain_steps.specs.declared.stepping.ChainStepFault.TheVariants as chain_step_fault
-use Rattle.re_chain_texts.proofs.WordsGiven.{fault_not_done, text_checked}
-use Rattle.re_chain_texts.specs.ChainTexts.{chain_fault, text_chain}
-use Rattle.re_chain_texts.specs.OverChains.{IsTextOf, refusal_of}
+use Rattle.re_shaping.specs.RowForms.{by_rows}
+use Rattle.re_shaping.specs.Stepped.{next_step, stepped, stepping_fault}
+use Rattle.re_shaping.specs.declared.stepping.ChainStepFault.{ChainStepFault}
+use Rattle.re_shaping.specs.declared.stepping.ChainStepFault.TheVariants as chain_step_fault
+use Rattle.re_chains.proofs.WordsGiven.{fault_not_done, text_checked}
+use Rattle.re_chains.specs.ChainTexts.{chain_fault, text_chain}
+use Rattle.re_chains.specs.OverChains.{IsTextOf, refusal_of}
 use Rattle.re_check.specs.Verdicts.{Means, steps_fault}
 use Rattle.re_check.specs.declared.verdict.ClauseFault.{ClauseFault}
 use Rattle.re_check.specs.declared.verdict.Verdict.TheVariants.{Accepted}
-use Rattle.re_chain.specs.Relaxing.{relaxed_limit}
+use Rattle.re_shaping.specs.Relaxing.{relaxed_limit}
 use Rattle.re_closure.specs.ClosureWords.{IsClosureLine, IsRaisedLine, MayFind as MayClose, MayFindBehind as MayCloseBehind, MayFindBy, MayFindRaisedBehind, MayFindRaisedWithin, MayFindWithin as MayCloseWithin, MayGive as MayGiveClosure, MayGiveAt as MayCloseAt, MayGiveBy as MayGiveClosureBy, MayGiveRead as MayCloseRead, MayGiveSound as MayCloseSound, MayGoOn, MayGoOnRaised, MayStep, closure_chain, stop_outcome}
 use Rattle.re_closure.specs.DiagramTexts.{diagram_edges, diagram_fault, front_chain, has_diagram}
 use Rattle.re_closure.specs.Diagrams.{raised}
 use Rattle.re_closure.specs.GivenClosures.{MayGiveText as MayGiveClosureText, MayGiveTextBy as MayGiveClosureTextBy, has_input}
 use Rattle.re_closure.specs.RaisedClosures.{raised_chain, step_to_raised}
 use Rattle.re_closure.specs.declared.answering.ClosureWord.{ClosureWord}
-use Rattle.re_extend.specs.Extensions.{GoesOn}
+use Rattle.re_shaping.specs.Extensions.{GoesOn}
 use Rattle.re_frame.specs.Answers.{MayAnswer}
 use Rattle.re_frame.specs.Check.{verdict_outcome}
 use Rattle.re_frame.specs.Outcomes.{Outcome, too_long}
@@ -42,7 +42,7 @@ use Rattle.re_search_words.specs.GivenAnswers.{MayGiveBy, MayGiveText}
 use Rattle.re_search_words.specs.MayGive.{IsFound, MayFind, MayFindBehind, MayGive, MayGiveAt, MayGiveRead, MayGiveSound, MayShorten, word_chain}
 use Rattle.re_search_words.specs.declared.words.SearchWord.{SearchWord}
 use Rattle.re_search_words.specs.declared.words.SearchWord.TheVariants.{Cycle, Longest, Shortest}
-use Rattle.re_two_texts.specs.TwoTexts.{has_line}
+use Rattle.re_chains.specs.TwoTexts.{has_line}
 use Rattle.re_explore.proofs.GivenClosureWorth.{closure_given_worth}
 use Rattle.re_explore.proofs.GivenWorth.{given_worth}
 use Rattle.re_explore.proofs.Undone.{stop_undone, undone}

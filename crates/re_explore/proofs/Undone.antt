@@ -1,7 +1,7 @@
 -- An outcome that isn't Done.
 use Rattle.std.proofs.Common.{◌≡◌, ℕ, sym, ap, ◌∙◌}
-use Rattle.re_chain_steps.specs.declared.stepping.ChainStepFault.{ChainStepFault}
-use Rattle.re_chain_steps.specs.declared.stepping.ChainStepFault.TheVariants as chain_step_fault
+use Rattle.re_shaping.specs.declared.stepping.ChainStepFault.{ChainStepFault}
+use Rattle.re_shaping.specs.declared.stepping.ChainStepFault.TheVariants as chain_step_fault
 use Rattle.re_closure.specs.ClosureWords.{stop_outcome}
 use Rattle.re_frame.specs.Outcomes.{Outcome}
 use Rattle.re_frame.specs.declared.status.Status.TheVariants.{Done}

@@ -19,7 +19,7 @@ use Rattle.re_relaxed.specs.Words.{MayGive as MayGiveRelaxed, relaxed_help, rela
 use Rattle.re_search_words.specs.GivenAnswers.{MayGiveText as MayGiveSearched}
 use Rattle.re_search_words.specs.Words.{IsSearchWord, search_help, search_word_of}
 use Rattle.re_settle.specs.Words.{IsSettleWord, settle_help, settle_word_of}
-use Rattle.re_settle_given.specs.Answers.{MaySettle}
+use Rattle.re_settle.specs.GivenAnswers.{MaySettle}
 use Rattle.re_why.specs.Explaining.{explaining_outcome, names_why, why_help}
 use Rattle.re_explore.specs.declared.command.Command.{Command}
 use Rattle.re_explore.specs.declared.command.Command.TheVariants.{Bridges, Chains, Closes, Describes, Explains, Givens, Graphs, Help, Inputs, Relaxes, Searches, Settles}

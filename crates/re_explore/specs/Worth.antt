@@ -5,14 +5,14 @@ use Rattle.re_cert.specs.Bounds.{Bound}
 use Rattle.re_cert.specs.declared.certificate.Kind.{Kind}
 use Rattle.re_cert.specs.declared.certificate.Kind.TheVariants.{Fixed, Lower, Upper}
 use Rattle.re_cert.specs.declared.certificate.TheConstants.{MAX_STEPS}
-use Rattle.re_chain_texts.specs.ChainTexts.{text_chain}
-use Rattle.re_chain_texts.specs.OverChains.{IsTextOf}
+use Rattle.re_chains.specs.ChainTexts.{text_chain}
+use Rattle.re_chains.specs.OverChains.{IsTextOf}
 use Rattle.re_chain_words.specs.Answers.{WordWorth}
 use Rattle.re_check.specs.declared.verdict.Verdict.TheVariants.{Accepted}
 use Rattle.re_closure.specs.ClosureWords.{closure_chain}
 use Rattle.re_closure.specs.GivenClosures.{has_input}
 use Rattle.re_closure.specs.declared.answering.ClosureWord.{ClosureWord}
-use Rattle.re_extend.specs.Extensions.{GoesOn}
+use Rattle.re_shaping.specs.Extensions.{GoesOn}
 use Rattle.re_frame.specs.Check.{check_outcome, verdict_line}
 use Rattle.re_frame.specs.Outcomes.{done}
 use Rattle.re_given_words.specs.Extensions.{GoesOnGiven}
@@ -24,8 +24,8 @@ use Rattle.re_search_words.specs.GivenAnswers.{given_chain}
 use Rattle.re_search_words.specs.MayGive.{word_chain}
 use Rattle.re_search_words.specs.declared.words.SearchWord.{SearchWord}
 use Rattle.re_search_words.specs.declared.words.SearchWord.TheVariants.{Cycle, Longest, Shortest}
-use Rattle.re_two_texts.specs.GivenTexts.{IsGivenText}
-use Rattle.re_two_texts.specs.TwoTexts.{back_problem, front_chain, has_line}
+use Rattle.re_chains.specs.GivenTexts.{IsGivenText}
+use Rattle.re_chains.specs.TwoTexts.{back_problem, front_chain, has_line}
 use Rattle.re_explore.specs.declared.command.Command.{Command}
 use Rattle.re_explore.specs.declared.command.Command.TheVariants.{Bridges, Chains, Closes, Describes, Explains, Givens, Graphs, Help, Inputs, Relaxes, Searches, Settles}
 

@@ -12,7 +12,7 @@ use crate::command::{Command, bad_words, command_from, help};
 use re_frame::{Output, OutputFault, Status, answer_input, find_input, put_output};
 use re_inputs::input_output;
 use re_io::{MAX_BYTES, Sink, Source};
-use re_settle_given::SettleText;
+use re_settle::SettleText;
 use re_why::Why;
 use std::alloc::Global;
 

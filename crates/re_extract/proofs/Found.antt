@@ -9,7 +9,7 @@ use Rattle.re_pool.specs.Pools.{children_of}
 use Rattle.re_pool.specs.declared.shape.Link.{Link}
 use Rattle.re_problem.specs.Problems.{Problem}
 use Rattle.re_problem.specs.Zero.{shows_zero, zero_place}
-use Rattle.re_views.specs.Trees.{Tree, backs}
+use Rattle.re_laws.specs.Trees.{Tree, backs}
 
 find_at : (p : List ℕ → Bool) (xs : List (List ℕ)) (i : ℕ) → i < length xs → p (get_or xs i []) ≡ true → ((k : ℕ) → k < i → p (get_or xs k []) ≡ false) → get_or xs i [] ≡ unwrap_or (find p xs) []
 find_at p [] i l h before = absurd (omega arith)

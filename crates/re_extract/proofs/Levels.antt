@@ -5,7 +5,7 @@ use Rattle.std.specs.List.{AllByRecursion}
 use Rattle.std.proofs.lemmas.Option.{get_or_from_slice_get, slice_get_within}
 use Rattle.std.proofs.lemmas.List.{get_or-map}
 use Rattle.arrayvec.specs.ArrayVec.{ArrayVec}
-use Rattle.re_config.specs.Rows.{choices}
+use Rattle.re_labels.specs.Rows.{choices}
 use Rattle.re_extract.specs.Seen.{AreViews, HasChoice, IsPut, labels_over, set_over}
 use Rattle.re_extract.specs.declared.sights.Sight.{Sight}
 use Rattle.re_labels.proofs.Membership.{AllByRecursion-weaker, all-push}
@@ -18,7 +18,7 @@ use Rattle.re_pool.specs.declared.shape.Shape.{Shape}
 use Rattle.re_problem.specs.Problems.{Problem}
 use Rattle.re_problem.specs.Steps.{SetEntry, set_for}
 use Rattle.re_table.specs.Constraints.{Constraint, has_config}
-use Rattle.re_views.specs.Trees.{IsView, shift}
+use Rattle.re_laws.specs.Trees.{IsView, shift}
 
 -- ---- the views that are seen
 -- what stood at a place still stands there

@@ -5,8 +5,8 @@ use Rattle.std.specs.List.{AllByRecursion}
 use Rattle.re_cert.proofs.Stages.{count-stages}
 use Rattle.re_cert.specs.Stages.{stages_of}
 use Rattle.re_cert.specs.Bounds.{BoundStep}
-use Rattle.re_config.proofs.ChoicesOfRows.{choices-IsChoice}
-use Rattle.re_config.specs.Rows.{choices}
+use Rattle.re_labels.proofs.ChoicesOfRows.{choices-IsChoice}
+use Rattle.re_labels.specs.Rows.{choices}
 use Rattle.re_extract.specs.Seen.{AreViews}
 use Rattle.re_labels.proofs.Membership.{AllByRecursion-contains, AllByRecursion-weaker}
 use Rattle.re_laws.proofs.ExtractedRounds.{extracted_solves}
@@ -19,8 +19,8 @@ use Rattle.re_problem.specs.NamedProblems.{NamedProblem, unnamed}
 use Rattle.re_problem.specs.Problems.{Problem}
 use Rattle.re_table.proofs.Goodness.{Has-has_config}
 use Rattle.re_table.specs.Constraints.{has_config}
-use Rattle.re_views.proofs.ViewLaws.{IsView-shift, child_of}
-use Rattle.re_views.specs.Trees.{IsTree, IsView, backs, leaf, end, more, shift}
+use Rattle.re_laws.proofs.ViewLaws.{IsView-shift, child_of}
+use Rattle.re_laws.specs.Trees.{IsTree, IsView, backs, leaf, end, more, shift}
 
 pub length-backs : (d e t n : ℕ) (x : Plain) → IsTree d e (suc t) n x → length (backs x) ≡ n
 length-backs d e t n leaf h = absurd h

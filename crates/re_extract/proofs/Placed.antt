@@ -10,11 +10,11 @@ use Rattle.re_pool.proofs.NarrowViews.{narrow_tree}
 use Rattle.re_pool.specs.Narrow.{IsNarrow}
 use Rattle.re_pool.specs.Pools.{IsPool, Keeps, tree_at}
 use Rattle.re_pool.specs.declared.shape.Shape.{Shape}
-use Rattle.re_views.proofs.AllViewsLemmas.{all_views-IsView}
-use Rattle.re_views.specs.AllViews.{all_views}
-use Rattle.re_views.specs.Shown.{tree_of_view}
-use Rattle.re_views.specs.Trees.{IsView}
-use Rattle.re_views.specs.declared.View.{View}
+use Rattle.re_laws.proofs.AllViewsLemmas.{all_views-IsView}
+use Rattle.re_laws.specs.AllViews.{all_views}
+use Rattle.re_laws.specs.Shown.{tree_of_view}
+use Rattle.re_laws.specs.Trees.{IsView}
+use Rattle.re_laws.specs.declared.View.{View}
 
 -- the numbers so far stand for these trees
 pub record Placed (start here : List Shape) (trees : List Plain) (ids : List ℕ) : Type 0 where

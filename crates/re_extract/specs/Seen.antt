@@ -2,10 +2,10 @@
 use Rattle.std.specs.Prelude.{◌≡◌, ◌⊎◌, ℕ, ◌<◌, List, [], ◌∷◌, ◌++◌, find, length, map, slice_index_or, unwrap_or, Option, None}
 use Rattle.std.specs.List.{AllByRecursion}
 use Rattle.arrayvec.specs.ArrayVec.{ArrayVec}
-use Rattle.re_config.specs.Rows.{choices}
+use Rattle.re_labels.specs.Rows.{choices}
 use Rattle.re_table.specs.Constraints.{Constraint, has_config}
 use Rattle.re_problem.specs.Steps.{SetEntry, set_for}
-use Rattle.re_views.specs.Trees.{IsView}
+use Rattle.re_laws.specs.Trees.{IsView}
 use Rattle.re_laws.specs.Algorithms.{at_port}
 use Rattle.re_pool.specs.Pools.{tree_at}
 use Rattle.re_pool.specs.declared.shape.Shape.{Shape}

@@ -10,13 +10,12 @@ ghost use Rattle.std.specs.Prelude.{◌≡◌, [], IfOk, map, slice_index_or};
 
 use crate::sights::Sight;
 use arrayvec::ArrayVec;
+use re_algo::first_choice;
 use re_cert::SetEntry;
-use re_choice::first_choice;
 use re_labels::{LabelSet, NoMemory, PortLabels};
 use re_pool::NodeId;
-use re_problem::Problem;
+use re_problem::{Problem, zero_round};
 use re_table::Constraint;
-use re_zero::zero_round;
 use std::alloc::Global;
 
 // The first configuration of a problem that shows that it is Zero.

@@ -5,16 +5,16 @@ ghost use Rattle.re_labels.specs.declared.sides.Degrees.{Degrees};
 ghost use Rattle.re_laws.specs.Extracted.{IsUpperBound, extracted};
 ghost use Rattle.re_pool.specs.Pools.{IsPool, Keeps, tree_at};
 ghost use Rattle.re_problem.specs.NamedProblems.{unnamed};
-ghost use Rattle.re_views.specs.AllViews.{all_views};
-ghost use Rattle.re_views.specs.Trees.{IsView, Tree};
+ghost use Rattle.re_laws.specs.AllViews.{all_views};
+ghost use Rattle.re_laws.specs.Trees.{IsView, Tree};
 ghost use Rattle.std.specs.Prelude.{◌<◌, ◌≡◌, IfOk, List, length, map, ℕ};
 
 use crate::extracting::labels_of;
 use crate::views::placed;
 use re_cert::Certificate;
 use re_labels::{NoMemory, PortLabels, Side};
+use re_laws::all_views;
 use re_pool::{NodeId, Pool, Rule};
-use re_views::all_views;
 use std::marker::Model;
 
 /// The algorithm of a valid certificate of an upper bound. Contracts see the certificate.
@@ -95,7 +95,7 @@ impl Extractor {
         )
     }
 
-    /// What the algorithm gives at all active views of its radius, in their order (`re_views::all_views`). Of the pool holds what
+    /// What the algorithm gives at all active views of its radius, in their order (`re_laws::all_views`). Of the pool holds what
     /// `extract` says. The views of each level are looked at once each, as there.
     pub fn answers(&mut self, pool: &mut Pool) -> Result<Vec<PortLabels>, NoMemory>
         ensures answers { IfOk result (λ answers. answers.items ≡ map (extracted (unnamed self.old.first) (stages_of self.old.steps))

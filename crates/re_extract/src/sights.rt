@@ -1,7 +1,7 @@
 //! What nodes see of their neighbours: the neighbours' views, each once.
 ghost use Rattle.re_extract.specs.Seen.{IsPut};
 ghost use Rattle.re_pool.specs.Pools.{tree_at};
-ghost use Rattle.re_views.specs.Trees.{backs};
+ghost use Rattle.re_laws.specs.Trees.{backs};
 ghost use Rattle.std.specs.Prelude.{◌<◌, ◌≡◌, ◌≤◌, IfOk, Some, length, map, slice_get};
 
 use arrayvec::ArrayVec;

@@ -1,13 +1,13 @@
 //! Views put into a pool.
 ghost use Rattle.re_pool.specs.Narrow.{IsNarrow};
 ghost use Rattle.re_pool.specs.Pools.{IsPool, Keeps, tree_at};
-ghost use Rattle.re_views.specs.Shown.{tree_of_view};
+ghost use Rattle.re_laws.specs.Shown.{tree_of_view};
 ghost use Rattle.std.specs.List.{AllByRecursion};
 ghost use Rattle.std.specs.Prelude.{◌<◌, ◌≡◌, IfOk, length, map};
 
 use re_labels::NoMemory;
+use re_laws::View;
 use re_pool::{NodeId, Pool};
-use re_views::View;
 
 /// The numbers of these views, in their order.
 pub(crate) fn placed(pool: &mut Pool, views: &[View<()>]) -> Result<Vec<NodeId>, NoMemory>

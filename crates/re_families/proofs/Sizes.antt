@@ -2,7 +2,7 @@
 use Rattle.std.proofs.Common.{◌≡◌, ℕ, zero, suc, ◌+◌, ◌-◌, ◌≤◌, ◌<◌, true, leb, List, ◌∷◌, length, map, refl, subst, ◌∙◌, arith, length-append}
 use Rattle.std.specs.List.{list_all}
 use Rattle.std.proofs.lemmas.Bool.{leb-true}
-use Rattle.re_config.specs.Orders.{begun, multisets}
+use Rattle.re_labels.specs.Orders.{begun, multisets}
 use Rattle.re_labels.proofs.Membership.{length-map'}
 use Rattle.re_labels.specs.Lists.{count_from}
 use Rattle.re_problem.proofs.UsedLabels.{counted_all}

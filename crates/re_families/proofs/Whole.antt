@@ -4,9 +4,9 @@ use Rattle.std.specs.Prelude.{not, ◌&&◌}
 use Rattle.std.specs.List.{list_all}
 use Rattle.std.proofs.lemmas.List.{length-replicate}
 use Rattle.std.proofs.lemmas.Bool.{le-ltb, leb-true}
-use Rattle.re_config.proofs.LawsOfRows.{multisets_law}
-use Rattle.re_config.specs.Configs.{IsConfig, support_of}
-use Rattle.re_config.specs.Orders.{multisets}
+use Rattle.re_labels.proofs.LawsOfRows.{multisets_law}
+use Rattle.re_labels.specs.Configs.{IsConfig, support_of}
+use Rattle.re_labels.specs.Orders.{multisets}
 use Rattle.re_labels.proofs.Before.{IsBefore-trans}
 use Rattle.re_labels.proofs.Membership.{AllByRecursion-from_In, Contains-filter, Contains-here, In-Contains, In-filter_from, length-count_from, length-map'}
 use Rattle.re_labels.proofs.Rising.{rising-filter}
@@ -22,7 +22,7 @@ use Rattle.re_table.specs.Constraints.{Constraint, IsConstraint}
 use Rattle.re_families.specs.Families.{Rules, are_equal, colour_name, colouring, constraint_of, family_of, independent_set, is_degree, matching, number_fits, orientation, out_of_range, passive_fits, rule, rules_of}
 use Rattle.re_families.specs.declared.types.Family.{Family}
 use Rattle.re_families.specs.declared.types.Family.TheVariants.{Colouring, Matching, Mis, Orientation}
-use Rattle.re_config.proofs.NextMultisets.{below-replicate}
+use Rattle.re_labels.proofs.NextMultisets.{below-replicate}
 use Rattle.re_labels.proofs.Places.{each_degree}
 
 -- ---- constraints

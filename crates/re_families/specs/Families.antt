@@ -3,8 +3,8 @@ use Rattle.std.specs.Prelude.{ℕ, ◌+◌, ◌/◌, ◌%◌, ◌==◌, nat_le, 
 use Rattle.re_labels.specs.Lists.{count_from}
 use Rattle.re_labels.specs.declared.sides.Side.{Side}
 use Rattle.re_labels.specs.declared.sides.Side.TheVariants.{Active, Passive}
-use Rattle.re_config.specs.Configs.{support_of}
-use Rattle.re_config.specs.Orders.{multisets}
+use Rattle.re_labels.specs.Configs.{support_of}
+use Rattle.re_labels.specs.Orders.{multisets}
 use Rattle.re_table.specs.Constraints.{Constraint}
 use Rattle.re_problem.specs.NamedProblems.{NamedProblem}
 use Rattle.re_families.specs.declared.types.Family.{Family}

@@ -1,6 +1,6 @@
 //! The problems of the families.
-ghost use Rattle.re_config.specs.Configs.{sorted};
-ghost use Rattle.re_config.specs.Orders.{multisets};
+ghost use Rattle.re_labels.specs.Configs.{sorted};
+ghost use Rattle.re_labels.specs.Orders.{multisets};
 ghost use Rattle.re_families.specs.Families.{constraint_of, count, family_of, is_degree, out_of_range, rule, rules_of};
 ghost use Rattle.re_labels.specs.ListSets.{with_list};
 ghost use Rattle.std.specs.List.{AllByRecursion};
@@ -9,8 +9,7 @@ ghost use Rattle.std.specs.Prelude.{◌≡◌, ◌↔◌, ◌≤◌, ◌<◌, �
 use crate::naming::names_of;
 use crate::types::{Family, FamilyFault};
 use arrayvec::ArrayVec;
-use re_config::{Config, Multisets};
-use re_labels::{MAX_LABELS, NoMemory, Side};
+use re_labels::{Config, MAX_LABELS, Multisets, NoMemory, Side};
 use re_problem::Problem;
 use re_table::{Constraint, InsertFault, MAX_CONFIGURATIONS};
 use std::alloc::Global;

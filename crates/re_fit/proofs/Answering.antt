@@ -4,13 +4,13 @@ use Rattle.std.proofs.lemmas.List.{get_or-map, map-append}
 use Rattle.re_labels.proofs.Membership.{get_or-count_from, length-count_from}
 use Rattle.re_labels.specs.Lists.{count_from}
 use Rattle.re_changes.proofs.Counted.{filter-next_in, filter-next_out}
-use Rattle.re_config.specs.Rows.{singles}
+use Rattle.re_labels.specs.Rows.{singles}
 use Rattle.re_labels.specs.Sets.{has}
 use Rattle.re_problem.specs.NamedProblems.{occurs}
 use Rattle.re_table.specs.Constraints.{Constraint}
 use Rattle.re_problem.specs.Problems.{IsProblem, Problem}
 use Rattle.re_problem.specs.Steps.{SetEntry}
-use Rattle.re_entry_clauses.specs.LabelsOver.{labels_over}
+use Rattle.re_check.specs.LabelsOver.{labels_over}
 use Rattle.re_given.specs.Inputs.{IsInput, exchanged, exchanged_by}
 use Rattle.re_fit.proofs.Told.{fit_walk_law, upper_walk_law}
 use Rattle.re_fit.specs.Fits.{IsFound, loose}

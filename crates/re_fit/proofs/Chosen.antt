@@ -8,17 +8,17 @@ use Rattle.re_labels.proofs.Membership.{AllByRecursion-from_contains, Contains-c
 use Rattle.re_labels.proofs.Sets.{has-IsIn}
 use Rattle.re_labels.proofs.Tests.{true-and}
 use Rattle.re_labels.specs.Sets.{IsIn, has}
-use Rattle.re_config.proofs.Rearranging.{length-AllZip}
-use Rattle.re_config.proofs.Replacing.{support_law}
-use Rattle.re_config.specs.Rows.{IsChoice, singles}
+use Rattle.re_labels.proofs.Rearranging.{length-AllZip}
+use Rattle.re_labels.proofs.Replacing.{support_law}
+use Rattle.re_labels.specs.Rows.{IsChoice, singles}
 use Rattle.re_table.proofs.Goodness.{Has-Rearranged, Has-has_config}
 use Rattle.re_table.specs.Constraints.{Has, has_config}
 use Rattle.re_problem.specs.Problems.{IsProblem, Problem}
 use Rattle.re_problem.specs.Steps.{IsUpper, SetEntry}
-use Rattle.re_entry_clauses.proofs.AllowedImages.{keeps_allowed_law}
-use Rattle.re_entry_clauses.specs.LabelsOver.{labels_over}
-use Rattle.re_entry_clauses.specs.RowEntries.{row_entries}
-use Rattle.re_clauses.specs.Clauses.{keep_allowed}
+use Rattle.re_check.proofs.AllowedImages.{keeps_allowed_law}
+use Rattle.re_check.specs.LabelsOver.{labels_over}
+use Rattle.re_check.specs.RowEntries.{row_entries}
+use Rattle.re_check.specs.Clauses.{keep_allowed}
 use Rattle.re_given.proofs.AllInputViews.{Has-below}
 use Rattle.re_laws.proofs.Mapping.{count_of}
 use Rattle.re_given.specs.Inputs.{exchanged}

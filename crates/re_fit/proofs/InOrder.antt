@@ -3,9 +3,9 @@ use Rattle.std.proofs.Common.{◌≡◌, ℕ, zero, suc, ◌<◌, ◌≤◌, Boo
 use Rattle.std.proofs.lemmas.Bool.Decides.{nat_tests}
 use Rattle.re_labels.proofs.Tests.{and-true, eqb-true, true-and}
 use Rattle.re_labels.specs.Sets.{IsIn}
-use Rattle.re_config.proofs.Rearranging.{Rearranged-refl}
-use Rattle.re_config.specs.Rearranging.{Rearranged, chained, kept, swapped}
-use Rattle.re_config.specs.Rows.{IsChoice}
+use Rattle.re_labels.proofs.Rearranging.{Rearranged-refl}
+use Rattle.re_labels.specs.Rearranging.{Rearranged, chained, kept, swapped}
+use Rattle.re_labels.specs.Rows.{IsChoice}
 use Rattle.re_fit.specs.Fits.{is_in_order}
 
 -- the first labels are in order, too

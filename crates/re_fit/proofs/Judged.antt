@@ -2,12 +2,12 @@
 use Rattle.std.proofs.Common.{◌≡◌, ℕ, zero, suc, ◌<◌, ◌≤◌, Bool, true, false, cond, eqb, not, List, [], ◌∷◌, length, get_or, inl, inr, refl, sym, ap, ◌∙◌, subst, arith, true≢false, Option, None, Some}
 use Rattle.std.specs.Prelude.{◌&&◌, ◌||◌, Contains, find}
 use Rattle.std.proofs.lemmas.List.Elements.{Contains-get_or}
-use Rattle.re_choice.proofs.Beginning.{some_found}
+use Rattle.re_algo.proofs.Beginning.{some_found}
 use Rattle.re_labels.proofs.Membership.{AllByRecursion-contains, Contains-count_from, Contains-here, Contains-later, any_true, count_from_range}
 use Rattle.re_labels.proofs.Tests.{and-true, eqb-same, eqb-true, true-and}
 use Rattle.re_labels.specs.Lists.{count_from}
 use Rattle.re_labels.specs.Sets.{has}
-use Rattle.re_config.specs.Configs.{IsConfig}
+use Rattle.re_labels.specs.Configs.{IsConfig}
 use Rattle.re_problem.proofs.Building.{fact-occurs, occurs-fact}
 use Rattle.re_problem.specs.NamedProblems.{IsNamedProblem, NamedProblem, OccursIn, occurs, unnamed}
 use Rattle.re_given.specs.Inputs.{IsInput}

@@ -6,7 +6,7 @@ use Rattle.std.proofs.lemmas.List.Elements.{Contains-get_or}
 use Rattle.re_labels.proofs.Membership.{AllByRecursion-contains, AllByRecursion-from_contains, Contains-count_from, Contains-filter, Contains-filter_cases, Contains-flat_map, Contains-flat_map_cases}
 use Rattle.re_labels.proofs.Tests.{eqb-same}
 use Rattle.re_labels.specs.Lists.{count_from}
-use Rattle.re_config.specs.Configs.{IsConfig}
+use Rattle.re_labels.specs.Configs.{IsConfig}
 use Rattle.re_table.specs.Constraints.{Constraint, IsConstraint}
 use Rattle.re_fit.specs.Fits.{by_last, ends_in}
 

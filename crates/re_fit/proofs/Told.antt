@@ -9,9 +9,9 @@ use Rattle.re_labels.proofs.Sets.{IsIn-has}
 use Rattle.re_labels.proofs.Tests.{and-true, true-and}
 use Rattle.re_labels.specs.Lists.{count_from}
 use Rattle.re_labels.specs.Sets.{IsIn, IsLabelSet, has}
-use Rattle.re_config.proofs.Replacing.{support_law}
-use Rattle.re_config.specs.Configs.{IsConfig}
-use Rattle.re_config.specs.Rows.{IsChoice, set_at, singles}
+use Rattle.re_labels.proofs.Replacing.{support_law}
+use Rattle.re_labels.specs.Configs.{IsConfig}
+use Rattle.re_labels.specs.Rows.{IsChoice, set_at, singles}
 use Rattle.re_table.proofs.Goodness.{has_config-Has}
 use Rattle.re_table.specs.Constraints.{Constraint, IsConstraint, has_config}
 use Rattle.re_table.specs.GoodRows.{IsAllowed, IsGood}
@@ -19,12 +19,12 @@ use Rattle.re_problem.proofs.Building.{fact-occurs, occurs-fact}
 use Rattle.re_problem.specs.NamedProblems.{occurs}
 use Rattle.re_problem.specs.Problems.{IsProblem, Problem}
 use Rattle.re_problem.specs.Steps.{IsUpper, IsUpperStep, SetEntry, entry_sets, set_for}
-use Rattle.re_entry_clauses.proofs.AllowedImages.{keeps_allowed_law}
-use Rattle.re_entry_clauses.proofs.RowChoices.{entry}
-use Rattle.re_entry_clauses.specs.LabelsOver.{labels_over}
-use Rattle.re_entry_clauses.specs.RowEntries.{row_entries}
-use Rattle.re_entry_clauses.specs.StepClauses.{KeepsAllowed}
-use Rattle.re_clauses.specs.Clauses.{keep_allowed}
+use Rattle.re_check.proofs.AllowedImages.{keeps_allowed_law}
+use Rattle.re_check.proofs.RowChoices.{entry}
+use Rattle.re_check.specs.LabelsOver.{labels_over}
+use Rattle.re_check.specs.RowEntries.{row_entries}
+use Rattle.re_check.specs.StepClauses.{KeepsAllowed}
+use Rattle.re_check.specs.Clauses.{keep_allowed}
 use Rattle.re_given.proofs.ZeroGiven.{some}
 use Rattle.re_given.specs.Inputs.{IsInput, exchanged}
 use Rattle.re_bridge.proofs.Beginnings.{allowed-front, entries-parted}

@@ -2,14 +2,14 @@
 -- problem, and an input label gets the labels that it becomes; one that stands in no active configuration becomes any label.
 use Rattle.std.specs.Prelude.{◌≡◌, ℕ, ◌==◌, ◌-◌, nat_lt, Bool, true, not, ◌&&◌, List, [], ◌∷◌, ◌++◌, length, map, filter, flat_map, take, drop, if◌then◌else◌, slice_index_or, Option, None, Some}
 use Rattle.re_labels.specs.Lists.{count_from}
-use Rattle.re_config.specs.Rows.{set_at, singles}
+use Rattle.re_labels.specs.Rows.{set_at, singles}
 use Rattle.re_table.specs.Constraints.{Constraint, has_config}
 use Rattle.re_problem.specs.NamedProblems.{occurs}
 use Rattle.re_problem.specs.Problems.{Problem}
 use Rattle.re_problem.specs.Steps.{SetEntry}
-use Rattle.re_entry_clauses.specs.LabelsOver.{labels_over}
-use Rattle.re_entry_clauses.specs.RowEntries.{row_entries}
-use Rattle.re_clauses.specs.Clauses.{keep_allowed}
+use Rattle.re_check.specs.LabelsOver.{labels_over}
+use Rattle.re_check.specs.RowEntries.{row_entries}
+use Rattle.re_check.specs.Clauses.{keep_allowed}
 use Rattle.re_walks.specs.Begun.{is_begun}
 use Rattle.re_walks.specs.Walking.{Walk, found, nowhere, walk}
 

@@ -1,6 +1,6 @@
 //! The sets of the labels of an input problem, and of any problem to which an upper step leads.
-ghost use Rattle.re_entry_clauses.specs.LabelsOver.{labels_over};
-ghost use Rattle.re_entry_clauses.specs.RowEntries.{row_entries};
+ghost use Rattle.re_check.specs.LabelsOver.{labels_over};
+ghost use Rattle.re_check.specs.RowEntries.{row_entries};
 ghost use Rattle.re_fit.specs.Fits.{IsFound, fit_walk, passes_with, problem_with};
 ghost use Rattle.re_fit.specs.Laws.{IsAnswer, IsLeading};
 ghost use Rattle.re_given.specs.Inputs.{IsInput, exchanged, exchanged_by};
@@ -13,9 +13,8 @@ ghost use Rattle.std.specs.Prelude.{◌≡◌, ◌<◌, ◌≤◌, Err, IfOk, If
 use crate::ordering::{by_last, places_of};
 use crate::passing::passes;
 use re_bridge::entries_for;
-use re_config::Config;
-use re_entry_clauses::all_labels_over;
-use re_labels::{LabelSet, MAX_LABELS, NoMemory};
+use re_check::all_labels_over;
+use re_labels::{Config, LabelSet, MAX_LABELS, NoMemory};
 use re_problem::Problem;
 use re_table::Constraint;
 use re_walks::follow;
@@ -130,7 +129,7 @@ fn fit_between(
 /// last labels first: each becomes a configuration of the problem, with ascending labels where it has a label more than once. The set of an
 /// input label has the labels that it becomes somewhere; the sets are those of the first labels in lexicographic order. The walk goes back
 /// as soon as no configuration begins with the labels of one, or some choice of labels that a passive configuration becomes isn't passive. Each
-/// list of labels that is tested is a try, and costs what `keeps_allowed` of `re_entry_clauses` costs. `TooManyTries` comes exactly where the walk
+/// list of labels that is tested is a try, and costs what `keeps_allowed` of `re_check` costs. `TooManyTries` comes exactly where the walk
 /// needs more than `tries`.
 pub fn find_fit(
     alloc: Global,

@@ -1,12 +1,11 @@
 //! The active configurations of an input problem in the order of their last labels, and the places of their labels and of those that stand
 //! in none.
-ghost use Rattle.re_config.specs.Rows.{singles};
+ghost use Rattle.re_labels.specs.Rows.{singles};
 ghost use Rattle.re_fit.specs.Fits.{by_last, ends_in, joined, loose};
 ghost use Rattle.re_labels.specs.declared.TheConstants.{MAX_LABELS};
 ghost use Rattle.std.specs.Prelude.{◌≡◌, ◌++◌, ◌≤◌, IfOk, filter};
 
-use re_config::Config;
-use re_labels::{LabelSet, MAX_LABELS, NoMemory};
+use re_labels::{Config, LabelSet, MAX_LABELS, NoMemory};
 use re_table::Constraint;
 use std::alloc::Global;
 

@@ -5,9 +5,8 @@ ghost use Rattle.std.specs.List.{AllByRecursion};
 ghost use Rattle.std.specs.Prelude.{◌≡◌, ◌<◌, ◌≤◌, IfOk, length};
 
 use re_bridge::entries_for;
-use re_config::Config;
-use re_entry_clauses::keeps_allowed;
-use re_labels::{LabelSet, MAX_LABELS, NoMemory};
+use re_check::keeps_allowed;
+use re_labels::{Config, LabelSet, MAX_LABELS, NoMemory};
 use re_problem::Problem;
 use re_table::Constraint;
 use re_walks::is_begun;
@@ -81,7 +80,7 @@ fn are_images(active: &Constraint, n: u8, configs: &[Config], labels: &[u8]) -> 
 }
 
 /// Whether the labels are images of active configurations, and for each passive one each choice of a label that each of its labels becomes
-/// is passive: the labels are those of the first places. It makes their entries, and costs what `keeps_allowed` of `re_entry_clauses` costs.
+/// is passive: the labels are those of the first places. It makes their entries, and costs what `keeps_allowed` of `re_check` costs.
 pub(crate) fn passes(
     alloc: Global,
     problem: &Problem,

@@ -5,9 +5,9 @@ use Rattle.std.specs.List.{AllByRecursion, refill}
 use Rattle.std.proofs.lemmas.Bool.{false≢true}
 use Rattle.std.proofs.lemmas.List.{take_all, take_more}
 use Rattle.std.proofs.lemmas.List.Elements.{Contains-append_cases, Contains-append_left, Contains-append_right}
-use Rattle.re_config.proofs.Rearranging.{Contains-Rearranged, Rearranged-sym}
-use Rattle.re_config.proofs.Sorting.{AllByRecursion-Rearranged, Rearranged-sorted, sorted-Rearranged, sorted_again, take_front}
-use Rattle.re_config.specs.Configs.{IsConfig, sorted, support_of}
+use Rattle.re_labels.proofs.Rearranging.{Contains-Rearranged, Rearranged-sym}
+use Rattle.re_labels.proofs.Sorting.{AllByRecursion-Rearranged, Rearranged-sorted, sorted-Rearranged, sorted_again, take_front}
+use Rattle.re_labels.specs.Configs.{IsConfig, sorted, support_of}
 use Rattle.re_labels.proofs.Membership.{AllByRecursion-contains, Contains-cases, Contains-here, Contains-later, Contains-none}
 use Rattle.re_labels.proofs.Sets.{IsWithin-within, within-IsWithin}
 use Rattle.re_labels.specs.Sets.{IsIn, within}

@@ -2,11 +2,11 @@
 use Rattle.std.proofs.Common.{◌≡◌, ◌∷◌, ◌∙◌, ◌++◌, ◌+◌, ◌*◌, ℕ, suc, ◌<◌, ◌≤◌, Bool, true, false, List, [], length, get_or, sym, ap, subst, arith, inl, inr, None, Some, length-append}
 use Rattle.std.specs.Prelude.{Contains, ◌↔◌, Option}
 use Rattle.std.proofs.lemmas.List.Elements.{Contains-append_cases, Contains-append_left, Contains-append_right, Contains-get_or}
-use Rattle.re_config.proofs.Rearranging.{Contains-Rearranged}
-use Rattle.re_config.proofs.Sorting.{Rearranged-sorted}
-use Rattle.re_config.specs.Configs.{IsConfig, sorted}
-use Rattle.re_forest.proofs.Turning.{turning}
-use Rattle.re_forest.specs.Flexible.{AreJoined, Leads, Turns, side}
+use Rattle.re_labels.proofs.Rearranging.{Contains-Rearranged}
+use Rattle.re_labels.proofs.Sorting.{Rearranged-sorted}
+use Rattle.re_labels.specs.Configs.{IsConfig, sorted}
+use Rattle.re_forests.proofs.Turning.{turning}
+use Rattle.re_forests.specs.Flexible.{AreJoined, Leads, Turns, side}
 use Rattle.re_labels.proofs.LawsOfSets.{number_law}
 use Rattle.re_labels.proofs.Membership.{AllByRecursion-contains, Contains-cases, Contains-here, Contains-none}
 use Rattle.re_labels.proofs.Sets.{IsIn-meet, IsIn-meet_cases, IsIn-union, IsIn-union_cases, IsWithin-within}

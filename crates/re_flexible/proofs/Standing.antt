@@ -1,8 +1,8 @@
 -- Labels at two places of a configuration.
 use Rattle.std.proofs.Common.{◌≡◌, ◌∷◌, ◌∙◌, ◌+◌, ℕ, zero, suc, ◌<◌, List, [], length, get_or, set, refl, sym, ap, subst, arith, inl, inr, ◌⊎◌}
 use Rattle.std.specs.Prelude.{Contains, ◌↔◌}
-use Rattle.re_config.proofs.Rearranging.{Contains-Rearranged, Rearranged-refl}
-use Rattle.re_config.specs.Rearranging.{Rearranged, chained, kept, swapped, unmoved}
+use Rattle.re_labels.proofs.Rearranging.{Contains-Rearranged, Rearranged-refl}
+use Rattle.re_labels.specs.Rearranging.{Rearranged, chained, kept, swapped, unmoved}
 use Rattle.re_labels.proofs.Membership.{Contains-cases, Contains-here, Contains-later, Contains-none}
 use Rattle.re_labels.proofs.Tests.{below-cases}
 use Rattle.re_labels.specs.Sets.{IsIn, union, with_label}

@@ -2,10 +2,10 @@
 use Rattle.std.proofs.Common.{◌≡◌, ◌∷◌, ◌∙◌, ◌+◌, ◌*◌, ℕ, zero, suc, ◌<◌, ◌≤◌, Bool, true, false, List, [], refl, sym, ap, subst, arith}
 use Rattle.std.specs.Prelude.{Contains, ◌↔◌, not}
 use Rattle.std.specs.List.{AllByRecursion}
-use Rattle.re_config.proofs.Sorting.{sorted-Rearranged}
-use Rattle.re_config.specs.Rearranging.{swapped}
-use Rattle.re_forest.proofs.Leads.{after, after_even, after_odd, joined, joined_even, joined_odd, lead_as_long, twice}
-use Rattle.re_forest.specs.Flexible.{AreJoined, Joins, Leads, Turns, side}
+use Rattle.re_labels.proofs.Sorting.{sorted-Rearranged}
+use Rattle.re_labels.specs.Rearranging.{swapped}
+use Rattle.re_forests.proofs.Leads.{after, after_even, after_odd, joined, joined_even, joined_odd, lead_as_long, twice}
+use Rattle.re_forests.specs.Flexible.{AreJoined, Joins, Leads, Turns, side}
 use Rattle.re_labels.specs.Sets.{IsIn, IsLabelSet, IsWithin}
 use Rattle.re_problem.specs.Problems.{Problem}
 use Rattle.re_table.specs.Constraints.{Constraint}

@@ -1,6 +1,6 @@
 -- Flexible sets of labels of a problem.
 use Rattle.std.specs.Prelude.{ℕ, suc, ◌*◌, true, false, ◌↔◌, List, Contains, MatchOption, Option}
-use Rattle.re_forest.specs.Flexible.{AreJoined, IsFlexible, Joins, Leads}
+use Rattle.re_forests.specs.Flexible.{AreJoined, IsFlexible, Joins, Leads}
 use Rattle.re_labels.specs.Sets.{IsIn, IsWithin}
 use Rattle.re_problem.specs.Problems.{Problem}
 use Rattle.re_table.specs.Constraints.{Constraint}

@@ -1,6 +1,6 @@
 //! The search for a flexible set of labels.
 ghost use Rattle.re_flexible.specs.Finding.{Flexible, IsFound, IsFoundWithin};
-ghost use Rattle.re_forest.specs.Flexible.{AreJoined};
+ghost use Rattle.re_forests.specs.Flexible.{AreJoined};
 ghost use Rattle.re_labels.specs.Sets.{IsIn};
 ghost use Rattle.re_problem.specs.NamedProblems.{unnamed};
 ghost use Rattle.std.specs.Prelude.{◌<◌, ◌≤◌, ◌↔◌, ℕ, IsTrue};

@@ -1,7 +1,7 @@
 //! Where walks of labels lead, and the labels that walks join.
 ghost use Rattle.re_flexible.specs.Finding.{AreParts, AreWalks, IsPart};
 ghost use Rattle.re_flexible.specs.Relations.{Relates};
-ghost use Rattle.re_forest.specs.Flexible.{AreJoined, Turns};
+ghost use Rattle.re_forests.specs.Flexible.{AreJoined, Turns};
 ghost use Rattle.re_labels.specs.Sets.{IsIn};
 ghost use Rattle.re_problem.specs.NamedProblems.{unnamed};
 ghost use Rattle.std.specs.Prelude.{◌≡◌, ◌<◌, ◌↔◌, ℕ, IsTrue, MatchOption, length};

@@ -8,8 +8,8 @@ use Rattle.re_problem.specs.declared.fault.InputFault.{InputFault}
 use Rattle.re_check.specs.Verdicts.{verdict_of}
 use Rattle.re_check.specs.declared.verdict.Verdict.{Verdict}
 use Rattle.re_check.specs.declared.verdict.Verdict.TheVariants.{Accepted, Refused}
-use Rattle.re_clauses.specs.declared.clause.Clause.{Clause}
-use Rattle.re_clauses.specs.declared.clause.Clause.TheVariants.{L1, L2, L3, L4, L5, U1, U2, U3, U4, End, Back}
+use Rattle.re_check.specs.declared.clause.Clause.{Clause}
+use Rattle.re_check.specs.declared.clause.Clause.TheVariants.{L1, L2, L3, L4, L5, U1, U2, U3, U4, End, Back}
 use Rattle.re_frame.specs.Outcomes.{Outcome}
 use Rattle.re_frame.specs.TextFaults.{fault_outcome}
 use Rattle.re_frame.specs.declared.status.Status.TheVariants.{Done, No}

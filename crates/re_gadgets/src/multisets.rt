@@ -2,8 +2,7 @@
 ghost use Rattle.std.specs.Prelude.{◌≤◌, ◌<◌};
 
 use crate::relations::is_in;
-use re_config::Config;
-use re_labels::{LabelSet, MAX_LABELS, NoMemory};
+use re_labels::{Config, LabelSet, MAX_LABELS, NoMemory};
 use std::alloc::Global;
 
 /// A multiset of at most 6 labels as a number: a byte for each label, in ascending order, the least in the lowest byte.

@@ -1,9 +1,9 @@
 -- All input views of a radius, and those among them that fit.
 use Rattle.std.proofs.Common.{◌≡◌, ℕ, zero, suc, pred, ◌<◌, Bool, true, ◌&&◌, List, [], ◌∷◌, map, filter, refl, arith}
 use Rattle.std.specs.Prelude.{Contains, flat_map}
-use Rattle.re_config.proofs.Rearranging.{Contains-Rearranged}
-use Rattle.re_config.proofs.Sorting.{Rearranged-sorted}
-use Rattle.re_config.specs.Configs.{IsConfig, sorted}
+use Rattle.re_labels.proofs.Rearranging.{Contains-Rearranged}
+use Rattle.re_labels.proofs.Sorting.{Rearranged-sorted}
+use Rattle.re_labels.specs.Configs.{IsConfig, sorted}
 use Rattle.re_given.specs.InputViews.{Fits, FitsAround, InputView}
 use Rattle.re_labels.proofs.Membership.{AllByRecursion-contains, Contains-count_from, Contains-filter, Contains-filter_cases, Contains-flat_map, Contains-flat_map_cases, Contains-here, Contains-later, Contains-map, Contains-map_cases, count_from_range}
 use Rattle.re_labels.proofs.Tests.{and-true, true-and}
@@ -11,7 +11,7 @@ use Rattle.re_labels.specs.Lists.{count_from}
 use Rattle.re_problem.specs.Problems.{IsProblem, Problem}
 use Rattle.re_table.proofs.Goodness.{Has-has_config, has_config-Has}
 use Rattle.re_table.specs.Constraints.{Constraint, Has, IsConstraint, has_config}
-use Rattle.re_views.specs.Trees.{IsTree, IsView, end, leaf, more}
+use Rattle.re_laws.specs.Trees.{IsTree, IsView, end, leaf, more}
 
 -- all lists of n children with a back port from 1 to e, a label below l, and one of these branches
 abbrev pub all_children : ℕ → ℕ → List InputView → ℕ → List InputView

@@ -3,10 +3,10 @@ use Rattle.std.proofs.Common.{◌≡◌, ℕ, zero, suc, pred, ◌+◌, ◌-◌,
 use Rattle.std.specs.Prelude.{Contains, replicate, ◌⊎◌}
 use Rattle.std.specs.List.{AllByRecursion, AllZip}
 use Rattle.std.proofs.lemmas.List.{get_or-map, length-map, length-replicate}
-use Rattle.re_config.proofs.Rearranging.{AllZip-at, Contains-Rearranged, Rearranged-sym, length-AllZip}
-use Rattle.re_config.proofs.Sorting.{Rearranged-sorted, sorted_again}
-use Rattle.re_config.specs.Configs.{IsConfig, sorted}
-use Rattle.re_config.specs.Rows.{IsChoice}
+use Rattle.re_labels.proofs.Rearranging.{AllZip-at, Contains-Rearranged, Rearranged-sym, length-AllZip}
+use Rattle.re_labels.proofs.Sorting.{Rearranged-sorted, sorted_again}
+use Rattle.re_labels.specs.Configs.{IsConfig, sorted}
+use Rattle.re_labels.specs.Rows.{IsChoice}
 use Rattle.re_given.proofs.AllInputViews.{Has-below}
 use Rattle.re_given.proofs.ChainGiven.{IsInput-lower, SolvableGiven-lower, SolvableGiven-none, SolvableGiven-up, exchanged_by-add, exchanged_by-twice, lower_bound_given}
 use Rattle.re_given.proofs.MappingGiven.{IsInput-same, SolvableGiven-relaxed}

@@ -5,7 +5,7 @@ use Rattle.std.specs.List.{AllByRecursion, AllZip, list_any}
 use Rattle.std.proofs.lemmas.List.{get_or_default, length-map}
 use Rattle.std.proofs.lemmas.List.Elements.{Contains-get_or}
 use Rattle.std.proofs.lemmas.Nat.{pow_pos}
-use Rattle.re_config.proofs.Sorting.{sorted_again}
+use Rattle.re_labels.proofs.Sorting.{sorted_again}
 use Rattle.re_given.proofs.AvoidedInputs.{lower_bound_unavoidable}
 use Rattle.re_given.proofs.ChainGiven.{exchanged_by-twice}
 use Rattle.re_families.proofs.Whole.{alike_rise}

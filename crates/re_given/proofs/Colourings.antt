@@ -7,13 +7,13 @@ use Rattle.std.proofs.lemmas.Bool.Decides.{nat_tests}
 use Rattle.std.proofs.lemmas.List.{get_or-replicate, length-map, length-replicate, map-id}
 use Rattle.std.proofs.lemmas.List.Elements.{Contains-get_or}
 use Rattle.std.proofs.lemmas.List.Sums.{count_by-le-length, length-filter}
-use Rattle.re_config.proofs.LawsOfRows.{multisets_law}
-use Rattle.re_config.proofs.NextMultisets.{below-replicate}
-use Rattle.re_config.proofs.Rearranging.{Contains-Rearranged, Rearranged-sym, length-AllZip}
-use Rattle.re_config.proofs.Sorting.{Rearranged-sorted, length-sorted, sorted_again, sorted_rises}
-use Rattle.re_config.specs.Configs.{IsConfig, sorted, support_of}
-use Rattle.re_config.specs.Orders.{multisets}
-use Rattle.re_config.specs.Rearranging.{Rearranged, chained, kept, swapped, unmoved}
+use Rattle.re_labels.proofs.LawsOfRows.{multisets_law}
+use Rattle.re_labels.proofs.NextMultisets.{below-replicate}
+use Rattle.re_labels.proofs.Rearranging.{Contains-Rearranged, Rearranged-sym, length-AllZip}
+use Rattle.re_labels.proofs.Sorting.{Rearranged-sorted, length-sorted, sorted_again, sorted_rises}
+use Rattle.re_labels.specs.Configs.{IsConfig, sorted, support_of}
+use Rattle.re_labels.specs.Orders.{multisets}
+use Rattle.re_labels.specs.Rearranging.{Rearranged, chained, kept, swapped, unmoved}
 use Rattle.re_families.proofs.Whole.{alike_rise, alike_support}
 use Rattle.re_given.proofs.AvoidedInputs.{fixed_point_unavoidable, lower_bound_unavoidable, shorter_bound_unavoidable}
 use Rattle.re_given.proofs.ChainGiven.{exchanged_by-twice}

@@ -11,8 +11,8 @@ use Rattle.re_laws.proofs.Tables.{Solvable-by}
 use Rattle.re_laws.specs.Algorithms.{Plain, Solvable, SolvesBy, answer, at_port, back_at}
 use Rattle.re_problem.specs.Problems.{Problem}
 use Rattle.re_table.specs.Constraints.{Has}
-use Rattle.re_views.proofs.ViewLaws.{IsTree-cut, child_of, cut-cut, shift-cut}
-use Rattle.re_views.specs.Trees.{IsView, cut, shift}
+use Rattle.re_laws.proofs.ViewLaws.{IsTree-cut, child_of, cut-cut, shift-cut}
+use Rattle.re_laws.specs.Trees.{IsView, cut, shift}
 
 -- the outputs of an algorithm on port numbers
 pub plain_outputs : (input : Problem) (S : ℕ) (B : Plain → List ℕ) → SolvesBy input S B

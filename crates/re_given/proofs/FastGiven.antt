@@ -5,13 +5,13 @@ use Rattle.std.specs.Prelude.{Contains, find, unwrap_or}
 use Rattle.std.specs.List.{AllByRecursion}
 use Rattle.std.proofs.lemmas.List.{get_or-map, get_or_default}
 use Rattle.std.proofs.lemmas.List.Elements.{Contains-get_or}
-use Rattle.re_config.proofs.Placing.{Dominates-dominates}
-use Rattle.re_config.proofs.Rearranging.{AllZip-at, AllZip-flip, Contains-Rearranged, Rearranged-map, Rearranged-sym, length-AllZip}
-use Rattle.re_config.proofs.Sorting.{Rearranged-sorted, sorted-Rearranged, sorted_again}
-use Rattle.re_config.specs.Configs.{IsConfig, sorted}
-use Rattle.re_config.specs.Orders.{multisets}
-use Rattle.re_config.specs.Rearranging.{Rearranged}
-use Rattle.re_config.specs.Rows.{IsChoice, IsUnder, dominates, placed, set_at}
+use Rattle.re_labels.proofs.Placing.{Dominates-dominates}
+use Rattle.re_labels.proofs.Rearranging.{AllZip-at, AllZip-flip, Contains-Rearranged, Rearranged-map, Rearranged-sym, length-AllZip}
+use Rattle.re_labels.proofs.Sorting.{Rearranged-sorted, sorted-Rearranged, sorted_again}
+use Rattle.re_labels.specs.Configs.{IsConfig, sorted}
+use Rattle.re_labels.specs.Orders.{multisets}
+use Rattle.re_labels.specs.Rearranging.{Rearranged}
+use Rattle.re_labels.specs.Rows.{IsChoice, IsUnder, dominates, placed, set_at}
 use Rattle.re_given.proofs.Fitting.{FitsAround-shift}
 use Rattle.re_given.proofs.GivenTables.{SolvableGiven-by, same_input_view-refl, same_input_view-same}
 use Rattle.re_given.proofs.GrownInputs.{grown_children, passive_sides}
@@ -41,9 +41,9 @@ use Rattle.re_table.proofs.MaxRows.{dominated}
 use Rattle.re_table.proofs.MaxSets.{max_sets-row}
 use Rattle.re_table.specs.Constraints.{Has}
 use Rattle.re_table.specs.GoodRows.{IsGood, is_allowed, max_rows, max_sets}
-use Rattle.re_views.proofs.Branchwise.{back-shift, backs-child}
-use Rattle.re_views.proofs.ViewLaws.{IsChild, IsView-shift, child_of, shift-shift}
-use Rattle.re_views.specs.Trees.{Child, IsTree, IsView, Tree, backs, child_at, cut, shift}
+use Rattle.re_laws.proofs.Branchwise.{back-shift, backs-child}
+use Rattle.re_laws.proofs.ViewLaws.{IsChild, IsView-shift, child_of, shift-shift}
+use Rattle.re_laws.specs.Trees.{Child, IsTree, IsView, Tree, backs, child_at, cut, shift}
 
 -- whether over the port of the view lies a node that knows this, and whose port i it is
 abbrev pub lies_over : ℕ → InputView → ℕ → InputView → ℕ → Bool

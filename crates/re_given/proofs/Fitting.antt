@@ -1,13 +1,13 @@
 -- Input views that fit: parts of them, and what is put together of such parts.
 use Rattle.std.proofs.Common.{◌≡◌, ℕ, zero, suc, pred, Some, List, [], ◌∷◌, ◌++◌, subst, ap, arith}
 use Rattle.std.specs.Prelude.{unwrap_or}
-use Rattle.re_config.proofs.Rearranging.{Rearranged-refl}
-use Rattle.re_config.specs.Rearranging.{Rearranged, chained, kept, swapped}
+use Rattle.re_labels.proofs.Rearranging.{Rearranged-refl}
+use Rattle.re_labels.specs.Rearranging.{Rearranged, chained, kept, swapped}
 use Rattle.re_given.specs.InputViews.{FitsAround, InputView, payloads}
 use Rattle.re_table.proofs.Goodness.{Has-Rearranged}
 use Rattle.re_table.specs.Constraints.{Constraint, Has}
-use Rattle.re_views.proofs.ViewLaws.{HasRoom, HasRoom-tree, IsChild, shift-at}
-use Rattle.re_views.specs.Trees.{Child, IsTree, child_at, cut, end, leaf, more, others, put, shift}
+use Rattle.re_laws.proofs.ViewLaws.{HasRoom, HasRoom-tree, IsChild, shift-at}
+use Rattle.re_laws.specs.Trees.{Child, IsTree, child_at, cut, end, leaf, more, others, put, shift}
 
 -- an element within a list moves to its front
 pub Rearranged-front : {X : Type 0} (xs : List X) (y : X) (ys : List X) → Rearranged (xs ++ y ∷ ys) (y ∷ xs ++ ys)

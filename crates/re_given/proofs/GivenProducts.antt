@@ -20,9 +20,9 @@ use Rattle.re_problem.specs.Steps.{IsMapped, IsRelaxed}
 use Rattle.re_given.proofs.Pairs.{IsProblem-product, firsts-paired, from_parts, paired, product_parts, seconds-paired}
 use Rattle.re_given.specs.Products.{pairs_of, product}
 use Rattle.re_table.specs.Constraints.{Constraint, Has, IsConstraint}
-use Rattle.re_views.proofs.Branchwise.{backs-child}
-use Rattle.re_views.proofs.ViewLaws.{IsChild, child_of}
-use Rattle.re_views.specs.Trees.{Child, IsView, backs, child_at, shift}
+use Rattle.re_laws.proofs.Branchwise.{backs-child}
+use Rattle.re_laws.proofs.ViewLaws.{IsChild, child_of}
+use Rattle.re_laws.specs.Trees.{Child, IsView, backs, child_at, shift}
 
 -- the label at a port of a list of pairs
 at-paired : (d m : ℕ) (xs ys : List ℕ) (k : ℕ) → k < d → at_port (paired d m xs ys) (suc k) ≡ at_port xs (suc k) * m + at_port ys (suc k)

@@ -13,8 +13,8 @@ use Rattle.re_laws.proofs.Ports.{map-count}
 use Rattle.re_laws.specs.Algorithms.{at_port}
 use Rattle.re_problem.specs.Problems.{Problem}
 use Rattle.re_table.specs.Constraints.{Constraint}
-use Rattle.re_views.proofs.ViewLaws.{IsView-shift, child_of}
-use Rattle.re_views.specs.Trees.{IsView, backs, end, leaf, more, shift}
+use Rattle.re_laws.proofs.ViewLaws.{IsView-shift, child_of}
+use Rattle.re_laws.specs.Trees.{IsView, backs, end, leaf, more, shift}
 
 pub same_input_view-refl : (v : InputView) → same_input_view v v ≡ true
 same_input_view-refl leaf = refl

@@ -2,10 +2,10 @@
 use Rattle.std.proofs.Common.{◌≡◌, ℕ, zero, suc, pred, ◌≤◌, ◌<◌, List, [], ◌∷◌, ◌++◌, length, subst, refl, sym, ◌∙◌, arith, append-nil}
 use Rattle.std.specs.List.{AllByRecursion}
 use Rattle.std.specs.Prelude.{Contains, ◌↔◌}
-use Rattle.re_config.proofs.Rearranging.{Contains-Rearranged, Rearranged-refl, Rearranged-sym, length-Rearranged}
-use Rattle.re_config.proofs.Sorting.{Rearranged-sorted, sorted-Rearranged, sorted_again}
-use Rattle.re_config.specs.Configs.{IsConfig, sorted}
-use Rattle.re_config.specs.Rearranging.{Rearranged, chained, kept, swapped}
+use Rattle.re_labels.proofs.Rearranging.{Contains-Rearranged, Rearranged-refl, Rearranged-sym, length-Rearranged}
+use Rattle.re_labels.proofs.Sorting.{Rearranged-sorted, sorted-Rearranged, sorted_again}
+use Rattle.re_labels.specs.Configs.{IsConfig, sorted}
+use Rattle.re_labels.specs.Rearranging.{Rearranged, chained, kept, swapped}
 use Rattle.re_given.proofs.Fitting.{Rearranged-front}
 use Rattle.re_given.specs.InputViews.{FitsAround, InputView}
 use Rattle.re_given.specs.Inputs.{IsInput}
@@ -14,7 +14,7 @@ use Rattle.re_labels.proofs.Membership.{AllByRecursion-contains, Contains-here, 
 use Rattle.re_problem.specs.Problems.{Problem}
 use Rattle.re_table.proofs.Goodness.{Has-Rearranged}
 use Rattle.re_table.specs.Constraints.{Constraint, Has, IsConstraint}
-use Rattle.re_views.specs.Trees.{IsTree, cut, end, leaf, more}
+use Rattle.re_laws.specs.Trees.{IsTree, cut, end, leaf, more}
 
 -- both sides of an input problem, from one of them
 pub record AreSides (n d e : ℕ) (own other : Constraint) : Type 0 where

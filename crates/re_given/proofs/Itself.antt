@@ -3,7 +3,7 @@ use Rattle.std.proofs.Common.{◌≡◌, ℕ, suc, ◌<◌, inl, inr, List, [], 
 use Rattle.std.specs.Prelude.{Contains, ◌⊎◌}
 use Rattle.std.specs.List.{AllByRecursion}
 use Rattle.std.proofs.lemmas.List.{length-map}
-use Rattle.re_config.specs.Rows.{IsChoice, singles}
+use Rattle.re_labels.specs.Rows.{IsChoice, singles}
 use Rattle.re_given.proofs.FastGiven.{IsInput-exchanged}
 use Rattle.re_given.proofs.SlowGiven.{SolvableGiven-upper, SolvableGiven-zero}
 use Rattle.re_given.proofs.ZeroGiven.{config-Has}

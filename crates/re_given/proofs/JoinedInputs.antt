@@ -3,7 +3,7 @@ use Rattle.std.proofs.Common.{◌≡◌, ℕ, zero, suc, pred, ◌≤◌, ◌<�
 use Rattle.std.specs.Prelude.{unwrap_or}
 use Rattle.std.proofs.lemmas.List.{get_or_default}
 use Rattle.std.proofs.lemmas.List.Elements.{same_from_all_zip}
-use Rattle.re_config.proofs.Rearranging.{Rearranged-sym}
+use Rattle.re_labels.proofs.Rearranging.{Rearranged-sym}
 use Rattle.re_given.proofs.Fitting.{FitsAround-others, Rearranged-front}
 use Rattle.re_given.proofs.KnownViews.{HasCount, HasCount-known, child_at-known, known_child, known-cut, known-put, others-known, same_children}
 use Rattle.re_given.specs.Given.{around_known}
@@ -12,9 +12,9 @@ use Rattle.re_laws.proofs.Ports.{AllZip-count}
 use Rattle.re_laws.specs.Algorithms.{at_port}
 use Rattle.re_table.proofs.Goodness.{Has-Rearranged}
 use Rattle.re_table.specs.Constraints.{Constraint, Has}
-use Rattle.re_views.proofs.Branchwise.{backs-child}
-use Rattle.re_views.proofs.ViewLaws.{HasRoom, HasRoom-tree, IsChild, IsTree-others, child_at-put, child_of, others-put, put-others, shift-at}
-use Rattle.re_views.specs.Trees.{Child, IsTree, IsView, backs, child_at, cut, end, leaf, more, others, put, shift}
+use Rattle.re_laws.proofs.Branchwise.{backs-child}
+use Rattle.re_laws.proofs.ViewLaws.{HasRoom, HasRoom-tree, IsChild, IsTree-others, child_at-put, child_of, others-put, put-others, shift-at}
+use Rattle.re_laws.specs.Trees.{Child, IsTree, IsView, backs, child_at, cut, end, leaf, more, others, put, shift}
 
 -- a neighbour: its view, its port of the edge, and its child at that port
 pub record Neighbour : Type 0 where

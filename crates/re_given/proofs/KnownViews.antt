@@ -2,8 +2,8 @@
 use Rattle.std.proofs.Common.{◌≡◌, ℕ, zero, suc, pred, ◌≤◌, ◌<◌, Some, ◌∷◌, refl, sym, ◌∙◌, ap, arith}
 use Rattle.std.specs.Prelude.{unwrap_or}
 use Rattle.re_given.specs.InputViews.{InputView, known, payloads}
-use Rattle.re_views.proofs.ViewLaws.{shift-at}
-use Rattle.re_views.specs.Trees.{Child, IsTree, Tree, backs, child_at, cut, end, leaf, more, others, put, shift}
+use Rattle.re_laws.proofs.ViewLaws.{shift-at}
+use Rattle.re_laws.specs.Trees.{Child, IsTree, Tree, backs, child_at, cut, end, leaf, more, others, put, shift}
 
 -- a child with what is known of it
 abbrev pub known_child : ℕ → Child ℕ → Child ℕ

@@ -1,6 +1,6 @@
 -- Views with the labels that the nodes of an algorithm put on their edges.
 use Rattle.std.proofs.Common.{◌≡◌, ℕ, zero, suc, pred, ◌+◌, ◌≤◌, ◌<◌, Some, List, [], ◌∷◌, ◌++◌, map, length, get_or, subst, refl, sym, ◌∙◌, ap, arith, one-add, add-zero, append-nil, zero-add}
-use Rattle.re_config.proofs.Rearranging.{Rearranged-sym}
+use Rattle.re_labels.proofs.Rearranging.{Rearranged-sym}
 use Rattle.re_given.proofs.FastGiven.{back_range}
 use Rattle.re_given.proofs.Fitting.{FitsAround-others, Rearranged-front}
 use Rattle.re_given.proofs.Relabelled.{backs-cut}
@@ -14,9 +14,9 @@ use Rattle.re_laws.proofs.Mapping.{count_of}
 use Rattle.re_problem.specs.Problems.{IsProblem, Problem}
 use Rattle.re_table.proofs.Goodness.{Has-Rearranged}
 use Rattle.re_table.specs.Constraints.{Constraint, Has}
-use Rattle.re_views.proofs.Branchwise.{back-shift, backs-child}
-use Rattle.re_views.proofs.ViewLaws.{IsChild, IsTree-others, child_of, others-cut, put-others, shift-at, shift-cut, shift-shift}
-use Rattle.re_views.specs.Trees.{Child, IsTree, IsView, Tree, backs, child_at, cut, end, leaf, more, others, put, shift}
+use Rattle.re_laws.proofs.Branchwise.{back-shift, backs-child}
+use Rattle.re_laws.proofs.ViewLaws.{IsChild, IsTree-others, child_of, others-cut, put-others, shift-at, shift-cut, shift-shift}
+use Rattle.re_laws.specs.Trees.{Child, IsTree, IsView, Tree, backs, child_at, cut, end, leaf, more, others, put, shift}
 
 -- ---- equal parts
 pub same_child : {back back' payload payload' : ℕ} {branch branch' : InputView} → back ≡ back' → payload ≡ payload' → branch ≡ branch'

@@ -2,9 +2,9 @@
 use Rattle.std.proofs.Common.{◌≡◌, ℕ, suc, pred, ◌≤◌, ◌<◌, Some, List, map, length, sym, ◌∙◌, arith, one-add}
 use Rattle.std.specs.Prelude.{Contains}
 use Rattle.std.specs.List.{AllZip}
-use Rattle.re_config.proofs.Rearranging.{AllZip-Rearranged, AllZip-at, Rearranged-sym}
-use Rattle.re_config.proofs.Sorting.{Rearranged-sorted, length-sorted}
-use Rattle.re_config.specs.Configs.{sorted}
+use Rattle.re_labels.proofs.Rearranging.{AllZip-Rearranged, AllZip-at, Rearranged-sym}
+use Rattle.re_labels.proofs.Sorting.{Rearranged-sorted, length-sorted}
+use Rattle.re_labels.specs.Configs.{sorted}
 use Rattle.re_given.proofs.FastGiven.{back_range}
 use Rattle.re_given.proofs.Fitting.{FitsAround-shift}
 use Rattle.re_given.proofs.GivenTables.{SolvableGiven-by}
@@ -19,8 +19,8 @@ use Rattle.re_problem.specs.Problems.{IsProblem, Problem}
 use Rattle.re_problem.specs.Steps.{Becomes, IsMapped, IsRelaxed}
 use Rattle.re_table.proofs.Goodness.{Has-Rearranged}
 use Rattle.re_table.specs.Constraints.{Has}
-use Rattle.re_views.proofs.ViewLaws.{IsChild, IsView-shift, child_of}
-use Rattle.re_views.specs.Trees.{Child, IsView, backs, child_at, shift}
+use Rattle.re_laws.proofs.ViewLaws.{IsChild, IsView-shift, child_of}
+use Rattle.re_laws.specs.Trees.{Child, IsView, backs, child_at, shift}
 
 -- an input problem of a problem is one of each with its degrees
 pub IsInput-same : (problem next input : Problem) → IsInput problem input → next.active.degree ≡ problem.active.degree → next.passive.degree ≡ problem.passive.degree → IsInput next input

@@ -11,8 +11,8 @@ use Rattle.re_given.specs.Inputs.{IsInput}
 use Rattle.re_laws.proofs.Ports.{map-count}
 use Rattle.re_laws.specs.Algorithms.{at_port}
 use Rattle.re_problem.specs.Problems.{Problem}
-use Rattle.re_views.proofs.ViewLaws.{IsChild, IsTree-cut, child_of, shift-cut}
-use Rattle.re_views.specs.Trees.{Child, IsView, backs, child_at, cut, shift}
+use Rattle.re_laws.proofs.ViewLaws.{IsChild, IsTree-cut, child_of, shift-cut}
+use Rattle.re_laws.specs.Trees.{Child, IsView, backs, child_at, cut, shift}
 
 pub around-cut : (d e T : ℕ) (f : InputView → List ℕ) (v : InputView) → IsView d e (suc (suc (suc T))) v → around_known d (suc T) (λ k. f (known T k)) v ≡ around_known d T f (cut (suc (suc T)) v)
 around-cut d e T f v is = map-count (λ port. at_port (f (known T (known (suc T) (shift (suc (suc T)) v port)))) (at_port (backs v) port)) (λ port. at_port (f (known T (shift (suc T) (cut (suc (suc T)) v) port))) (at_port (backs (cut (suc (suc T)) v)) port)) 1 d (λ k l. rw one-add (each k l (child_of d e (suc (suc T)) d v is k l)))

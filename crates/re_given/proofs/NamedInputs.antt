@@ -1,8 +1,8 @@
 -- Sides, colourings of edges, orientations and the input of one label are input problems.
 use Rattle.std.proofs.Common.{◌≡◌, ℕ, ◌<◌, ◌≤◌, Bool, true, eqb, List, filter, length, refl, sym, subst, arith}
 use Rattle.std.specs.List.{list_all}
-use Rattle.re_config.specs.Configs.{support_of}
-use Rattle.re_config.specs.Orders.{multisets}
+use Rattle.re_labels.specs.Configs.{support_of}
+use Rattle.re_labels.specs.Orders.{multisets}
 use Rattle.re_given.proofs.Colourings.{IsInput-colouring, filtered_constraint}
 use Rattle.re_given.proofs.FastGiven.{IsInput-exchanged}
 use Rattle.re_given.specs.InputExamples.{coloured_edges, edge_colouring, one_out, oriented, oriented_both, sides, tested}

@@ -1,9 +1,9 @@
 -- What is solved given a relaxation of an input problem is solved given the input problem.
 use Rattle.std.proofs.Common.{◌≡◌, ℕ, suc, ◌<◌, Some, List, [], ◌∷◌, map, refl, ◌∙◌, ap, one-add}
 use Rattle.std.specs.Prelude.{Contains}
-use Rattle.re_config.proofs.Rearranging.{Rearranged-map, Rearranged-sym}
-use Rattle.re_config.proofs.Sorting.{Rearranged-sorted}
-use Rattle.re_config.specs.Configs.{sorted}
+use Rattle.re_labels.proofs.Rearranging.{Rearranged-map, Rearranged-sym}
+use Rattle.re_labels.proofs.Sorting.{Rearranged-sorted}
+use Rattle.re_labels.specs.Configs.{sorted}
 use Rattle.re_given.proofs.GivenTables.{SolvableGiven-by}
 use Rattle.re_given.proofs.Relabelled.{IsTree-relabelled, backs-relabelled, relabelled, relabelled-known, relabelled-shift}
 use Rattle.re_given.specs.Given.{SolvableGiven, SolvesGivenBy, answer_known, around_known}
@@ -15,8 +15,8 @@ use Rattle.re_problem.specs.Problems.{Problem}
 use Rattle.re_problem.specs.Steps.{IsRelaxed}
 use Rattle.re_table.proofs.Goodness.{Has-Rearranged}
 use Rattle.re_table.specs.Constraints.{Constraint, Has}
-use Rattle.re_views.proofs.ViewLaws.{IsChild, child_of}
-use Rattle.re_views.specs.Trees.{Child, IsView, backs, child_at, end, leaf, more, shift}
+use Rattle.re_laws.proofs.ViewLaws.{IsChild, child_of}
+use Rattle.re_laws.specs.Trees.{Child, IsView, backs, child_at, end, leaf, more, shift}
 
 -- the images of the configurations of the first constraint are configurations of the second
 abbrev TakesTo : (ℕ → ℕ) → Constraint → Constraint → Type 0

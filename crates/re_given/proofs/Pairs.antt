@@ -6,11 +6,11 @@ use Rattle.std.proofs.Math.Nat.{mul_comm}
 use Rattle.std.proofs.lemmas.List.{length-map, map-id}
 use Rattle.std.proofs.lemmas.List.Elements.{Contains-get_or}
 use Rattle.std.proofs.lemmas.Nat.{div-add-mod', div-mul-add, mod-mul-add, mul-add-lt}
-use Rattle.re_config.proofs.LawsOfRows.{multisets_law}
-use Rattle.re_config.proofs.Rearranging.{Rearranged-map, Rearranged-sym}
-use Rattle.re_config.proofs.Sorting.{IsConfig-sorted, Rearranged-sorted}
-use Rattle.re_config.specs.Configs.{sorted}
-use Rattle.re_config.specs.Orders.{multisets}
+use Rattle.re_labels.proofs.LawsOfRows.{multisets_law}
+use Rattle.re_labels.proofs.Rearranging.{Rearranged-map, Rearranged-sym}
+use Rattle.re_labels.proofs.Sorting.{IsConfig-sorted, Rearranged-sorted}
+use Rattle.re_labels.specs.Configs.{sorted}
+use Rattle.re_labels.specs.Orders.{multisets}
 use Rattle.re_given.proofs.AllInputViews.{Has-below}
 use Rattle.re_given.proofs.Colourings.{filtered_constraint}
 use Rattle.re_given.proofs.ZeroGiven.{config-Has}

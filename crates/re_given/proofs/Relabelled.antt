@@ -2,8 +2,8 @@
 use Rattle.std.proofs.Common.{◌≡◌, ℕ, zero, suc, pred, Some, ◌∷◌, refl, ◌∙◌, ap}
 use Rattle.std.specs.Prelude.{unwrap_or}
 use Rattle.re_given.specs.InputViews.{InputView, known}
-use Rattle.re_views.proofs.ViewLaws.{shift-at}
-use Rattle.re_views.specs.Trees.{Child, IsTree, Tree, backs, child_at, cut, end, leaf, more, others, put, shift, turned}
+use Rattle.re_laws.proofs.ViewLaws.{shift-at}
+use Rattle.re_laws.specs.Trees.{Child, IsTree, Tree, backs, child_at, cut, end, leaf, more, others, put, shift, turned}
 
 -- the view with the image of each payload
 abbrev pub relabelled : {E F : Type 0} → (E → F) → Tree E → Tree F

@@ -2,8 +2,8 @@
 use Rattle.std.proofs.Common.{◌≡◌, ℕ, zero, suc, ◌+◌, ◌≤◌, ◌<◌, Some, List, map, length, get_or, refl, sym, ap, ◌∙◌, subst, arith, inl, inr, one-add, zero-add}
 use Rattle.std.specs.Prelude.{Contains, ◌⊎◌}
 use Rattle.std.proofs.lemmas.List.{length-map}
-use Rattle.re_config.specs.Configs.{sorted}
-use Rattle.re_config.specs.Rows.{IsChoice}
+use Rattle.re_labels.specs.Configs.{sorted}
+use Rattle.re_labels.specs.Rows.{IsChoice}
 use Rattle.re_given.proofs.AvoidedInputs.{halves}
 use Rattle.re_given.proofs.ChainGiven.{SolvableGiven-from_derived, SolvableGiven-rounds, SolvableGiven-up, exchanged_by-twice}
 use Rattle.re_given.proofs.FastGiven.{IsInput-derived}
@@ -23,9 +23,9 @@ use Rattle.re_problem.specs.Derived.{derived, derived_by}
 use Rattle.re_problem.specs.Problems.{IsProblem, Problem}
 use Rattle.re_problem.specs.Steps.{IsUpper}
 use Rattle.re_table.specs.Constraints.{Has}
-use Rattle.re_views.proofs.Branchwise.{backs-child}
-use Rattle.re_views.proofs.ViewLaws.{IsChild, IsView-shift, child_of}
-use Rattle.re_views.specs.Trees.{Child, IsView, backs, child_at, shift}
+use Rattle.re_laws.proofs.Branchwise.{backs-child}
+use Rattle.re_laws.proofs.ViewLaws.{IsChild, IsView-shift, child_of}
+use Rattle.re_laws.specs.Trees.{Child, IsView, backs, child_at, shift}
 
 -- ---- without communication
 module _ (problem input given : Problem) (S : ℕ) (A : InputView → List ℕ) (is : IsProblem input) (sets : ℕ → List ℕ) (upper : IsUpper problem (exchanged input) sets) (solves : SolvesGivenBy input given S A) where

@@ -2,11 +2,11 @@
 use Rattle.std.proofs.Common.{◌≡◌, ℕ, zero, suc, pred, ◌+◌, ◌≤◌, ◌<◌, List, [], map, length, get_or, refl, sym, ◌∙◌, ap, arith, one-add}
 use Rattle.std.specs.Prelude.{Contains, Some, find, unwrap_or}
 use Rattle.std.proofs.lemmas.List.{append-nil, get_or-map, length-map}
-use Rattle.re_config.proofs.ChoicesOfRows.{IsChoice-Rearranged, IsChoice-choices, choices-IsChoice}
-use Rattle.re_config.proofs.Rearranging.{AllZip-at, Rearranged-map, Rearranged-sym, length-AllZip}
-use Rattle.re_config.proofs.Sorting.{Rearranged-sorted, length-sorted}
-use Rattle.re_config.specs.Configs.{sorted}
-use Rattle.re_config.specs.Rows.{IsChoice, choices}
+use Rattle.re_labels.proofs.ChoicesOfRows.{IsChoice-Rearranged, IsChoice-choices, choices-IsChoice}
+use Rattle.re_labels.proofs.Rearranging.{AllZip-at, Rearranged-map, Rearranged-sym, length-AllZip}
+use Rattle.re_labels.proofs.Sorting.{Rearranged-sorted, length-sorted}
+use Rattle.re_labels.specs.Configs.{sorted}
+use Rattle.re_labels.specs.Rows.{IsChoice, choices}
 use Rattle.re_given.proofs.Fitting.{FitsAround-cut, FitsAround-shift, Has-around}
 use Rattle.re_given.proofs.GivenTables.{SolvableGiven-by}
 use Rattle.re_given.proofs.KnownViews.{backs-known, known-cut, known-shift, payloads-known}
@@ -23,9 +23,9 @@ use Rattle.re_problem.specs.Steps.{IsUpper}
 use Rattle.re_table.proofs.Goodness.{Has-Rearranged, Has-has_config, has_config-Has}
 use Rattle.re_table.specs.Constraints.{Constraint, Has, has_config}
 use Rattle.re_table.specs.GoodRows.{IsAllowed, IsGood}
-use Rattle.re_views.proofs.Branchwise.{back-shift, backs-child}
-use Rattle.re_views.proofs.ViewLaws.{HasRoom, HasRoom-tree, IsChild, IsTree-cut, IsView-shift, child_at-put, child_of, shift-at, shift-shift}
-use Rattle.re_views.specs.Trees.{Child, IsTree, IsView, backs, child_at, cut, end, leaf, more, others, put, shift}
+use Rattle.re_laws.proofs.Branchwise.{back-shift, backs-child}
+use Rattle.re_laws.proofs.ViewLaws.{HasRoom, HasRoom-tree, IsChild, IsTree-cut, IsView-shift, child_at-put, child_of, shift-at, shift-shift}
+use Rattle.re_laws.specs.Trees.{Child, IsTree, IsView, backs, child_at, cut, end, leaf, more, others, put, shift}
 
 -- ---- choices
 -- the first choice from the sets that these labels stand for that the constraint allows

@@ -2,11 +2,11 @@
 use Rattle.std.proofs.Common.{◌≡◌, ℕ, zero, suc, pred, ◌+◌, ◌≤◌, ◌<◌, Some, List, [], ◌∷◌, subst, refl, sym, ◌∙◌, ap, arith, one-add}
 use Rattle.std.specs.Prelude.{Contains, replicate}
 use Rattle.std.proofs.lemmas.List.{get_or-replicate, length-replicate}
-use Rattle.re_config.proofs.NextMultisets.{below-replicate}
-use Rattle.re_config.specs.Configs.{IsConfig}
+use Rattle.re_labels.proofs.NextMultisets.{below-replicate}
+use Rattle.re_labels.specs.Configs.{IsConfig}
 use Rattle.re_labels.proofs.Membership.{Contains-here}
 use Rattle.re_labels.specs.Lists.{IsRising}
-use Rattle.re_config.proofs.Sorting.{sorted_again}
+use Rattle.re_labels.proofs.Sorting.{sorted_again}
 use Rattle.re_given.proofs.GivenTables.{SolvableGiven-by}
 use Rattle.re_given.proofs.Relabelled.{IsTree-relabelled, backs-cut, backs-relabelled, child_at-relabelled, relabelled, relabelled_child, relabelled-shift}
 use Rattle.re_given.specs.Given.{SolvableGiven, SolvesGivenBy, answer_known, around_known}
@@ -18,8 +18,8 @@ use Rattle.re_laws.proofs.Tables.{Solvable-by}
 use Rattle.re_problem.specs.NamedProblems.{OccursIn}
 use Rattle.re_problem.specs.Problems.{IsProblem, Problem}
 use Rattle.re_table.specs.Constraints.{Constraint, Has, IsConstraint}
-use Rattle.re_views.proofs.ViewLaws.{IsChild, IsTree-cut, IsView-shift, IsView-pad, child_of, cut-pad, shift-cut}
-use Rattle.re_views.specs.Trees.{Child, IsTree, IsView, backs, child_at, cut, end, leaf, more, pad, shift}
+use Rattle.re_laws.proofs.ViewLaws.{IsChild, IsTree-cut, IsView-shift, IsView-pad, child_of, cut-pad, shift-cut}
+use Rattle.re_laws.specs.Trees.{Child, IsTree, IsView, backs, child_at, cut, end, leaf, more, pad, shift}
 
 -- ---- an algorithm that takes no notice of the input labels
 -- the view without its input labels

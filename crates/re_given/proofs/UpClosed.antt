@@ -3,9 +3,9 @@ use Rattle.std.proofs.Common.{◌≡◌, ℕ, ◌+◌, ◌<◌, List, [], ◌∷
 use Rattle.std.specs.Prelude.{Contains}
 use Rattle.std.specs.List.{AllByRecursion, AllZip, list_any}
 use Rattle.std.proofs.lemmas.List.{get_or-map, length-map}
-use Rattle.re_config.proofs.Rearranging.{Rearranged-sym}
-use Rattle.re_config.specs.Configs.{IsConfig}
-use Rattle.re_config.specs.Rows.{IsChoice, set_at}
+use Rattle.re_labels.proofs.Rearranging.{Rearranged-sym}
+use Rattle.re_labels.specs.Configs.{IsConfig}
+use Rattle.re_labels.specs.Rows.{IsChoice, set_at}
 use Rattle.re_given.proofs.ZeroGiven.{some}
 use Rattle.re_given.proofs.AllInputViews.{Has-below}
 use Rattle.re_given.proofs.Fitting.{Rearranged-front}

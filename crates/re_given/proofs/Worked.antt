@@ -1,10 +1,10 @@
 -- An orientation that is given, and the relaxation of sinkless orientation given colourings.
 use Rattle.std.proofs.Common.{◌<◌, ℕ, zero, suc, List, [], ◌∷◌, map, refl, sym, subst, arith, inl, inr, ◌≤◌}
 use Rattle.std.specs.Prelude.{Contains, replicate}
-use Rattle.re_config.specs.Configs.{sorted}
-use Rattle.re_config.proofs.Rearranging.{Contains-Rearranged, Rearranged-sym}
-use Rattle.re_config.proofs.Sorting.{Rearranged-sorted}
-use Rattle.re_config.specs.Rows.{IsChoice}
+use Rattle.re_labels.specs.Configs.{sorted}
+use Rattle.re_labels.proofs.Rearranging.{Contains-Rearranged, Rearranged-sym}
+use Rattle.re_labels.proofs.Sorting.{Rearranged-sorted}
+use Rattle.re_labels.specs.Rows.{IsChoice}
 use Rattle.re_given.proofs.ChainGiven.{fixed_point_given}
 use Rattle.re_given.proofs.Colourings.{IsInput-colouring, colour_there, colours_there}
 use Rattle.re_given.proofs.Itself.{SolvableGiven-itself}

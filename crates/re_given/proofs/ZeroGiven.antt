@@ -4,10 +4,10 @@ use Rattle.std.specs.Prelude.{Contains}
 use Rattle.std.specs.List.{AllZip, list_any}
 use Rattle.std.proofs.lemmas.List.{get_or_default, length-map}
 use Rattle.std.proofs.lemmas.List.Elements.{Contains-get_or, same_from_all_zip}
-use Rattle.re_config.proofs.Rearranging.{AllZip-flip, Rearranged-sym, length-AllZip}
-use Rattle.re_config.proofs.Sorting.{sorted_again}
-use Rattle.re_config.specs.Configs.{IsConfig}
-use Rattle.re_config.specs.Rows.{IsChoice}
+use Rattle.re_labels.proofs.Rearranging.{AllZip-flip, Rearranged-sym, length-AllZip}
+use Rattle.re_labels.proofs.Sorting.{sorted_again}
+use Rattle.re_labels.specs.Configs.{IsConfig}
+use Rattle.re_labels.specs.Rows.{IsChoice}
 use Rattle.re_given.proofs.AllInputViews.{Contains-fitting, Has-below, fitting-IsView, fitting_views}
 use Rattle.re_given.proofs.Fitting.{Rearranged-front}
 use Rattle.re_given.proofs.JoinedInputs.{FitsAround-joined, IsNeighbour, IsTree-joined, Neighbour, around-joined, joined, known-neighbour, label_of, no_neighbour}
@@ -31,8 +31,8 @@ use Rattle.re_problem.specs.Steps.{IsUpper}
 use Rattle.re_table.proofs.Goodness.{Has-Rearranged}
 use Rattle.re_table.specs.Constraints.{Constraint, Has, IsConstraint}
 use Rattle.re_table.specs.GoodRows.{IsAllowed}
-use Rattle.re_views.proofs.ViewLaws.{child_of}
-use Rattle.re_views.specs.Trees.{IsTree, IsView, end, leaf, more}
+use Rattle.re_laws.proofs.ViewLaws.{child_of}
+use Rattle.re_laws.specs.Trees.{IsTree, IsView, end, leaf, more}
 
 -- the labels that the algorithm puts on an edge, at any active node and port that pass a test
 abbrev pub beside : Problem → Problem → ℕ → (InputView → List ℕ) → (InputView → ℕ → Bool) → List ℕ

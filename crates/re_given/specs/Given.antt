@@ -7,7 +7,7 @@ use Rattle.re_laws.specs.Algorithms.{at_port}
 use Rattle.re_problem.specs.Problems.{Problem}
 use Rattle.re_problem.specs.Steps.{IsUpper}
 use Rattle.re_table.specs.Constraints.{Has}
-use Rattle.re_views.specs.Trees.{IsView, backs, end, leaf, more, shift}
+use Rattle.re_laws.specs.Trees.{IsView, backs, end, leaf, more, shift}
 
 -- the labels that a node outputs where this is what it knows, one for each port
 pub record KnownEntry : Type 0 where

@@ -1,7 +1,7 @@
 -- Input problems of the field: sides, colourings of edges, orientations.
 use Rattle.std.specs.Prelude.{ℕ, ◌==◌, Bool, true, List, length, filter, count_by}
-use Rattle.re_config.specs.Configs.{support_of}
-use Rattle.re_config.specs.Orders.{multisets}
+use Rattle.re_labels.specs.Configs.{support_of}
+use Rattle.re_labels.specs.Orders.{multisets}
 use Rattle.re_given.specs.Inputs.{exchanged}
 use Rattle.re_given.specs.Unavoidable.{colouring}
 use Rattle.re_problem.specs.Problems.{Problem}

@@ -13,7 +13,7 @@ use Rattle.re_problem.specs.Derived.{derived, derived_by}
 use Rattle.re_problem.specs.Problems.{IsProblem, Problem}
 use Rattle.re_problem.specs.Steps.{IsMapped, IsRelaxed, IsUpper}
 use Rattle.re_problem.specs.Zero.{Zero}
-use Rattle.re_views.specs.Trees.{IsView, cut, shift}
+use Rattle.re_laws.specs.Trees.{IsView, cut, shift}
 
 -- a function on what is known that solves a problem gives a table that solves it
 abbrev pub TableGivenLaw : Type 0

@@ -1,6 +1,6 @@
 -- Problems whose labels are pairs: a label of a problem, and one of an input problem of it.
 use Rattle.std.specs.Prelude.{ℕ, ◌*◌, ◌/◌, ◌%◌, Bool, ◌&&◌, List, map, filter}
-use Rattle.re_config.specs.Orders.{multisets}
+use Rattle.re_labels.specs.Orders.{multisets}
 use Rattle.re_problem.specs.Problems.{Problem}
 use Rattle.re_table.specs.Constraints.{Constraint, has_config}
 

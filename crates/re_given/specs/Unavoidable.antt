@@ -1,8 +1,8 @@
 -- Input problems of which a solution helps no more in 0 rounds than ports do, such as proper colourings with many colours.
 use Rattle.std.specs.Prelude.{◌≡◌, ℕ, ◌<◌, ◌==◌, List, [], ◌∷◌, length, filter, Contains}
 use Rattle.std.specs.List.{AllByRecursion, AllZip}
-use Rattle.re_config.specs.Configs.{support_of}
-use Rattle.re_config.specs.Orders.{multisets}
+use Rattle.re_labels.specs.Configs.{support_of}
+use Rattle.re_labels.specs.Orders.{multisets}
 use Rattle.re_laws.specs.Chains as chain
 use Rattle.re_laws.specs.Chains.{IsLowerChain}
 use Rattle.re_problem.specs.Problems.{Problem}

@@ -9,8 +9,8 @@ use Rattle.re_problem.specs.ProblemTexts.{last_or}
 use Rattle.re_cert.proofs.FittingStates.{last_behind}
 use Rattle.re_cert.specs.Bounds.{BoundStep, is_lower, next_problems, step_fits, steps_fit}
 use Rattle.re_cert.specs.declared.certificate.Kind.{Kind}
-use Rattle.re_clauses.proofs.StepMeaning.{lower_clauses, upper_clauses}
-use Rattle.re_clauses.specs.Clauses.{step_fault}
+use Rattle.re_check.proofs.StepMeaning.{lower_clauses, upper_clauses}
+use Rattle.re_check.specs.Clauses.{step_fault}
 use Rattle.re_laws.specs.Chains.{IsLowerChain, IsUpperChain}
 use Rattle.re_laws.specs.Chains.IsLowerChain.{done as lower_done, step as lower_step}
 use Rattle.re_laws.specs.Chains.IsUpperChain.{done as upper_done, step as upper_step}

@@ -15,7 +15,7 @@ use Rattle.re_given_bounds.specs.LocalBounds.{MeansLogarithmic}
 use Rattle.re_labels.proofs.Membership.{AllByRecursion-weaker}
 use Rattle.re_problem.specs.NamedProblems.{NamedProblem, unnamed}
 use Rattle.re_problem.specs.Problems.{IsProblem, Problem}
-use Rattle.re_separating.specs.Laws.{identifier_base}
+use Rattle.re_local.specs.SeparatingLaws.{identifier_base}
 
 -- at least as many as each of the problems has labels
 abbrev labels_of : List NamedProblem → ℕ

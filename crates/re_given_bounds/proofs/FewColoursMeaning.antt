@@ -1,6 +1,6 @@
 -- What certificates say of problems that are solvable given few colours.
 use Rattle.std.proofs.Common.{◌+◌, ◌-◌, ◌*◌, length, subst}
-use Rattle.re_few_colours.proofs.FewColours.{few_colours_local, few_input, last_hops}
+use Rattle.re_local.proofs.FewColours.{few_colours_local, few_input, last_hops}
 use Rattle.re_given.specs.Unavoidable.{colouring}
 use Rattle.re_given_bounds.proofs.GivenMeaning.{valid_given}
 use Rattle.re_given_bounds.specs.FewColoursBounds.{UpperBoundLocalLaw}

@@ -11,8 +11,8 @@ use Rattle.re_cert.specs.declared.certificate.TheConstants.{MAX_STEPS}
 use Rattle.re_check.proofs.Meaning.{count-next, kind-lower, lower_chain, named-at, named-last, neither, no_end_fault, not_zero, problem-here, relaxed_back, unmapped, upper_chain, verdict_means}
 use Rattle.re_check.specs.Verdicts.{Means, bound_fault, end_fault, fault_at, meets_back, steps_fault, verdict_with}
 use Rattle.re_check.specs.declared.verdict.ClauseFault.{ClauseFault}
-use Rattle.re_clauses.proofs.StepMeaning.{lower_clauses}
-use Rattle.re_clauses.specs.Clauses.{step_fault}
+use Rattle.re_check.proofs.StepMeaning.{lower_clauses}
+use Rattle.re_check.specs.Clauses.{step_fault}
 use Rattle.re_given.proofs.AvoidedInputs.{fixed_point_unavoidable, loop_unavoidable, lower_bound_unavoidable, shorter_bound_unavoidable}
 use Rattle.re_given.proofs.ChainGiven.{exchanged_by-twice, fixed_point_given, lower_bound_given, upper_bound_given}
 use Rattle.re_given.proofs.ColouredPairs.{lower_bound_pairs}
@@ -24,7 +24,7 @@ use Rattle.re_given.specs.Unavoidable.{IsUnavoidable, colouring, reached}
 use Rattle.re_given_bounds.specs.GivenBounds.{BesideLaw, ColouredBoundLaw, EndsGiven, EvenBoundLaw, FixedBoundLaw, HasFewLabels, IsOver, IsValidGiven, MeansBeside, MeansGiven, OddBoundLaw, UpperBoundLaw, ValidGivenLaw}
 use Rattle.re_given_bounds.specs.LocalBounds.{WholeLowerBoundLaw}
 use Rattle.re_given_bounds.proofs.BoundChains.{behind-last, lower_between, lower_to}
-use Rattle.re_items.specs.Steps.{is_nil}
+use Rattle.re_problem.specs.ItemSteps.{is_nil}
 use Rattle.re_labels.proofs.Tests.{and-true}
 use Rattle.re_laws.specs.Chains.{IsLowerChain}
 use Rattle.re_laws.specs.Chains.IsLowerChain.{done as lower_done, step as lower_step}
@@ -34,10 +34,10 @@ use Rattle.re_problem.specs.ProblemTexts.{last_or}
 use Rattle.re_problem.specs.Problems.{Problem}
 use Rattle.re_problem.specs.Zero.{Zero}
 use Rattle.re_problem.specs.Steps.{IsRelaxed}
-use Rattle.re_config.specs.Configs.{image_at}
+use Rattle.re_labels.specs.Configs.{image_at}
 use Rattle.re_check.specs.declared.verdict.Verdict.TheVariants.{Accepted}
-use Rattle.re_separating.proofs.WholeBound.{whole_bound}
-use Rattle.re_separating.specs.Laws.{IsBeyondPower, virtual_base}
+use Rattle.re_local.proofs.WholeBound.{whole_bound}
+use Rattle.re_local.specs.SeparatingLaws.{IsBeyondPower, virtual_base}
 
 -- ---- chains of problems with few labels
 abbrev AreFew : ℕ → List Problem → Type 0

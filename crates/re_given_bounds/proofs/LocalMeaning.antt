@@ -18,8 +18,8 @@ use Rattle.re_given_bounds.specs.LocalBounds.{LocalBoundLaw, LogarithmicBoundLaw
 use Rattle.re_ordered.proofs.BeyondLocal.{IsBeyondLocal-unsolvable}
 use Rattle.re_problem.specs.NamedProblems.{unnamed}
 use Rattle.re_problem.specs.Problems.{IsProblem, Problem}
-use Rattle.re_separating.proofs.Separated.{IsBeyondPower-labelled, separating}
-use Rattle.re_separating.specs.Laws.{identifier_base}
+use Rattle.re_local.proofs.Separated.{IsBeyondPower-labelled, separating}
+use Rattle.re_local.specs.SeparatingLaws.{identifier_base}
 
 local_from : (verdict : Verdict) (problem input : Problem) (N T : ℕ) → (SolvableLabelled problem N T → SolvableGiven problem input T) → MeansBeside verdict problem input → MeansLocal verdict problem N T
 local_from (Accepted Lower steps) problem input N T given means = λ l h. means T l (given h)

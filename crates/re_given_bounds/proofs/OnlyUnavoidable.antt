@@ -4,12 +4,12 @@ use Rattle.std.proofs.Common.{◌≡◌, ℕ, ◌<◌, Bool, true, ◌&&◌, Lis
 use Rattle.std.specs.Prelude.{Contains}
 use Rattle.std.specs.List.{AllByRecursion, AllZip, list_any}
 use Rattle.std.proofs.lemmas.List.{get_or_default}
-use Rattle.re_config.proofs.LawsOfRows.{multisets_law}
-use Rattle.re_config.proofs.Rearranging.{AllZip-flip, Contains-Rearranged, Rearranged-map, Rearranged-sym, length-AllZip}
-use Rattle.re_config.proofs.Sorting.{IsConfig-sorted, Rearranged-sorted}
-use Rattle.re_config.specs.Configs.{IsConfig, sorted}
-use Rattle.re_config.specs.Orders.{multisets}
-use Rattle.re_config.specs.Rows.{IsChoice}
+use Rattle.re_labels.proofs.LawsOfRows.{multisets_law}
+use Rattle.re_labels.proofs.Rearranging.{AllZip-flip, Contains-Rearranged, Rearranged-map, Rearranged-sym, length-AllZip}
+use Rattle.re_labels.proofs.Sorting.{IsConfig-sorted, Rearranged-sorted}
+use Rattle.re_labels.specs.Configs.{IsConfig, sorted}
+use Rattle.re_labels.specs.Orders.{multisets}
+use Rattle.re_labels.specs.Rows.{IsChoice}
 use Rattle.re_given.proofs.AvoidedInputs.{Zero-from_given}
 use Rattle.re_given.proofs.Colourings.{filtered_constraint}
 use Rattle.re_given.proofs.ZeroGiven.{config-Has, some}

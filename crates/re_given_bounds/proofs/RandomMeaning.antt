@@ -9,9 +9,9 @@ use Rattle.re_given_bounds.specs.LocalBounds.{MeansLogarithmic}
 use Rattle.re_given_bounds.specs.RandomBounds.{MeansNamed, MeansRandomised, NamedBoundLaw, RandomisedBoundLaw}
 use Rattle.re_problem.specs.NamedProblems.{unnamed}
 use Rattle.re_problem.specs.Problems.{Problem}
-use Rattle.re_random.proofs.Derandomised.{randomised, randomised_named}
-use Rattle.re_random.specs.Laws.{IsBeyondNamed, IsBeyondDoublePower, random_base}
-use Rattle.re_separating.specs.Laws.{IsBeyondPower, identifier_base}
+use Rattle.re_classes.proofs.Derandomised.{randomised, randomised_named}
+use Rattle.re_classes.specs.RandomLaws.{IsBeyondNamed, IsBeyondDoublePower, random_base}
+use Rattle.re_local.specs.SeparatingLaws.{IsBeyondPower, identifier_base}
 
 random_from : (verdict : Verdict) (problem : Problem) (C D : ℕ) → ((T : ℕ) → IsBeyondPower problem C T → IsBeyondDoublePower problem D T)
     → MeansLogarithmic verdict problem C

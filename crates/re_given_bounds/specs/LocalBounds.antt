@@ -12,7 +12,7 @@ use Rattle.re_local.specs.LocalAlgorithms.{SolvableLabelled}
 use Rattle.re_local.specs.Separating.{Separates}
 use Rattle.re_problem.specs.NamedProblems.{IsNamedProblem, unnamed}
 use Rattle.re_problem.specs.Problems.{Problem}
-use Rattle.re_separating.specs.Laws.{IsBeyondLocal, IsBeyondPower, identifier_base, virtual_base}
+use Rattle.re_local.specs.SeparatingLaws.{IsBeyondLocal, IsBeyondPower, identifier_base, virtual_base}
 
 -- what a verdict says of local algorithms of T rounds with N identifiers: after a lower bound of more than T steps none solves the first
 -- problem, nor after a fixed point

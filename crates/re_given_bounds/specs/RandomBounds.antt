@@ -9,8 +9,8 @@ use Rattle.re_check.specs.declared.verdict.Verdict.TheVariants.{Accepted, Refuse
 use Rattle.re_given_bounds.specs.GivenBounds.{HasFewLabels}
 use Rattle.re_problem.specs.NamedProblems.{IsNamedProblem, unnamed}
 use Rattle.re_problem.specs.Problems.{Problem}
-use Rattle.re_random.specs.Laws.{IsBeyondNamed, IsBeyondDoublePower, random_base}
-use Rattle.re_separating.specs.Laws.{identifier_base}
+use Rattle.re_classes.specs.RandomLaws.{IsBeyondNamed, IsBeyondDoublePower, random_base}
+use Rattle.re_local.specs.SeparatingLaws.{identifier_base}
 
 -- what a verdict says of randomised algorithms: after a fixed point, for each T, each of them of T rounds fails on the first problem at some node,
 -- for some port numbering, with a probability of at least 1 / q, where q is 2 ^ (D ^ (T + 1)) or more; after a lower bound, for each T below its

@@ -1,13 +1,27 @@
 //! What certificates say where a solution of an input problem is given, and of local algorithms, whose nodes have unique identifiers: laws
 //! alone, no code.
+//!
+//! Laws of what some inputs tell. Few colours of passive nodes, edges where these have two ends, and so bounds above for local algorithms, in order
+//! log* N rounds of N identifiers; the class of what is solvable given so few, and what certificates say of it. Then inputs whose labels tell in which
+//! configuration they stand, as those of sides and of orientations do: with them one round more than some number is of no use; and the test of that.
 #![tactic(auto)]
+
+mod input_laws;
+mod telling;
 
 ghost use Rattle.re_given_bounds.specs.ClassBounds.{AboveLogLaw, ClassLaw, NoTwoClassesLaw};
 ghost use Rattle.re_given_bounds.specs.FewColoursBounds.{UpperBoundLocalLaw};
 ghost use Rattle.re_given_bounds.specs.GivenBounds.{BesideLaw, ColouredBoundLaw, EvenBoundLaw, FixedBoundLaw, OddBoundLaw, UpperBoundLaw, ValidGivenLaw};
+ghost use Rattle.re_given_bounds.specs.LocalBounds.{LocalBoundLaw, LogarithmicBoundLaw, UniqueIdentifiersLaw, WholeLowerBoundLaw};
 ghost use Rattle.re_given_bounds.specs.OnlyUnavoidable.{OnlyUnavoidableLaw};
 ghost use Rattle.re_given_bounds.specs.RandomBounds.{NamedBoundLaw, RandomisedBoundLaw};
-ghost use Rattle.re_given_bounds.specs.LocalBounds.{LocalBoundLaw, LogarithmicBoundLaw, UniqueIdentifiersLaw, WholeLowerBoundLaw};
+
+pub use input_laws::{
+    both_coloured_law, edge_coloured_law, edges_coloured_law, few_edge_colours_law,
+    few_edge_colours_local_law, idle_hop_law, no_edge_coloured_law, order_both_coloured_law,
+    order_edge_coloured_law, product_input_law, product_local_law, upper_bound_edge_coloured_law,
+};
+pub use telling::{tells_config, tells_passive};
 
 /// A bound that is valid given an input problem of its first problem says what bounds of its kind say, given the input problem.
 pub fn valid_given_law()

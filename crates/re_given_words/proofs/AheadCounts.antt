@@ -7,8 +7,8 @@ use Rattle.re_problem.specs.Derived.{derived, derived_by}
 use Rattle.re_problem.specs.Problems.{IsProblem, Problem}
 use Rattle.re_problem.specs.Zero.{Zero}
 use Rattle.re_step.specs.declared.derivation.StepLimit.{StepLimit}
-use Rattle.re_ahead.specs.Ahead.{IsTold}
-use Rattle.re_ahead.specs.declared.looking.Ahead.TheVariants as ahead
+use Rattle.re_given_words.specs.Ahead.{IsTold}
+use Rattle.re_given_words.specs.declared.looking.Ahead.TheVariants as ahead
 use Rattle.re_given_words.proofs.CountingMeans.{derived_is}
 use Rattle.re_given_words.specs.Counting.{AllFew, IsCounted, MayTell}
 use Rattle.re_given_words.specs.declared.counting.Counted.TheVariants.{Exactly, MoreThan, Passed, Stopped}

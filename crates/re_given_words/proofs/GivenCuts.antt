@@ -6,8 +6,8 @@ use Rattle.re_problem.specs.declared.fault.InputFault.{InputFault}
 use Rattle.re_problem.specs.declared.fault.InputFault.TheVariants.{EarlyEnd}
 use Rattle.re_problem.specs.declared.fault.TextFault.{TextFault}
 use Rattle.re_problem.specs.declared.fault.TextFault.TheVariants.{Bad, NoMemory}
-use Rattle.re_two_texts.specs.TwoTexts.{IsCut, ProblemRefuses, front_text, lines_behind, lines_to, problem_fault, problem_lines}
-use Rattle.re_two_texts.specs.declared.cutting.Cut.{Cut}
+use Rattle.re_chains.specs.TwoTexts.{IsCut, ProblemRefuses, front_text, lines_behind, lines_to, problem_fault, problem_lines}
+use Rattle.re_chains.specs.declared.cutting.Cut.{Cut}
 use Rattle.re_given_words.specs.GivenTexts.{GivenGives, GivenRefuses, given_fault, input_text_fault}
 use Rattle.re_given_words.specs.declared.texts.GivenTexts.{GivenTexts}
 

@@ -8,8 +8,8 @@ use Rattle.re_problem.specs.declared.fault.InputFault.TheVariants as text_fault
 use Rattle.re_cert.specs.Bounds.{Bound, is_fixed, is_lower, last_problem, problem_at}
 use Rattle.re_cert.specs.declared.certificate.Kind.{Kind}
 use Rattle.re_cert.specs.declared.certificate.Kind.TheVariants.{Fixed, Lower, Upper}
-use Rattle.re_chain_texts.proofs.WordsGiven.{fault_not_done, none_fails}
-use Rattle.re_chain_texts.specs.OverChains.{or_fault, or_refusal, refusal_of, steps_refusal}
+use Rattle.re_chains.proofs.WordsGiven.{fault_not_done, none_fails}
+use Rattle.re_chains.specs.OverChains.{or_fault, or_refusal, refusal_of, steps_refusal}
 use Rattle.re_check.specs.Verdicts.{meets_back, steps_fault}
 use Rattle.re_check.specs.declared.verdict.ClauseFault.{ClauseFault}
 use Rattle.re_check.specs.declared.verdict.Verdict.{Verdict}
@@ -31,7 +31,7 @@ use Rattle.re_given.specs.Given.{SolvableGiven, ZeroGiven}
 use Rattle.re_given.specs.Inputs.{IsInput}
 use Rattle.re_given_bounds.proofs.BoundChains.{behind-last}
 use Rattle.re_given_bounds.specs.GivenBounds.{EndsGiven, IsOver, MeansGiven}
-use Rattle.re_two_texts.specs.TwoTexts.{back_problem, front_bound, two_fault}
+use Rattle.re_chains.specs.TwoTexts.{back_problem, front_bound, two_fault}
 use Rattle.re_walks.specs.Walking.{Walk, cut, found, nowhere}
 use Rattle.re_given_words.proofs.EndNumbers.{end-high, end-low, kept}
 use Rattle.re_given_words.proofs.Held.{back_before, fixed_holds, input_there, last_zero, lower_holds, named_at, upper_holds}

@@ -6,12 +6,12 @@ use Rattle.re_problem.specs.NamedProblems.{IsNamedProblem, NamedProblem, unnamed
 use Rattle.re_cert.specs.Bounds.{Bound, BoundStep, built, is_bound}
 use Rattle.re_cert.specs.declared.certificate.Kind.{Kind}
 use Rattle.re_cert.specs.declared.certificate.Kind.TheVariants.{Fixed, Lower, Upper}
-use Rattle.re_chain_parts.specs.Chains.{IsOverProblems}
-use Rattle.re_chain_texts.specs.OverChains.{or_refusal, refusal_of}
+use Rattle.re_chains.specs.Chains.{IsOverProblems}
+use Rattle.re_chains.specs.OverChains.{or_refusal, refusal_of}
 use Rattle.re_check.specs.Verdicts.{meets_back, steps_fault}
 use Rattle.re_check.specs.declared.verdict.ClauseFault.{ClauseFault}
-use Rattle.re_extend.proofs.Continued.{built-bound, whole}
-use Rattle.re_extend.specs.Extensions.{AreSmall}
+use Rattle.re_shaping.proofs.Continued.{built-bound, whole}
+use Rattle.re_shaping.specs.Extensions.{AreSmall}
 use Rattle.re_fit.specs.InputProblems.{input_fault}
 use Rattle.re_fit.specs.declared.inputs.InputFault.{InputFault}
 use Rattle.re_frame.specs.Outcomes.{Outcome, outcome_of, status_of}

@@ -4,8 +4,8 @@ use Rattle.std.proofs.lemmas.Bool.Decides.{nat_tests}
 use Rattle.std.specs.List.{list_all}
 use Rattle.std.specs.Prelude.{◌&&◌, if◌then◌else◌, is_none, is_some, nat_le, nat_lt}
 use Rattle.re_labels.proofs.Tests.{and-true}
-use Rattle.re_config.specs.Configs.{image_at}
-use Rattle.re_items.specs.Steps.{is_nil}
+use Rattle.re_labels.specs.Configs.{image_at}
+use Rattle.re_problem.specs.ItemSteps.{is_nil}
 use Rattle.re_problem.proofs.ZeroPlaces.{some-place}
 use Rattle.re_problem.specs.NamedProblems.{IsNamedProblem, NamedProblem, unnamed}
 use Rattle.re_problem.specs.Problems.{IsProblem, Problem}
@@ -19,8 +19,8 @@ use Rattle.re_check.proofs.Meaning.{named-at, named-last, neither, no_end_fault,
 use Rattle.re_check.specs.Verdicts.{bound_fault, end_fault, ends_well, fault_at, fault_or, meets_back, meets_end, steps_fault, verdict_of, verdict_with}
 use Rattle.re_check.specs.declared.verdict.ClauseFault.{ClauseFault}
 use Rattle.re_check.specs.declared.verdict.Verdict.TheVariants.{Accepted, Refused}
-use Rattle.re_clauses.specs.declared.clause.Clause.{Clause}
-use Rattle.re_clauses.specs.declared.clause.Clause.TheVariants.{Back as Back', End as End'}
+use Rattle.re_check.specs.declared.clause.Clause.{Clause}
+use Rattle.re_check.specs.declared.clause.Clause.TheVariants.{Back as Back', End as End'}
 use Rattle.re_given.proofs.AvoidedInputs.{loop_given}
 use Rattle.re_given.proofs.ChainGiven.{IsInput-lower, IsInput-upper_chain, exchanged_by-add, lower_bound_given, upper_bound_given}
 use Rattle.re_given.proofs.SlowGiven.{SolvableGiven-zero}

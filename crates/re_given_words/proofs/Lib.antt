@@ -1,3 +1,4 @@
+mod AheadCounts
 mod Answered
 pub mod CountingMeans
 mod EndNumbers
@@ -6,7 +7,13 @@ mod GivenCuts
 mod GivenMeans
 pub mod GoingOn
 mod Held
+pub mod OneRound
 mod ProductMeaning
 mod RoundsAnswers
+pub mod RoundsLaws
+pub mod RowTests
+pub mod RowsOrdered
 pub mod Saying
-mod AheadCounts
+pub mod Serving
+pub mod SetsAdded
+pub mod TwoRounds

@@ -1,8 +1,8 @@
 -- What the answer of `product` means.
 use Rattle.std.proofs.Common.{◌≡◌, ℕ, List, refl, sym, ap, ◌∙◌, subst, Option, None, Some}
 use Rattle.std.specs.Prelude.{◌↔◌}
-use Rattle.re_chain_texts.proofs.WordsGiven.{fault_not_done}
-use Rattle.re_chain_texts.specs.OverChains.{or_fault}
+use Rattle.re_chains.proofs.WordsGiven.{fault_not_done}
+use Rattle.re_chains.specs.OverChains.{or_fault}
 use Rattle.re_fit.proofs.Judged.{judged-none}
 use Rattle.re_fit.specs.InputProblems.{input_fault}
 use Rattle.re_fit.specs.declared.inputs.InputFault.{InputFault}

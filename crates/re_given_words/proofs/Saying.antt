@@ -5,8 +5,8 @@ use Rattle.re_problem.specs.declared.fault.InputFault.{InputFault as Fault}
 use Rattle.re_cert.specs.Bounds.{Bound}
 use Rattle.re_cert.specs.declared.certificate.Kind.{Kind}
 use Rattle.re_cert.specs.declared.certificate.Kind.TheVariants.{Fixed, Lower, Upper}
-use Rattle.re_chain_texts.proofs.WordsGiven.{or_fault_says, problem_says}
-use Rattle.re_chain_texts.specs.OverChains.{or_refusal, steps_refusal}
+use Rattle.re_chains.proofs.WordsGiven.{or_fault_says, problem_says}
+use Rattle.re_chains.specs.OverChains.{or_refusal, steps_refusal}
 use Rattle.re_check.specs.Verdicts.{meets_back}
 use Rattle.re_fit.specs.InputProblems.{input_fault}
 use Rattle.re_fit.specs.declared.inputs.InputFault.{InputFault}
@@ -17,7 +17,7 @@ use Rattle.re_frame.specs.Runs.{MaySay}
 use Rattle.re_inputs.specs.NamedProducts.{named_product, product_fault}
 use Rattle.re_inputs.specs.declared.products.ProductFault.{ProductFault}
 use Rattle.re_inputs.specs.declared.products.ProductFault.TheVariants.{Nameless, NoMemory, TooManyConfigurations, TooManyLabels}
-use Rattle.re_two_texts.specs.TwoTexts.{back_problem, front_bound, two_fault}
+use Rattle.re_chains.specs.TwoTexts.{back_problem, front_bound, two_fault}
 use Rattle.re_walks.specs.Walking.{Walk, cut, found, nowhere}
 use Rattle.re_given_words.specs.Answers.{MayGive}
 use Rattle.re_given_words.specs.Counting.{counted_outcome}

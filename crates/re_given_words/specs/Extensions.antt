@@ -2,8 +2,8 @@
 use Rattle.std.specs.Prelude.{◌≡◌, ◌≤◌, ℕ, true, List, ◌++◌, length}
 use Rattle.re_cert.specs.Bounds.{Bound, BoundStep, is_bound}
 use Rattle.re_cert.specs.declared.certificate.Kind.{Kind}
-use Rattle.re_chain_parts.specs.Chains.{IsOverProblems}
-use Rattle.re_extend.specs.Extensions.{AreSmall}
+use Rattle.re_chains.specs.Chains.{IsOverProblems}
+use Rattle.re_shaping.specs.Extensions.{AreSmall}
 use Rattle.re_given.specs.Given.{ZeroGiven}
 use Rattle.re_given.specs.Inputs.{IsInput}
 use Rattle.re_given_bounds.specs.GivenBounds.{MeansGiven}

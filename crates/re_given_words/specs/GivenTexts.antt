@@ -6,7 +6,7 @@ use Rattle.re_problem.specs.declared.fault.InputFault.{InputFault}
 use Rattle.re_problem.specs.declared.fault.InputFault.TheVariants.{EarlyEnd}
 use Rattle.re_problem.specs.declared.fault.TextFault.{TextFault}
 use Rattle.re_problem.specs.declared.fault.TextFault.TheVariants.{Bad, NoMemory}
-use Rattle.re_two_texts.specs.TwoTexts.{back_problem, front_text, has_line, lines_behind, lines_to, problem_fault, problem_lines}
+use Rattle.re_chains.specs.TwoTexts.{back_problem, front_text, has_line, lines_behind, lines_to, problem_fault, problem_lines}
 use Rattle.re_given_words.specs.declared.texts.GivenTexts.{GivenTexts}
 
 -- the fault of the text behind the line

@@ -2,7 +2,7 @@
 use Rattle.std.specs.Prelude.{◌≡◌, ℕ, List, codes, length, None, Some}
 use Rattle.re_cert.specs.Bounds.{Bound, last_problem}
 use Rattle.re_cert.specs.declared.certificate.Kind.TheVariants.{Lower}
-use Rattle.re_chain_texts.specs.OverChains.{steps_refusal}
+use Rattle.re_chains.specs.OverChains.{steps_refusal}
 use Rattle.re_fit.specs.InputProblems.{input_fault}
 use Rattle.re_fit.specs.Laws.{IsFitting}
 use Rattle.re_frame.specs.Outcomes.{Outcome, done, refused}
@@ -10,7 +10,7 @@ use Rattle.re_frame.specs.declared.status.Status.TheVariants.{Done, No}
 use Rattle.re_given.specs.Given.{SolvableGiven}
 use Rattle.re_given_bounds.specs.GivenBounds.{IsOver, IsValidGiven, MeansGiven}
 use Rattle.re_problem.specs.NamedProblems.{IsNamedProblem, NamedProblem, unnamed}
-use Rattle.re_two_texts.specs.TwoTexts.{back_problem, front_bound}
+use Rattle.re_chains.specs.TwoTexts.{back_problem, front_bound}
 use Rattle.re_given_words.specs.Verdicts.{bound_outcome, given_outcome, kept_steps}
 use Rattle.re_given_words.specs.Walks.{fit_text, input_at}
 use Rattle.re_given_words.specs.declared.words.BoundWord.{BoundWord}

@@ -1,7 +1,7 @@
 -- What `product` answers to a text: a problem text, a line `== given` and an input problem.
 use Rattle.std.specs.Prelude.{◌≡◌, ℕ, ◌↔◌, List, ◌++◌, codes, if◌then◌else◌, Option, None, Some}
 use Rattle.std.specs.Fmt.{decimal}
-use Rattle.re_chain_texts.specs.OverChains.{or_fault, problem_outcome}
+use Rattle.re_chains.specs.OverChains.{or_fault, problem_outcome}
 use Rattle.re_fit.specs.InputProblems.{input_fault}
 use Rattle.re_frame.specs.Outcomes.{Outcome, limit, refused}
 use Rattle.re_frame.specs.declared.status.Status.TheVariants.{Done}

@@ -9,7 +9,7 @@ use Rattle.re_problem.specs.ProblemTexts.{lines_of, problem_of}
 use Rattle.re_problem.specs.declared.fault.InputFault.{InputFault}
 use Rattle.re_problem.specs.declared.fault.TextFault.{TextFault}
 use Rattle.re_problem.specs.declared.fault.TextFault.TheVariants.{Bad, NoMemory}
-use Rattle.re_two_texts.specs.TwoTexts.{has_line, problem_fault, problem_lines}
+use Rattle.re_chains.specs.TwoTexts.{has_line, problem_fault, problem_lines}
 use Rattle.re_given_words.specs.Counting.{IsCountedLine}
 use Rattle.re_given_words.specs.GivenTexts.{given_fault, given_input, given_problem}
 use Rattle.re_given_words.specs.InputFaults.{fault_line}

@@ -4,15 +4,15 @@ use Rattle.std.specs.Fmt.{decimal}
 use Rattle.re_cert.specs.Bounds.{Bound}
 use Rattle.re_cert.specs.declared.certificate.Kind.{Kind}
 use Rattle.re_cert.specs.declared.certificate.Kind.TheVariants.{Fixed, Lower, Upper}
-use Rattle.re_chain_texts.specs.OverChains.{or_fault, or_refusal, steps_refusal}
+use Rattle.re_chains.specs.OverChains.{or_fault, or_refusal, steps_refusal}
 use Rattle.re_check.specs.Verdicts.{meets_back}
 use Rattle.re_check.specs.declared.verdict.Verdict.TheVariants.{Refused}
-use Rattle.re_clauses.specs.declared.clause.Clause.TheVariants.{Back}
+use Rattle.re_check.specs.declared.clause.Clause.TheVariants.{Back}
 use Rattle.re_fit.specs.InputProblems.{input_fault}
 use Rattle.re_frame.specs.Check.{verdict_outcome}
 use Rattle.re_frame.specs.Outcomes.{Outcome, done, refused}
 use Rattle.re_problem.specs.NamedProblems.{NamedProblem}
-use Rattle.re_two_texts.specs.TwoTexts.{back_problem, front_bound, two_fault}
+use Rattle.re_chains.specs.TwoTexts.{back_problem, front_bound, two_fault}
 use Rattle.re_walks.specs.Walking.{Walk, cut, found, nowhere}
 use Rattle.re_given_words.specs.InputFaults.{or_input_fault}
 use Rattle.re_given_words.specs.Walks.{shown_at, tries_outcome, walk_at}

@@ -2,7 +2,7 @@
 use Rattle.std.specs.Prelude.{◌≡◌, ℕ, ◌<◌, false, List, [], ◌++◌, codes, flat_map, length, slice_index_or}
 use Rattle.std.specs.List.{AllByRecursion}
 use Rattle.re_cert.specs.Bounds.{Bound, problem_at}
-use Rattle.re_cert_text.specs.CertificateLines.{entry_text}
+use Rattle.re_texts.specs.CertificateLines.{entry_text}
 use Rattle.re_fit.specs.Fits.{fit_walk, sets_for}
 use Rattle.re_frame.specs.Outcomes.{Outcome, limit}
 use Rattle.re_given.specs.Inputs.{exchanged_by}

@@ -11,12 +11,11 @@ ghost use Rattle.std.specs.Fmt.{decimal};
 ghost use Rattle.std.specs.Prelude.{◌≡◌, ◌≤◌, ◌<◌, ◌++◌, IfOk, IfSome, None, Some, option_map};
 
 use crate::fitting::{FitAnswer, fit_answer, tries_output};
-use re_ahead::{Ahead, look_ahead};
+use crate::looking::{Ahead, look_ahead};
 use re_frame::{Answer, Output, begun, done, limit_output, push_number, push_words};
 use re_labels::{MAX_LABELS, NoMemory};
-use re_problem::Problem;
+use re_problem::{Problem, zero_round};
 use re_step::{StepFault, StepLimit, step};
-use re_zero::zero_round;
 use std::alloc::Global;
 
 /// A problem, and the input problem of which a solution is given, if any.
@@ -305,7 +304,7 @@ fn count_behind(
     }
 }
 
-/// The same, however many labels the problems have. Alone, where a step passes a limit, `re_ahead::look_ahead` goes on from the problem
+/// The same, however many labels the problems have. Alone, where a step passes a limit, `re_given_words::look_ahead` goes on from the problem
 /// before it; and where that one has too many rows, from the one before that, which is derived anew: two are held then.
 pub fn count(alloc: Global, texts: &RoundsTexts, most: u8) -> Result<Counted, NoMemory>
     requires beside { IsBeside (unnamed texts.now.problem) (option_map unnamed texts.now.input) }

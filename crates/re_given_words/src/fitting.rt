@@ -1,6 +1,6 @@
 //! Sets for the labels of an input problem, and the lines that show them.
 ghost use Rattle.re_cert.specs.Bounds.{problem_at};
-ghost use Rattle.re_chain_texts.specs.OverChains.{steps_refusal};
+ghost use Rattle.re_chains.specs.OverChains.{steps_refusal};
 ghost use Rattle.re_frame.specs.Outcomes.{outcome_of};
 ghost use Rattle.re_given.specs.Inputs.{IsInput, exchanged_by};
 ghost use Rattle.re_given_words.specs.Walks.{IsFitAnswer, fit_line, fit_text, input_at, tries_outcome};
@@ -10,12 +10,12 @@ ghost use Rattle.std.specs.List.{AllByRecursion};
 ghost use Rattle.std.specs.Prelude.{◌≡◌, ◌<◌, ◌≤◌, ◌++◌, IfOk, None, OnOk, flat_map, length};
 
 use re_cert::{Certificate, SetEntry};
-use re_cert_text::push_entry;
-use re_chain_parts::over_problems;
+use re_chains::over_problems;
 use re_fit::{FitFault, find_fit_after};
 use re_frame::{Answer, Output, begun, push_words};
 use re_labels::{LabelSet, NoMemory};
 use re_problem::Problem;
+use re_texts::push_entry;
 use std::alloc::Global;
 
 /// The most tries of a walk.

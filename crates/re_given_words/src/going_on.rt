@@ -1,5 +1,5 @@
 //! Bounds that go on from a chain, judged given an input problem.
-ghost use Rattle.re_extend.specs.Extensions.{continued};
+ghost use Rattle.re_shaping.specs.Extensions.{continued};
 ghost use Rattle.re_frame.specs.Outcomes.{outcome_of, status_of};
 ghost use Rattle.re_frame.specs.declared.status.Status.TheVariants.{Done};
 ghost use Rattle.re_given_words.specs.Extensions.{GoesOnGiven, IsTaken, TakenLaw};
@@ -10,11 +10,11 @@ ghost use Rattle.std.specs.Prelude.{◌≡◌, ◌↔◌, IfOk, IfSome, IsTrue, 
 use crate::judging::given_output;
 use crate::words::BoundWord;
 use re_cert::Certificate;
-use re_chain_parts::over_problems;
-use re_extend::{Extension, are_small, joined};
+use re_chains::over_problems;
 use re_frame::{Answer, Output};
 use re_labels::NoMemory;
 use re_problem::Problem;
+use re_shaping::{Extension, are_small, joined};
 use std::alloc::Global;
 
 /// What `given` answers to a bound and a problem behind it.

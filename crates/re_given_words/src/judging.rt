@@ -1,5 +1,5 @@
 //! The words over a bound and an input problem.
-ghost use Rattle.re_chain_texts.specs.OverChains.{or_refusal, steps_refusal};
+ghost use Rattle.re_chains.specs.OverChains.{or_refusal, steps_refusal};
 ghost use Rattle.re_frame.specs.Outcomes.{outcome_of};
 ghost use Rattle.re_given.specs.Inputs.{IsInput};
 ghost use Rattle.re_given_words.specs.Meanings.{AnswerMeans, IsJudged};
@@ -15,13 +15,11 @@ use crate::texts::GIVEN;
 use crate::verdicts::end_output;
 use crate::words::BoundWord;
 use re_cert::Certificate;
-use re_chain_parts::over_problems;
-use re_chain_texts::steps_refusal;
+use re_chains::{TwoTexts, over_problems, read_two, steps_refusal};
 use re_fit::input_fault;
 use re_frame::{Output, begun, done, fault_output, refused, verdict_output};
 use re_labels::NoMemory;
 use re_problem::{Problem, TextFault};
-use re_two_texts::{TwoTexts, read_two};
 use std::alloc::Global;
 
 // What `fit` gives to a bound each step of which meets its clauses.

@@ -9,7 +9,7 @@ ghost use Rattle.std.specs.Prelude.{◌≡◌, ◌≤◌, ◌<◌, ◌++◌, IfO
 
 use crate::faults::input_fault_output;
 use crate::texts::{GivenTexts, read_given};
-use re_chain_texts::problem_output;
+use re_chains::problem_output;
 use re_fit::input_fault;
 use re_frame::{Answer, Output, begun, fault_output, push_number, push_words, refused};
 use re_inputs::{ProductFault, pair_name, product};

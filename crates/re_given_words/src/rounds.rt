@@ -11,11 +11,11 @@ ghost use Rattle.std.specs.Prelude.{◌≡◌, ◌≤◌, IfOk, IfSome, None, So
 use crate::counting::{RoundsTexts, count, counted_output};
 use crate::faults::input_fault_output;
 use crate::texts::{GIVEN, GivenTexts, read_given};
+use re_chains::{has_line, read_problem_at};
 use re_fit::input_fault;
 use re_frame::{Output, fault_output};
 use re_labels::NoMemory;
 use re_problem::{Problem, TextFault};
-use re_two_texts::{has_line, read_problem_at};
 use std::alloc::Global;
 
 // The problem and the input problem, if any, that a text writes. `Bad` comes exactly where the text has a fault, with its first one.

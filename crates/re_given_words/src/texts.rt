@@ -1,11 +1,11 @@
 //! Texts of a problem and an input problem.
 ghost use Rattle.re_given_words.specs.GivenTexts.{GivenGives, GivenRefuses};
 ghost use Rattle.re_io.specs.declared.read.TheConstants.{MAX_BYTES};
-ghost use Rattle.re_two_texts.specs.TwoTexts.{has_line};
+ghost use Rattle.re_chains.specs.TwoTexts.{has_line};
 ghost use Rattle.std.specs.Prelude.{◌≡◌, ◌≤◌, codes, false, length};
 
+use re_chains::{cut_at, read_problem_at};
 use re_problem::{InputFault, Problem, TextFault};
-use re_two_texts::{cut_at, read_problem_at};
 use std::alloc::Global;
 
 /// The name of the line in front of an input problem.

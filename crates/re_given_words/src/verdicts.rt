@@ -1,6 +1,6 @@
 //! What `given` answers to a bound each step of which meets its clauses.
 ghost use Rattle.re_cert.specs.Bounds.{problem_at};
-ghost use Rattle.re_chain_texts.specs.OverChains.{steps_refusal};
+ghost use Rattle.re_chains.specs.OverChains.{steps_refusal};
 ghost use Rattle.re_check.specs.Verdicts.{meets_back};
 ghost use Rattle.re_frame.specs.Outcomes.{outcome_of};
 ghost use Rattle.re_given.specs.Given.{ZeroGiven};
@@ -12,7 +12,7 @@ ghost use Rattle.std.specs.Prelude.{◌≡◌, ◌≤◌, ◌<◌, ◌++◌, IfO
 
 use crate::fitting::{FitAnswer, fit_at, push_fit, tries_output};
 use re_cert::{Certificate, Kind};
-use re_chain_parts::over_problems;
+use re_chains::over_problems;
 use re_check::{Clause, Verdict, check};
 use re_frame::{Output, begun, done, push_number, push_words, refused, verdict_output};
 use re_labels::{LabelSet, NoMemory};

@@ -3,7 +3,7 @@ ghost use Rattle.re_given_words.specs.Words.{IsGivenWord, given_help as help_lin
 ghost use Rattle.std.specs.Prelude.{◌≡◌, IfSome, map, string_bytes};
 
 use re_cert::MAX_STEPS;
-use re_items::read_number;
+use re_problem::read_number;
 
 /// A word that reads a problem or a bound, and an input problem of its first problem.
 #[derive(Clone, Copy, Debug, PartialEq, Eq)]

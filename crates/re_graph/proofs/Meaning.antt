@@ -4,9 +4,9 @@ use Rattle.std.specs.List.{AllByRecursion}
 use Rattle.std.proofs.Math.Nat.{mul-le-mul_left}
 use Rattle.re_cover.specs.declared.ends.GraphEnd.{GraphEnd}
 use Rattle.re_cover.specs.Graphs.{IsEndOf, IsSolution, label_at}
-use Rattle.re_config.proofs.Rearranging.{Rearranged-sym}
-use Rattle.re_config.proofs.Sorting.{AllByRecursion-Rearranged, Rearranged-sorted, length-sorted}
-use Rattle.re_config.specs.Configs.{IsConfig, sorted}
+use Rattle.re_labels.proofs.Rearranging.{Rearranged-sym}
+use Rattle.re_labels.proofs.Sorting.{AllByRecursion-Rearranged, Rearranged-sorted, length-sorted}
+use Rattle.re_labels.specs.Configs.{IsConfig, sorted}
 use Rattle.re_graph.proofs.Fronts.{active-front, all-kept-front, kept-has, long-parts, not-below}
 use Rattle.re_graph.specs.Solving.{SolutionWalkLaw, are_active, are_kept, have_labels, is_kept, labels_at, labels_of, passes_on, place_of}
 use Rattle.re_labels.proofs.Membership.{AllByRecursion-contains, AllByRecursion-weaker}

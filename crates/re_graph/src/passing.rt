@@ -7,9 +7,8 @@ ghost use Rattle.std.specs.Prelude.{◌≡◌, ◌<◌, ◌≤◌, length, true}
 
 use crate::graph::{Graph, PassiveEnds};
 use arrayvec::ArrayVec;
-use re_config::Config;
 use re_cover::GraphEnd;
-use re_labels::MAX_LABELS;
+use re_labels::{Config, MAX_LABELS};
 use re_problem::Problem;
 use re_table::Constraint;
 use re_walks::is_begun;

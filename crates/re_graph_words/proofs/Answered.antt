@@ -1,7 +1,7 @@
 -- The answers to texts with and without a line `== given`.
 use Rattle.std.proofs.Common.{◌≡◌, ℕ, List, true, false, ap, codes, sym, subst, ◌∙◌, IfOk, Result, Ok, Err}
 use Rattle.re_frame.specs.Outcomes.{Outcome}
-use Rattle.re_two_texts.specs.TwoTexts.{has_line}
+use Rattle.re_chains.specs.TwoTexts.{has_line}
 use Rattle.re_graph_words.specs.GivenInputs.{labelled_input}
 use Rattle.re_graph_words.specs.GraphInputs.{graph_input}
 use Rattle.re_graph_words.specs.GraphWords.{MayCoverBy}

@@ -8,8 +8,8 @@ use Rattle.re_problem.specs.declared.fault.InputFault.{InputFault}
 use Rattle.re_problem.specs.declared.fault.InputFault.TheVariants.{EarlyEnd}
 use Rattle.re_problem.specs.declared.fault.TextFault.{TextFault}
 use Rattle.re_problem.specs.declared.fault.TextFault.TheVariants as text_fault
-use Rattle.re_two_texts.specs.TwoTexts.{IsCut, at_line, front_text, has_line, lines_behind, lines_to}
-use Rattle.re_two_texts.specs.declared.cutting.Cut.{Cut}
+use Rattle.re_chains.specs.TwoTexts.{IsCut, at_line, front_text, has_line, lines_behind, lines_to}
+use Rattle.re_chains.specs.declared.cutting.Cut.{Cut}
 use Rattle.re_graph_words.specs.GivenInputs.{Labelled, given_for, given_graph, graph_behind, labelled_by, labelled_for, labelled_input, labels_from}
 use Rattle.re_graph_words.specs.GivenReading.{BeforeLine, GivenGraphGives, LabelledGives, labelled_with}
 use Rattle.re_graph_words.specs.GraphInputs.{or_text_fault}

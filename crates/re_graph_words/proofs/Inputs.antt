@@ -6,8 +6,8 @@ use Rattle.re_problem.specs.ProblemTexts.{lines_of, problem_of}
 use Rattle.re_problem.specs.declared.fault.InputFault.TheVariants.{EarlyEnd}
 use Rattle.re_problem.specs.declared.fault.TextFault.{TextFault}
 use Rattle.re_problem.specs.declared.fault.TextFault.TheVariants as text_fault
-use Rattle.re_two_texts.specs.TwoTexts.{IsCut, ProblemRefuses, front_text, has_line, lines_behind, lines_to, problem_fault, problem_lines}
-use Rattle.re_two_texts.specs.declared.cutting.Cut.{Cut}
+use Rattle.re_chains.specs.TwoTexts.{IsCut, ProblemRefuses, front_text, has_line, lines_behind, lines_to, problem_fault, problem_lines}
+use Rattle.re_chains.specs.declared.cutting.Cut.{Cut}
 use Rattle.re_graph_words.specs.GraphInputs.{front_problem, graph_for, graph_input, or_text_fault}
 use Rattle.re_graph_words.specs.Reading.{GraphGives, IsRefused, TextRefuses}
 use Rattle.re_graph_words.specs.declared.faults.GraphFault.{GraphFault}

@@ -2,10 +2,10 @@
 use Rattle.std.proofs.Common.{◌≡◌, ◌+◌, ◌∷◌, ◌++◌, ◌∙◌, [], ℕ, List, Bool, true, false, Result, Ok, Err, ap, length}
 use Rattle.std.specs.Prelude.{◌==◌, if◌then◌else◌}
 use Rattle.re_cert.specs.Entries.{label_items}
-use Rattle.re_items.specs.Bytes.{is_empty_line}
+use Rattle.re_problem.specs.Bytes.{is_empty_line}
 use Rattle.re_problem.specs.NamedProblems.{NamedProblem}
 use Rattle.re_problem.specs.declared.fault.InputFault.TheVariants.{BadEntry, BadSection}
-use Rattle.re_sections.specs.SectionLines.{is_section}
+use Rattle.re_problem.specs.SectionLines.{is_section}
 use Rattle.re_graph_words.specs.GivenInputs.{labels_from, node_labels}
 use Rattle.re_graph_words.specs.GivenReading.{LabelsRefuse}
 use Rattle.re_graph_words.specs.GraphLines.{and_then}

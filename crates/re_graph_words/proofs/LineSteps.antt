@@ -3,10 +3,10 @@ use Rattle.std.proofs.Common.{◌≡◌, ◌+◌, ◌∷◌, ◌++◌, ◌∙◌
 use Rattle.std.specs.Prelude.{if◌then◌else◌}
 use Rattle.re_cover.specs.Graphs.{PortGraph}
 use Rattle.re_cover.specs.declared.ends.GraphEnd.{GraphEnd}
-use Rattle.re_items.specs.Bytes.{is_empty_line}
+use Rattle.re_problem.specs.Bytes.{is_empty_line}
 use Rattle.re_labels.specs.declared.sides.Degrees.{Degrees}
 use Rattle.re_problem.specs.declared.fault.InputFault.TheVariants.{BadSection}
-use Rattle.re_sections.specs.SectionLines.{is_section, words_of}
+use Rattle.re_problem.specs.SectionLines.{is_section, words_of}
 use Rattle.re_graph_words.specs.GraphLines.{and_then, graph_from, line_from}
 use Rattle.re_graph_words.specs.Reading.{IsRefused, LineRefuses}
 use Rattle.re_graph_words.specs.declared.faults.GraphFault.{GraphFault}

@@ -2,7 +2,7 @@
 use Rattle.std.proofs.Common.{◌≡◌, ◌≢◌, ◌-◌, ◌*◌, ◌<◌, ◌≤◌, ◌++◌, ◌∙◌, ℕ, zero, suc, List, append_assoc, ap, arith, drop, length, length-drop, refl, sym, take}
 use Rattle.std.proofs.lemmas.List.{length-take-le}
 use Rattle.std.specs.Prelude.{codes}
-use Rattle.re_cert_text.specs.CertificateLines.{image_text}
+use Rattle.re_texts.specs.CertificateLines.{image_text}
 use Rattle.re_graph.specs.Solving.{labels_of}
 use Rattle.re_graph_words.specs.Solutions.{node_lines}
 

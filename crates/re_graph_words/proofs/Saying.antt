@@ -17,7 +17,7 @@ use Rattle.re_given_words.specs.GivenTexts.{given_fault, given_input, given_prob
 use Rattle.re_given_words.specs.InputFaults.{or_input_fault}
 use Rattle.re_graph.specs.Judging.{labels_fault}
 use Rattle.re_graph.specs.declared.judging.LabelsFault.{LabelsFault}
-use Rattle.re_two_texts.specs.TwoTexts.{has_line}
+use Rattle.re_chains.specs.TwoTexts.{has_line}
 use Rattle.re_graph_words.specs.GivenCovers.{MayCoverBeside, MayCoverGiven, MayCoverGivenRead}
 use Rattle.re_graph_words.specs.GivenInputs.{Labelled, labelled_input}
 use Rattle.re_graph_words.specs.GivenSolutions.{given_none_line, labelled_outcome, or_labels_fault}

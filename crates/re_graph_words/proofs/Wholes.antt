@@ -4,7 +4,7 @@ use Rattle.std.specs.Prelude.{if◌then◌else◌}
 use Rattle.re_cover.specs.Graphs.{PortGraph}
 use Rattle.re_cover.specs.declared.ends.GraphEnd.{GraphEnd}
 use Rattle.re_graph.specs.Building.{graph_of, is_graph}
-use Rattle.re_items.specs.Steps.{is_nil}
+use Rattle.re_problem.specs.ItemSteps.{is_nil}
 use Rattle.re_labels.specs.declared.sides.Degrees.{Degrees}
 use Rattle.re_graph_words.specs.GraphLines.{graph_with, whole_graph}
 use Rattle.re_graph_words.specs.declared.faults.GraphFault.{GraphFault}

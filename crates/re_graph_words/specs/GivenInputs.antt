@@ -2,16 +2,16 @@
 -- `== graph`, the lines of the graph, a line `== labels`, and a line for each active node, with its input labels in the order of its ports.
 use Rattle.std.specs.Prelude.{ℕ, ◌+◌, ◌-◌, ◌==◌, List, [], ◌∷◌, ◌++◌, codes, length, option_and_then, option_map, if◌then◌else◌, Option, None, Some, Result, Ok, Err}
 use Rattle.re_cert.specs.Entries.{image_labels, label_items}
-use Rattle.re_items.specs.Bytes.{is_empty_line}
-use Rattle.re_items.specs.Items.{ItemText}
+use Rattle.re_problem.specs.Bytes.{is_empty_line}
+use Rattle.re_problem.specs.Items.{ItemText}
 use Rattle.re_labels.specs.PortLabels.{port_labels}
 use Rattle.re_problem.specs.NamedProblems.{NamedProblem}
 use Rattle.re_problem.specs.declared.fault.InputFault.{InputFault}
 use Rattle.re_problem.specs.declared.fault.InputFault.TheVariants.{BadEntry, BadItem, BadSection, EarlyEnd}
 use Rattle.re_given_words.specs.GivenTexts.{given_fault, given_input, given_problem}
 use Rattle.re_given_words.specs.declared.texts.GivenTexts.{GivenTexts}
-use Rattle.re_sections.specs.SectionLines.{is_section}
-use Rattle.re_two_texts.specs.TwoTexts.{at_line, front_text, has_line, lines_behind, lines_to}
+use Rattle.re_problem.specs.SectionLines.{is_section}
+use Rattle.re_chains.specs.TwoTexts.{at_line, front_text, has_line, lines_behind, lines_to}
 use Rattle.re_graph_words.specs.GraphInputs.{degrees_of, or_text_fault}
 use Rattle.re_graph_words.specs.GraphLines.{and_then, graph_from}
 use Rattle.re_graph_words.specs.declared.faults.GraphFault.{GraphFault}

@@ -5,7 +5,7 @@ use Rattle.re_problem.specs.NamedProblems.{NamedProblem}
 use Rattle.re_problem.specs.ProblemTexts.{lines_of, problem_of}
 use Rattle.re_problem.specs.declared.fault.InputFault.{InputFault}
 use Rattle.re_problem.specs.declared.fault.InputFault.TheVariants.{EarlyEnd}
-use Rattle.re_two_texts.specs.TwoTexts.{front_text, has_line, lines_behind, lines_to, problem_fault, problem_lines}
+use Rattle.re_chains.specs.TwoTexts.{front_text, has_line, lines_behind, lines_to, problem_fault, problem_lines}
 use Rattle.re_graph_words.specs.GraphLines.{and_then, graph_from}
 use Rattle.re_graph_words.specs.declared.faults.GraphFault.{GraphFault}
 use Rattle.re_graph_words.specs.declared.faults.GraphFault.TheVariants.{Text}

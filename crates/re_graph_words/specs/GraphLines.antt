@@ -5,12 +5,12 @@ use Rattle.re_cover.specs.Graphs.{PortGraph, same_end}
 use Rattle.re_cover.specs.declared.ends.GraphEnd.{GraphEnd}
 use Rattle.re_graph.specs.Building.{is_graph, stands}
 use Rattle.re_graph.specs.declared.graph.TheConstants.{MAX_NODES}
-use Rattle.re_items.specs.Bytes.{is_empty_line}
-use Rattle.re_items.specs.Numerals.{number_of}
-use Rattle.re_items.specs.Steps.{is_nil}
+use Rattle.re_problem.specs.Bytes.{is_empty_line}
+use Rattle.re_problem.specs.Numerals.{number_of}
+use Rattle.re_problem.specs.ItemSteps.{is_nil}
 use Rattle.re_labels.specs.declared.sides.Degrees.{Degrees}
 use Rattle.re_problem.specs.declared.fault.InputFault.TheVariants.{BadSection, WrongDegree}
-use Rattle.re_sections.specs.SectionLines.{is_section, words_of}
+use Rattle.re_problem.specs.SectionLines.{is_section, words_of}
 use Rattle.re_graph_words.specs.declared.faults.GraphFault.{GraphFault}
 use Rattle.re_graph_words.specs.declared.faults.GraphFault.TheVariants.{EndMissing, EndTwice, NoSuchEnd, NotEnds, Text, TooManyNodes}
 

@@ -13,7 +13,7 @@ use Rattle.re_problem.specs.CanonicalTexts.{canonical}
 use Rattle.re_problem.specs.NamedProblems.{NamedProblem, unnamed}
 use Rattle.re_problem.specs.ProblemTexts.{first_fault, lines_of, problem_of}
 use Rattle.re_problem.specs.declared.fault.InputFault.{InputFault}
-use Rattle.re_two_texts.specs.TwoTexts.{has_line}
+use Rattle.re_chains.specs.TwoTexts.{has_line}
 use Rattle.re_graph_words.specs.GivenCovers.{MayCoverGivenRead}
 use Rattle.re_graph_words.specs.NotFound.{IsNotFound}
 use Rattle.re_graph_words.specs.SolveWords.{IsSolved, solve_outcome}

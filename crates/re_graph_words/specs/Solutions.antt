@@ -1,6 +1,6 @@
 -- Solutions on a graph, as they are printed, and what a walk over labels comes to.
 use Rattle.std.specs.Prelude.{◌≡◌, ℕ, List, ◌++◌, codes, flat_map}
-use Rattle.re_cert_text.specs.CertificateLines.{image_text}
+use Rattle.re_texts.specs.CertificateLines.{image_text}
 use Rattle.re_cover.specs.Graphs.{IsSolution, PortGraph}
 use Rattle.re_frame.specs.Outcomes.{Outcome, done, limit_of, refused}
 use Rattle.re_graph.specs.Solving.{labels_of, solution_walk}

@@ -5,7 +5,7 @@ use Rattle.re_frame.specs.Outcomes.{Outcome}
 use Rattle.re_frame.specs.declared.status.Status.TheVariants.{Done, No}
 use Rattle.re_laws.specs.Algorithms.{Solvable}
 use Rattle.re_problem.specs.NamedProblems.{NamedProblem, unnamed}
-use Rattle.re_two_texts.specs.TwoTexts.{has_line}
+use Rattle.re_chains.specs.TwoTexts.{has_line}
 use Rattle.re_graph_words.specs.Faults.{graph_fault_outcome}
 use Rattle.re_graph_words.specs.GivenInputs.{Labelled, labelled_input}
 use Rattle.re_graph_words.specs.GivenSolutions.{GivenMeans, labelled_outcome}

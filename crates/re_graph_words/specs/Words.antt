@@ -1,7 +1,7 @@
 -- The words `solve` and `cover`.
 use Rattle.std.specs.Prelude.{ℕ, ◌≤◌, nat_le, ◌&&◌, List, [], ◌∷◌, ◌++◌, codes, if◌then◌else◌, Option, None, Some}
 use Rattle.std.specs.Str.{bytes_eq}
-use Rattle.re_items.specs.Numerals.{number_of}
+use Rattle.re_problem.specs.Numerals.{number_of}
 use Rattle.re_graph_words.specs.declared.words.TheConstants.{MAX_COVER}
 use Rattle.re_graph_words.specs.declared.words.GraphWord.{GraphWord}
 use Rattle.re_graph_words.specs.declared.words.GraphWord.TheVariants.{Cover, Solve}

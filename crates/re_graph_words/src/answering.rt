@@ -5,18 +5,18 @@ ghost use Rattle.re_graph_words.specs.GraphWords.{MayCoverBy, MayCoverRead, MayG
 ghost use Rattle.re_graph_words.specs.Words.{IsGraphWord};
 ghost use Rattle.re_io.specs.declared.read.TheConstants.{MAX_BYTES};
 ghost use Rattle.re_problem.specs.ProblemTexts.{first_fault, lines_of, problem_of};
-ghost use Rattle.re_two_texts.specs.TwoTexts.{has_line as has_given};
+ghost use Rattle.re_chains.specs.TwoTexts.{has_line as has_given};
 ghost use Rattle.std.specs.Prelude.{◌≡◌, ◌≤◌, IfOk, codes, length, true};
 
 use crate::covering::cover_output;
 use crate::given_covering::given_cover_output;
 use crate::solving::solve_output;
 use crate::words::GraphWord;
+use re_chains::has_line;
 use re_frame::{Finding, Output, fault_output};
 use re_given_words::GIVEN;
 use re_labels::NoMemory;
 use re_problem::{TextFault, read_problem};
-use re_two_texts::has_line;
 use std::alloc::Global;
 
 // What `cover` gives to the text of a problem.

@@ -1,17 +1,15 @@
 //! The ends on a line.
 ghost use Rattle.re_graph_words.specs.GraphLines.{end_on, end_with as both_numbers, judged_end as end_judged, judged_word as word_judged, line_from as ends_from, is_numbered as has_numbers, stands_before as is_before};
-ghost use Rattle.re_sections.specs.SectionLines.{words_of};
-ghost use Rattle.re_items.specs.Numerals.{number_of};
+ghost use Rattle.re_problem.specs.SectionLines.{words_of};
+ghost use Rattle.re_problem.specs.Numerals.{number_of};
 ghost use Rattle.std.specs.Prelude.{◌≡◌, ◌≢◌, ◌≤◌, ◌<◌, ◌==◌, ◌+◌, ◌++◌, ◌∷◌, [], IfOk, IfSome, drop, length, position, take};
 
 use crate::faults::GraphFault;
 use arrayvec::ArrayVec;
 use re_cover::GraphEnd;
 use re_graph::{MAX_NODES, PassiveEnds, has_end, stands};
-use re_items::read_number;
 use re_labels::Degrees;
-use re_problem::InputFault;
-use re_sections::next_word;
+use re_problem::{InputFault, next_word, read_number};
 
 fn end_with(node: Option<u32>, port: Option<u32>) -> Option<(u32, u32)>
     ensures { result ≡ both_numbers node port }

@@ -4,18 +4,18 @@ ghost use Rattle.re_graph_words.specs.GivenReading.{BeforeLine, GivenGraphGives,
 ghost use Rattle.re_graph_words.specs.Reading.{IsRefused};
 ghost use Rattle.re_io.specs.declared.read.TheConstants.{MAX_BYTES};
 ghost use Rattle.re_problem.specs.ProblemTexts.{lines_of};
-ghost use Rattle.re_two_texts.specs.TwoTexts.{has_line};
+ghost use Rattle.re_chains.specs.TwoTexts.{has_line};
 ghost use Rattle.std.specs.Prelude.{◌≡◌, ◌<◌, ◌≤◌, ◌+◌, Err, codes, false, length};
 
 use crate::faults::{GraphFault, ReadFault};
 use crate::labels::read_labels;
 use crate::lines::read_lines;
 use crate::texts::{GRAPH, text_fault};
+use re_chains::{at_line, cut_at};
 use re_given_words::{GivenTexts, read_given};
 use re_graph::Graph;
 use re_labels::PortLabels;
 use re_problem::{InputFault, Problem};
-use re_two_texts::{at_line, cut_at};
 use std::alloc::Global;
 
 // The name of the line in front of the labels.

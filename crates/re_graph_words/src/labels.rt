@@ -8,10 +8,8 @@ ghost use Rattle.std.specs.Prelude.{◌≡◌, ◌<◌, ◌≤◌, ◌+◌, ◌=
 
 use crate::faults::{GraphFault, ReadFault};
 use re_cert::{has_labels, line_labels};
-use re_items::is_empty_line;
 use re_labels::PortLabels;
-use re_problem::{InputFault, Problem, cut_line};
-use re_sections::begins_section;
+use re_problem::{InputFault, Problem, begins_section, cut_line, is_empty_line};
 use std::alloc::Global;
 
 // The labels of a node that a line of this number writes.

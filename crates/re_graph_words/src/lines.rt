@@ -9,10 +9,8 @@ use crate::ends::read_line;
 use crate::faults::{GraphFault, ReadFault};
 use re_cover::GraphEnd;
 use re_graph::{Graph, MAX_NODES, PassiveEnds};
-use re_items::is_empty_line;
 use re_labels::Degrees;
-use re_problem::{InputFault, cut_line};
-use re_sections::begins_section;
+use re_problem::{InputFault, begins_section, cut_line, is_empty_line};
 use std::alloc::Global;
 
 // The greatest number of a node at these ends, where nodes count from 1.

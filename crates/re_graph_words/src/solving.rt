@@ -4,25 +4,25 @@ ghost use Rattle.re_graph.specs.Solving.{labels_of, solution_walk};
 ghost use Rattle.re_graph_words.specs.GraphInputs.{graph_input};
 ghost use Rattle.re_graph_words.specs.SolveWords.{AnswerMeans, IsSolved, ReadMeans, none_line, read_outcome, solve_outcome};
 ghost use Rattle.re_graph_words.specs.Solutions.{node_lines, solution_outcome, walked_with};
-ghost use Rattle.re_two_texts.specs.TwoTexts.{has_line as has_given};
+ghost use Rattle.re_chains.specs.TwoTexts.{has_line as has_given};
 ghost use Rattle.re_io.specs.declared.read.TheConstants.{MAX_BYTES};
 ghost use Rattle.re_problem.specs.NamedProblems.{unnamed};
 ghost use Rattle.re_walks.specs.Walking.{found};
 ghost use Rattle.std.specs.List.{AllByRecursion};
-ghost use Rattle.re_cert_text.specs.CertificateLines.{image_text};
+ghost use Rattle.re_texts.specs.CertificateLines.{image_text};
 ghost use Rattle.std.specs.Prelude.{◌≡◌, ◌<◌, ◌≤◌, ◌*◌, ◌++◌, IfOk, OnOk, codes, drop, length, take};
 
 use crate::faults::{ReadFault, graph_fault_output};
 use crate::given_solving::given_output;
 use crate::texts::{GraphText, read_graph_text};
 use re_cert::RowImage;
-use re_cert_text::push_image;
+use re_chains::has_line;
 use re_frame::{Output, begun, done, limit_of, refused};
 use re_given_words::GIVEN;
 use re_graph::{Graph, SolveFault, solve};
 use re_labels::{Names, NoMemory};
 use re_problem::Problem;
-use re_two_texts::has_line;
+use re_texts::push_image;
 use std::alloc::Global;
 
 /// The most tries of a search for a solution.

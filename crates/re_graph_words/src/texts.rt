@@ -3,14 +3,14 @@ ghost use Rattle.re_graph_words.specs.GraphInputs.{graph_for as graph_of_lines, 
 ghost use Rattle.re_graph_words.specs.Reading.{GraphGives, IsRefused, TextRefuses};
 ghost use Rattle.re_io.specs.declared.read.TheConstants.{MAX_BYTES};
 ghost use Rattle.re_problem.specs.ProblemTexts.{lines_of};
-ghost use Rattle.re_two_texts.specs.TwoTexts.{has_line};
+ghost use Rattle.re_chains.specs.TwoTexts.{has_line};
 ghost use Rattle.std.specs.Prelude.{◌≡◌, ◌<◌, ◌≤◌, ◌+◌, codes, false, length};
 
 use crate::faults::{GraphFault, ReadFault};
 use crate::lines::read_lines;
+use re_chains::{cut_at, read_problem_at};
 use re_graph::Graph;
 use re_problem::{InputFault, Problem, TextFault};
-use re_two_texts::{cut_at, read_problem_at};
 use std::alloc::Global;
 
 /// The name of the line in front of the graph.

@@ -2,7 +2,7 @@
 ghost use Rattle.re_graph_words.specs.Words.{IsGraphWord, cover_with, graph_help as help_lines, graph_word_of};
 ghost use Rattle.std.specs.Prelude.{◌≡◌, IfSome, map, string_bytes};
 
-use re_items::read_number;
+use re_problem::read_number;
 
 /// The most active nodes of a graph that `cover` looks for.
 pub(crate) const MAX_COVER: u32 = 64;

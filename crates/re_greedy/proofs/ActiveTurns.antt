@@ -5,10 +5,10 @@ use Rattle.std.specs.List.{AllByRecursion, AllZip}
 use Rattle.std.proofs.lemmas.Bool.Decides.{nat_tests}
 use Rattle.std.proofs.lemmas.List.{length-map}
 use Rattle.std.proofs.lemmas.List.Elements.{Contains-get_or}
-use Rattle.re_config.proofs.Rearranging.{Contains-Rearranged, length-AllZip}
-use Rattle.re_config.proofs.Sorting.{Rearranged-sorted, length-sorted}
-use Rattle.re_config.specs.Configs.{IsConfig, sorted}
-use Rattle.re_config.specs.Rows.{IsChoice}
+use Rattle.re_labels.proofs.Rearranging.{Contains-Rearranged, length-AllZip}
+use Rattle.re_labels.proofs.Sorting.{Rearranged-sorted, length-sorted}
+use Rattle.re_labels.specs.Configs.{IsConfig, sorted}
+use Rattle.re_labels.specs.Rows.{IsChoice}
 use Rattle.re_greedy.proofs.Parts.{choice_only, chosen_in, chosen_itself}
 use Rattle.re_greedy.proofs.Stages.{Acts, active_there, stage, stage_active}
 use Rattle.re_greedy.proofs.Told.{L, sets, sets_itself, sets_there, told, wide, wide_cases, wide_only}

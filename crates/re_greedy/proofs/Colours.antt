@@ -3,9 +3,9 @@ use Rattle.std.proofs.Common.{◌≡◌, ℕ, ◌≤◌, ◌<◌, List, eqb, len
 use Rattle.std.specs.Prelude.{Contains, replicate}
 use Rattle.std.proofs.lemmas.List.{map-id}
 use Rattle.std.proofs.lemmas.List.Elements.{Contains-get_or}
-use Rattle.re_config.proofs.LawsOfRows.{multisets_law}
-use Rattle.re_config.specs.Configs.{IsConfig, support_of}
-use Rattle.re_config.specs.Orders.{multisets}
+use Rattle.re_labels.proofs.LawsOfRows.{multisets_law}
+use Rattle.re_labels.specs.Configs.{IsConfig, support_of}
+use Rattle.re_labels.specs.Orders.{multisets}
 use Rattle.re_given.specs.Unavoidable.{colouring}
 use Rattle.re_greedy.proofs.Parts.{all_alike}
 use Rattle.re_labels.proofs.Membership.{AllByRecursion-contains, Contains-filter_cases, Distinct}

@@ -3,7 +3,7 @@ use Rattle.std.proofs.Common.{◌≡◌, ℕ, zero, suc, ◌+◌, ◌-◌, ◌*�
 use Rattle.re_classes.proofs.Decided.{below_log_star}
 use Rattle.re_classes.specs.Classes.{IsBelowLogStar}
 use Rattle.re_classes.specs.Laws.{IsSolvableColoured}
-use Rattle.re_few_colours.proofs.FewerColours.{degree_within}
+use Rattle.re_local.proofs.FewerColours.{degree_within}
 use Rattle.re_given.proofs.ChainGiven.{IsInput-upper_chain, SolvableGiven-upper_chain, exchanged_by-add, exchanged_by-twice}
 use Rattle.re_given.proofs.Colourings.{IsInput-colouring}
 use Rattle.re_given.proofs.FastGiven.{IsInput-exchanged}

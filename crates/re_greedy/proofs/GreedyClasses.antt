@@ -3,7 +3,7 @@ use Rattle.std.proofs.Common.{◌≡◌, ℕ, suc, ◌+◌, ◌-◌, ◌*◌, �
 use Rattle.re_classes.proofs.Decided.{below_log_star, order_log_star}
 use Rattle.re_classes.specs.Classes.{IsBelowLogStar, IsOrderLogStar}
 use Rattle.re_classes.specs.Laws.{IsSolvableColoured, IsUnsolvable}
-use Rattle.re_few_colours.proofs.FewerColours.{degree_within}
+use Rattle.re_local.proofs.FewerColours.{degree_within}
 use Rattle.re_given.proofs.Colourings.{IsInput-colouring}
 use Rattle.re_given.proofs.FastGiven.{IsInput-exchanged}
 use Rattle.re_given.proofs.Itself.{SolvableGiven-exchanged}

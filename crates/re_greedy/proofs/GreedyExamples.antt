@@ -2,7 +2,7 @@
 use Rattle.std.proofs.Common.{◌≡◌, ℕ, ◌≤◌, true, List, [], ◌∷◌, ◌++◌, refl, arith}
 use Rattle.re_classes.specs.Classes.{IsBelowLogStar}
 use Rattle.re_families.specs.Families as families
-use Rattle.re_few_colours.proofs.ColouredHops.{IsProblem-colouring}
+use Rattle.re_local.proofs.ColouredHops.{IsProblem-colouring}
 use Rattle.re_given.proofs.Colourings.{filtered_constraint}
 use Rattle.re_given.specs.InputExamples.{edge_colouring}
 use Rattle.re_given.specs.Unavoidable.{colouring}

@@ -3,9 +3,9 @@ use Rattle.std.proofs.Common.{◌≡◌, ℕ, zero, suc, ◌+◌, ◌*◌, ◌�
 use Rattle.std.specs.Prelude.{Contains, replicate}
 use Rattle.std.specs.List.{AllByRecursion}
 use Rattle.std.proofs.lemmas.List.{length-map, map-id}
-use Rattle.re_config.proofs.Sorting.{length-sorted}
-use Rattle.re_config.specs.Configs.{IsConfig, sorted}
-use Rattle.re_few_colours.proofs.ColouredHops.{IsProblem-colouring}
+use Rattle.re_labels.proofs.Sorting.{length-sorted}
+use Rattle.re_labels.specs.Configs.{IsConfig, sorted}
+use Rattle.re_local.proofs.ColouredHops.{IsProblem-colouring}
 use Rattle.re_given.proofs.Colourings.{IsInput-colouring}
 use Rattle.re_given.proofs.Itself.{SolvableGiven-itself}
 use Rattle.re_given.proofs.MappingGiven.{SolvableGiven-relaxed}

@@ -3,12 +3,12 @@ use Rattle.std.proofs.Common.{◌≡◌, ℕ, ◌<◌, Bool, true, false, eqb, l
 use Rattle.std.specs.Prelude.{◌↔◌, Contains, IsTrue, not}
 use Rattle.std.specs.List.{AllByRecursion, AllZip, list_all, list_any}
 use Rattle.std.proofs.lemmas.List.{length-map}
-use Rattle.re_config.proofs.LawsOfRows.{multisets_law}
-use Rattle.re_config.proofs.Rearranging.{Rearranged-map, Rearranged-sym}
-use Rattle.re_config.proofs.Sorting.{IsConfig-sorted, Rearranged-sorted}
-use Rattle.re_config.specs.Configs.{IsConfig, sorted}
-use Rattle.re_config.specs.Orders.{multisets}
-use Rattle.re_config.specs.Rows.{IsChoice, placed, set_at}
+use Rattle.re_labels.proofs.LawsOfRows.{multisets_law}
+use Rattle.re_labels.proofs.Rearranging.{Rearranged-map, Rearranged-sym}
+use Rattle.re_labels.proofs.Sorting.{IsConfig-sorted, Rearranged-sorted}
+use Rattle.re_labels.specs.Configs.{IsConfig, sorted}
+use Rattle.re_labels.specs.Orders.{multisets}
+use Rattle.re_labels.specs.Rows.{IsChoice, placed, set_at}
 use Rattle.re_greedy.proofs.ActiveTurns.{has_below}
 use Rattle.re_greedy.specs.Greedy.{IsGreedy, is_greedy, joining, wanting}
 use Rattle.re_labels.proofs.Before.{same_list-refl, same_list-same}

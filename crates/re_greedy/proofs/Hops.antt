@@ -3,12 +3,12 @@ use Rattle.std.proofs.Common.{◌≡◌, ℕ, suc, ◌<◌, List, filter, map, l
 use Rattle.std.specs.Prelude.{Contains}
 use Rattle.std.specs.List.{AllByRecursion}
 use Rattle.std.proofs.lemmas.List.{length-map}
-use Rattle.re_config.proofs.LawsOfRows.{multisets_law}
-use Rattle.re_config.proofs.Rearranging.{Rearranged-map, length-AllZip}
-use Rattle.re_config.proofs.Sorting.{IsConfig-sorted, Rearranged-sorted}
-use Rattle.re_config.specs.Configs.{sorted}
-use Rattle.re_config.specs.Orders.{multisets}
-use Rattle.re_config.specs.Rows.{IsChoice}
+use Rattle.re_labels.proofs.LawsOfRows.{multisets_law}
+use Rattle.re_labels.proofs.Rearranging.{Rearranged-map, length-AllZip}
+use Rattle.re_labels.proofs.Sorting.{IsConfig-sorted, Rearranged-sorted}
+use Rattle.re_labels.specs.Configs.{sorted}
+use Rattle.re_labels.specs.Orders.{multisets}
+use Rattle.re_labels.specs.Rows.{IsChoice}
 use Rattle.re_given.proofs.ChainGiven.{IsInput-upper}
 use Rattle.re_given.proofs.SlowGiven.{SolvableGiven-upper}
 use Rattle.re_given.specs.Given.{SolvableGiven}

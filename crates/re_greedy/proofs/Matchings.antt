@@ -2,7 +2,7 @@
 use Rattle.std.proofs.Common.{◌≡◌, ℕ, ◌≤◌, true, List, [], ◌∷◌, map, refl, arith}
 use Rattle.std.specs.List.{list_all}
 use Rattle.re_classes.specs.Classes.{IsBelowLogStar}
-use Rattle.re_config.specs.Rows.{set_at}
+use Rattle.re_labels.specs.Rows.{set_at}
 use Rattle.re_given.proofs.Colourings.{filtered_constraint}
 use Rattle.re_greedy.proofs.GreedyChains.{greedy_chain}
 use Rattle.re_greedy.proofs.GreedyTest.{greedy_test}

@@ -2,9 +2,9 @@
 use Rattle.std.proofs.Common.{◌≡◌, ℕ, suc, ◌+◌, ◌≤◌, ◌<◌, Bool, true, false, cond, ltb, ◌&&◌, List, [], ◌∷◌, filter, map, length, refl, sym, ◌∙◌, ap, subst, arith, inl, inr}
 use Rattle.std.specs.Prelude.{Contains, not, replicate}
 use Rattle.std.proofs.lemmas.Bool.Decides.{nat_tests}
-use Rattle.re_config.proofs.Rearranging.{Rearranged-refl}
-use Rattle.re_config.specs.Rearranging.{Rearranged, chained, kept, swapped, unmoved}
-use Rattle.re_config.specs.Rows.{IsChoice}
+use Rattle.re_labels.proofs.Rearranging.{Rearranged-refl}
+use Rattle.re_labels.specs.Rearranging.{Rearranged, chained, kept, swapped, unmoved}
+use Rattle.re_labels.specs.Rows.{IsChoice}
 use Rattle.re_labels.proofs.Membership.{Contains-cases, Contains-here, Contains-later, Contains-map, Contains-none, Distinct}
 use Rattle.re_labels.proofs.Sets.{IsIn-has, has-IsIn}
 use Rattle.re_labels.proofs.Tests.{and-true, true-and, true-below}

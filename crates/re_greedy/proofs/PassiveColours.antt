@@ -5,13 +5,13 @@ use Rattle.std.specs.List.{AllByRecursion}
 use Rattle.std.proofs.lemmas.List.{length-map, length-replicate, map-id}
 use Rattle.std.proofs.lemmas.List.Elements.{Contains-get_or}
 use Rattle.std.proofs.lemmas.Nat.{div-mul-add}
-use Rattle.re_config.proofs.Rearranging.{Contains-Rearranged, length-AllZip}
-use Rattle.re_config.proofs.Sorting.{AllByRecursion-Rearranged, Rearranged-sorted, length-sorted, sorted_again, sorted_rises}
-use Rattle.re_config.specs.Configs.{IsConfig, sorted}
-use Rattle.re_config.specs.Rows.{IsChoice}
+use Rattle.re_labels.proofs.Rearranging.{Contains-Rearranged, length-AllZip}
+use Rattle.re_labels.proofs.Sorting.{AllByRecursion-Rearranged, Rearranged-sorted, length-sorted, sorted_again, sorted_rises}
+use Rattle.re_labels.specs.Configs.{IsConfig, sorted}
+use Rattle.re_labels.specs.Rows.{IsChoice}
 use Rattle.re_families.proofs.Whole.{alike_rise}
-use Rattle.re_few_colours.proofs.ColouredHops.{IsProblem-colouring}
-use Rattle.re_few_colours.proofs.DifferentLabels.{Distinct-Rearranged, rising_strictly}
+use Rattle.re_local.proofs.ColouredHops.{IsProblem-colouring}
+use Rattle.re_local.proofs.DifferentLabels.{Distinct-Rearranged, rising_strictly}
 use Rattle.re_given.proofs.Colourings.{IsInput-colouring, colour_there, colours_there}
 use Rattle.re_given.specs.Given.{SolvableGiven}
 use Rattle.re_given.specs.Inputs.{IsInput, exchanged}

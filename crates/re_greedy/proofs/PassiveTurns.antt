@@ -4,13 +4,13 @@ use Rattle.std.specs.Prelude.{Contains, not, replicate}
 use Rattle.std.specs.List.{AllByRecursion, AllZip}
 use Rattle.std.proofs.lemmas.Bool.Decides.{nat_tests}
 use Rattle.std.proofs.lemmas.List.{length-map, length-replicate}
-use Rattle.re_config.proofs.ChoicesOfRows.{IsChoice-Rearranged}
-use Rattle.re_config.proofs.Rearranging.{Contains-Rearranged, Rearranged-map, Rearranged-sym, length-Rearranged}
-use Rattle.re_config.proofs.Sorting.{Rearranged-sorted, length-sorted}
-use Rattle.re_config.specs.Configs.{IsConfig, sorted}
-use Rattle.re_config.specs.Rearranging.{Rearranged, chained, kept}
-use Rattle.re_config.specs.Rows.{IsChoice}
-use Rattle.re_few_colours.proofs.DifferentLabels.{Distinct-Rearranged}
+use Rattle.re_labels.proofs.ChoicesOfRows.{IsChoice-Rearranged}
+use Rattle.re_labels.proofs.Rearranging.{Contains-Rearranged, Rearranged-map, Rearranged-sym, length-Rearranged}
+use Rattle.re_labels.proofs.Sorting.{Rearranged-sorted, length-sorted}
+use Rattle.re_labels.specs.Configs.{IsConfig, sorted}
+use Rattle.re_labels.specs.Rearranging.{Rearranged, chained, kept}
+use Rattle.re_labels.specs.Rows.{IsChoice}
+use Rattle.re_local.proofs.DifferentLabels.{Distinct-Rearranged}
 use Rattle.re_given.proofs.GrownInputs.{without_one}
 use Rattle.re_greedy.proofs.Parts.{Rearranged-filter, choice_only, chosen_each, not_below, put_out, put_out_high, put_out_low, put_out_most, waiting, waiting_high, waiting_low}
 use Rattle.re_greedy.proofs.Stages.{Stands, passive_there, stage}

@@ -4,13 +4,13 @@ use Rattle.std.specs.Prelude.{Contains, replicate, true}
 use Rattle.std.specs.List.{AllByRecursion, list_any}
 use Rattle.std.proofs.lemmas.List.{length-map}
 use Rattle.std.proofs.lemmas.Nat.{div-mul-add, mul-le}
-use Rattle.re_config.proofs.LawsOfRows.{multisets_law}
-use Rattle.re_config.proofs.Rearranging.{Rearranged-map, length-AllZip}
-use Rattle.re_config.proofs.Sorting.{IsConfig-sorted, Rearranged-sorted, sorted_again}
-use Rattle.re_config.specs.Configs.{IsConfig, sorted}
-use Rattle.re_config.specs.Orders.{multisets}
-use Rattle.re_config.specs.Rows.{IsChoice}
-use Rattle.re_few_colours.proofs.DifferentLabels.{Distinct-Rearranged}
+use Rattle.re_labels.proofs.LawsOfRows.{multisets_law}
+use Rattle.re_labels.proofs.Rearranging.{Rearranged-map, length-AllZip}
+use Rattle.re_labels.proofs.Sorting.{IsConfig-sorted, Rearranged-sorted, sorted_again}
+use Rattle.re_labels.specs.Configs.{IsConfig, sorted}
+use Rattle.re_labels.specs.Orders.{multisets}
+use Rattle.re_labels.specs.Rows.{IsChoice}
+use Rattle.re_local.proofs.DifferentLabels.{Distinct-Rearranged}
 use Rattle.re_given.proofs.Colourings.{IsInput-colouring, filtered_constraint}
 use Rattle.re_given.proofs.SlowGiven.{SolvableGiven-zero}
 use Rattle.re_given.specs.Given.{SolvableGiven}

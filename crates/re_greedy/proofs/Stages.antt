@@ -3,14 +3,14 @@ use Rattle.std.proofs.Common.{◌≡◌, ℕ, ◌+◌, ◌-◌, ◌≤◌, ◌<�
 use Rattle.std.specs.Prelude.{Contains, not, replicate}
 use Rattle.std.specs.List.{AllByRecursion, list_all, list_any}
 use Rattle.std.proofs.lemmas.Bool.Decides.{nat_tests}
-use Rattle.re_config.proofs.LawsOfRows.{multisets_law}
-use Rattle.re_config.proofs.Rearranging.{Contains-Rearranged, Rearranged-sym}
-use Rattle.re_config.proofs.Sorting.{IsConfig-sorted, Rearranged-sorted, sorted_again}
-use Rattle.re_config.specs.Configs.{IsConfig, sorted}
-use Rattle.re_config.specs.Orders.{multisets}
-use Rattle.re_config.specs.Rearranging.{Rearranged}
+use Rattle.re_labels.proofs.LawsOfRows.{multisets_law}
+use Rattle.re_labels.proofs.Rearranging.{Contains-Rearranged, Rearranged-sym}
+use Rattle.re_labels.proofs.Sorting.{IsConfig-sorted, Rearranged-sorted, sorted_again}
+use Rattle.re_labels.specs.Configs.{IsConfig, sorted}
+use Rattle.re_labels.specs.Orders.{multisets}
+use Rattle.re_labels.specs.Rearranging.{Rearranged}
 use Rattle.re_families.proofs.Whole.{alike_rise}
-use Rattle.re_few_colours.proofs.DifferentLabels.{Distinct-Rearranged}
+use Rattle.re_local.proofs.DifferentLabels.{Distinct-Rearranged}
 use Rattle.re_given.proofs.Colourings.{filtered_constraint}
 use Rattle.re_greedy.proofs.Parts.{Distinct-is_distinct, Rearranged-filter, is_distinct, is_distinct-Distinct, not_below, put_out, waiting}
 use Rattle.re_labels.proofs.Before.{same_list-refl, same_list-same}

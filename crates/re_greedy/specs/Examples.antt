@@ -1,7 +1,7 @@
 -- Worked problems that are greedy.
 use Rattle.std.specs.Prelude.{ℕ, suc, ◌≤◌, ◌==◌, nat_le, Bool, ◌&&◌, ◌||◌, List, [], ◌∷◌, filter, length}
 use Rattle.std.specs.List.{flat_map}
-use Rattle.re_config.specs.Orders.{multisets}
+use Rattle.re_labels.specs.Orders.{multisets}
 use Rattle.re_labels.specs.Lists.{count_from}
 use Rattle.re_classes.specs.Classes.{IsBelowLogStar}
 use Rattle.re_families.specs.Families as families

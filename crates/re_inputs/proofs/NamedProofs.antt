@@ -7,7 +7,7 @@ use Rattle.re_families.specs.declared.types.Family.{Family}
 use Rattle.re_families.specs.declared.types.Family.TheVariants as family
 use Rattle.re_given.proofs.Colourings.{IsInput-colouring, filtered_constraint}
 use Rattle.re_given.proofs.NamedInputs.{IsInput-oriented, IsInput-oriented_both, IsInput-sides, IsInput-tested, are_there, edge_colouring_input}
-use Rattle.re_config.specs.Orders.{multisets}
+use Rattle.re_labels.specs.Orders.{multisets}
 use Rattle.re_given.specs.InputExamples as examples
 use Rattle.re_given.specs.Inputs.{IsInput, exchanged, nothing}
 use Rattle.re_given.specs.Unavoidable.{colouring}

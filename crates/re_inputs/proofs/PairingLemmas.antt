@@ -7,13 +7,13 @@ use Rattle.std.proofs.lemmas.List.{append-nil, get_or_default}
 use Rattle.std.proofs.lemmas.List.Concat.{flat_map-append}
 use Rattle.std.proofs.lemmas.List.Elements.{same_from_all_zip}
 use Rattle.std.proofs.lemmas.Nat.{div-add-mod', div-mul-add, le-div, mod-mul-add, mul-add-lt}
-use Rattle.re_config.proofs.LawsOfRows.{multisets_law}
-use Rattle.re_config.proofs.Placing.{In-orders, Rearranged-orders, beside_map, from_beside}
-use Rattle.re_config.proofs.Rearranging.{Rearranged-map, Rearranged-sym, along, length-Rearranged}
-use Rattle.re_config.proofs.Sorting.{AllByRecursion-Rearranged, Rearranged-sorted, sorted-Rearranged, sorted_again}
-use Rattle.re_config.specs.Configs.{IsConfig, image_at, sorted}
-use Rattle.re_config.specs.Orders.{multisets, placements}
-use Rattle.re_config.specs.Rearranging.{Rearranged}
+use Rattle.re_labels.proofs.LawsOfRows.{multisets_law}
+use Rattle.re_labels.proofs.Placing.{In-orders, Rearranged-orders, beside_map, from_beside}
+use Rattle.re_labels.proofs.Rearranging.{Rearranged-map, Rearranged-sym, along, length-Rearranged}
+use Rattle.re_labels.proofs.Sorting.{AllByRecursion-Rearranged, Rearranged-sorted, sorted-Rearranged, sorted_again}
+use Rattle.re_labels.specs.Configs.{IsConfig, image_at, sorted}
+use Rattle.re_labels.specs.Orders.{multisets, placements}
+use Rattle.re_labels.specs.Rearranging.{Rearranged}
 use Rattle.re_given.proofs.Colourings.{filtered_constraint}
 use Rattle.re_given.proofs.Pairs.{from_parts, parts}
 use Rattle.re_given.specs.Products.{are_pairs, firsts, pairs_of, seconds}

@@ -6,10 +6,10 @@ use Rattle.std.proofs.lemmas.Bool.{false≢true, le-ltb, ltb-false}
 use Rattle.std.proofs.lemmas.List.{get_or-map, map-id}
 use Rattle.std.proofs.lemmas.List.Elements.{Contains-get_or}
 use Rattle.std.proofs.lemmas.Nat.{div-add-mod'}
-use Rattle.re_config.proofs.Rearranging.{Contains-Rearranged, Rearranged-refl, length-Rearranged}
-use Rattle.re_config.proofs.Sorting.{AllByRecursion-Rearranged, Rearranged-sorted}
-use Rattle.re_config.specs.Configs.{IsConfig, image_at, image_of, sorted}
-use Rattle.re_config.specs.Rearranging.{Rearranged, chained, kept, swapped}
+use Rattle.re_labels.proofs.Rearranging.{Contains-Rearranged, Rearranged-refl, length-Rearranged}
+use Rattle.re_labels.proofs.Sorting.{AllByRecursion-Rearranged, Rearranged-sorted}
+use Rattle.re_labels.specs.Configs.{IsConfig, image_at, image_of, sorted}
+use Rattle.re_labels.specs.Rearranging.{Rearranged, chained, kept, swapped}
 use Rattle.re_given.proofs.GivenProducts.{IsInput-product, SolvableGiven-from_product, SolvableGiven-product}
 use Rattle.re_given.proofs.MappingGiven.{IsInput-same, SolvableGiven-relaxed}
 use Rattle.re_given.proofs.Pairs.{IsProblem-product, from_parts}

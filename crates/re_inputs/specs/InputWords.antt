@@ -2,7 +2,7 @@
 use Rattle.std.specs.Prelude.{◌≡◌, ℕ, true, List, [], ◌∷◌, codes, find, if◌then◌else◌, Option, None, Some}
 use Rattle.std.specs.Str.{bytes_eq}
 use Rattle.re_frame.specs.Outcomes.{Outcome, done}
-use Rattle.re_items.specs.Numerals.{number_of}
+use Rattle.re_problem.specs.Numerals.{number_of}
 use Rattle.re_problem.specs.CanonicalTexts.{canonical}
 use Rattle.re_inputs.specs.NamedInputs.{fits, input_of}
 use Rattle.re_inputs.specs.declared.kinds.InputKind.{InputKind}

@@ -1,7 +1,7 @@
 -- Input problems of the field with names for their labels.
 use Rattle.std.specs.Prelude.{◌≡◌, ℕ, ◌==◌, nat_le, Bool, true, false, not, ◌&&◌, ◌||◌, List, filter, length, if◌then◌else◌}
-use Rattle.re_config.specs.Configs.{support_of}
-use Rattle.re_config.specs.Orders.{multisets}
+use Rattle.re_labels.specs.Configs.{support_of}
+use Rattle.re_labels.specs.Orders.{multisets}
 use Rattle.re_families.specs.Families.{family_of, is_degree}
 use Rattle.re_families.specs.declared.types.Family.TheVariants as family
 use Rattle.re_given.specs.InputExamples as examples

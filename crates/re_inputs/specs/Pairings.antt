@@ -1,8 +1,8 @@
 -- Configurations of pairs: of the labels of two configurations, those of the second one in any order.
 use Rattle.std.specs.Prelude.{ℕ, ◌+◌, ◌*◌, List, [], ◌∷◌, length, map}
 use Rattle.std.specs.List.{flat_map}
-use Rattle.re_config.specs.Configs.{image_at, sorted}
-use Rattle.re_config.specs.Orders.{placements}
+use Rattle.re_labels.specs.Configs.{image_at, sorted}
+use Rattle.re_labels.specs.Orders.{placements}
 use Rattle.re_table.specs.Constraints.{Constraint}
 
 -- the pairs x * m + y of the numbers that stand at the same places

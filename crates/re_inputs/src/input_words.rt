@@ -7,9 +7,8 @@ ghost use Rattle.std.specs.Str.{bytes_eq};
 use crate::kinds::{InputKind, fits};
 use crate::making::input;
 use re_frame::{Output, done};
-use re_items::read_number;
 use re_labels::NoMemory;
-use re_problem::print_problem;
+use re_problem::{print_problem, read_number};
 use std::alloc::Global;
 
 /// `input` with a kind, the active and the passive degree, and a number.

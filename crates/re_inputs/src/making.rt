@@ -1,6 +1,6 @@
 //! The input problems.
-ghost use Rattle.re_config.specs.Configs.{sorted};
-ghost use Rattle.re_config.specs.Orders.{multisets};
+ghost use Rattle.re_labels.specs.Configs.{sorted};
+ghost use Rattle.re_labels.specs.Orders.{multisets};
 ghost use Rattle.re_families.specs.Families.{family_of, out_of_range};
 ghost use Rattle.re_inputs.specs.NamedInputs.{edge_colours, fits, input_of, may_stand, named, oriented, oriented_constraint, named_exchanged};
 ghost use Rattle.re_labels.specs.ListSets.{with_list};
@@ -10,9 +10,8 @@ ghost use Rattle.std.specs.Prelude.{◌≡◌, ◌≤◌, ◌<◌, IfOk, None, O
 
 use crate::kinds::InputKind;
 use arrayvec::ArrayVec;
-use re_config::{Config, Multisets};
 use re_families::{Family, FamilyFault, family};
-use re_labels::{MAX_LABELS, Names, NoMemory};
+use re_labels::{Config, MAX_LABELS, Multisets, Names, NoMemory};
 use re_problem::Problem;
 use re_table::{Constraint, InsertFault, MAX_CONFIGURATIONS};
 use std::alloc::Global;

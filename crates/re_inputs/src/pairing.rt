@@ -1,5 +1,5 @@
 //! The configurations of pairs that the configurations of two constraints make.
-ghost use Rattle.re_config.specs.Configs.{IsConfig, image_at, sorted};
+ghost use Rattle.re_labels.specs.Configs.{IsConfig, image_at, sorted};
 ghost use Rattle.re_given.specs.Products.{pairs_of};
 ghost use Rattle.re_inputs.specs.Pairings.{all_pairings, beside, beside_in, pairings, pairings_with};
 ghost use Rattle.re_labels.specs.ListSets.{list_set};
@@ -8,8 +8,7 @@ ghost use Rattle.std.specs.List.{AllByRecursion};
 ghost use Rattle.std.specs.Prelude.{◌≡◌, ◌≤◌, ◌<◌, ◌+◌, ◌*◌, ◌++◌, ◌∷◌, [], IfOk, IsErrOf, OnOk, length, map};
 
 use arrayvec::ArrayVec;
-use re_config::{Config, Placements};
-use re_labels::MAX_LABELS;
+use re_labels::{Config, MAX_LABELS, Placements};
 use re_table::{Constraint, InsertFault, MAX_CONFIGURATIONS};
 use std::alloc::Global;
 

@@ -3,7 +3,7 @@ use Rattle.std.proofs.Common.{◌≡◌, ℕ, ◌<◌, List, map, ◌↔◌, sym
 use Rattle.std.specs.Prelude.{Contains, ◌==◌, find, unwrap_or}
 use Rattle.std.proofs.lemmas.Bool.Decides.{nat_tests}
 use Rattle.std.proofs.lemmas.List.{map-id}
-use Rattle.re_config.specs.Configs.{image_at}
+use Rattle.re_labels.specs.Configs.{image_at}
 use Rattle.re_labels.proofs.Membership.{Contains-In, Contains-count_from, count_from_range, first_found}
 use Rattle.re_labels.specs.Lists.{count_from}
 use Rattle.re_laws.proofs.Relaxing.{Solvable-relaxed}

@@ -4,11 +4,11 @@ use Rattle.std.specs.Prelude.{Contains, replicate}
 use Rattle.std.specs.List.{AllByRecursion}
 use Rattle.std.proofs.lemmas.List.{map-id}
 use Rattle.std.proofs.lemmas.List.Elements.{Contains-append_left, Contains-append_right}
-use Rattle.re_config.proofs.LawsOfRows.{multisets_law}
-use Rattle.re_config.proofs.Rearranging.{Contains-Rearranged, Rearranged-sym}
-use Rattle.re_config.proofs.Sorting.{Rearranged-sorted}
-use Rattle.re_config.specs.Configs.{IsConfig, sorted}
-use Rattle.re_config.specs.Rearranging.{Rearranged, chained, kept, swapped, unmoved}
+use Rattle.re_labels.proofs.LawsOfRows.{multisets_law}
+use Rattle.re_labels.proofs.Rearranging.{Contains-Rearranged, Rearranged-sym}
+use Rattle.re_labels.proofs.Sorting.{Rearranged-sorted}
+use Rattle.re_labels.specs.Configs.{IsConfig, sorted}
+use Rattle.re_labels.specs.Rearranging.{Rearranged, chained, kept, swapped, unmoved}
 use Rattle.re_given.proofs.Colourings.{colour_there, colours_there}
 use Rattle.re_given.proofs.Fitting.{Has-around, Rearranged-front}
 use Rattle.re_given.specs.Given.{SolvableGiven, answer_known}
@@ -21,7 +21,7 @@ use Rattle.re_local.proofs.FewerRounds.{IsPart, held, left_out, none, part_diffe
 use Rattle.re_local.specs.LocalAlgorithms.{AreDifferent, SolvableLocal, behind_active, behind_passive, identified, shown}
 use Rattle.re_problem.specs.Problems.{IsProblem, Problem}
 use Rattle.re_table.specs.Constraints.{Has}
-use Rattle.re_views.specs.Trees.{IsTree, IsView, end, leaf, more}
+use Rattle.re_laws.specs.Trees.{IsTree, IsView, end, leaf, more}
 
 pub different_Rearranged : {xs ys : List ℕ} → Rearranged xs ys → AreDifferent xs → AreDifferent ys
 different_Rearranged unmoved d = tt

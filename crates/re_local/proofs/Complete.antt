@@ -5,14 +5,14 @@ use Rattle.std.specs.List.{AllByRecursion}
 use Rattle.std.proofs.Math.Nat.{pow-succ', pow-zero}
 use Rattle.std.proofs.lemmas.Bool.Decides.{leb_tells}
 use Rattle.std.proofs.lemmas.Nat.{div-mul-add}
-use Rattle.re_config.proofs.ChoicesOfRows.{choices-IsChoice}
-use Rattle.re_config.proofs.Rearranging.{Rearranged-map, Rearranged-sym}
-use Rattle.re_config.proofs.Rounds.{length-choices}
-use Rattle.re_config.proofs.Sorting.{IsConfig-sorted, Rearranged-sorted}
-use Rattle.re_config.specs.Configs.{IsConfig, sorted, support_of}
-use Rattle.re_config.specs.Orders.{multisets}
-use Rattle.re_config.specs.Rearranging.{Rearranged}
-use Rattle.re_config.specs.Rows.{IsChoice, choices}
+use Rattle.re_labels.proofs.ChoicesOfRows.{choices-IsChoice}
+use Rattle.re_labels.proofs.Rearranging.{Rearranged-map, Rearranged-sym}
+use Rattle.re_labels.proofs.Rounds.{length-choices}
+use Rattle.re_labels.proofs.Sorting.{IsConfig-sorted, Rearranged-sorted}
+use Rattle.re_labels.specs.Configs.{IsConfig, sorted, support_of}
+use Rattle.re_labels.specs.Orders.{multisets}
+use Rattle.re_labels.specs.Rearranging.{Rearranged}
+use Rattle.re_labels.specs.Rows.{IsChoice, choices}
 use Rattle.re_given.proofs.Colourings.{colours_there, first_below, pigeonhole}
 use Rattle.re_given.proofs.Fitting.{Has-around}
 use Rattle.re_given.proofs.GrownInputs.{Has-occurs}
@@ -32,7 +32,7 @@ use Rattle.re_local.specs.LocalAlgorithms.{AreDifferent, behind_active, behind_p
 use Rattle.re_local.specs.Separating.{AreApart, HasAllEdges, Separates, complete}
 use Rattle.re_table.proofs.Goodness.{Has-Rearranged, Has-has_config, has_config-Has}
 use Rattle.re_table.specs.Constraints.{Has}
-use Rattle.re_views.specs.Trees.{IsTree, IsView, end, leaf, more}
+use Rattle.re_laws.specs.Trees.{IsTree, IsView, end, leaf, more}
 
 pub different_distinct : (xs : List ℕ) → Distinct xs → AreDifferent xs
 different_distinct [] d = tt

@@ -2,8 +2,8 @@
 use Rattle.std.proofs.Common.{◌≡◌, ℕ, zero, suc, pred, ◌+◌, ◌*◌, ◌/◌, ◌≤◌, ◌<◌, List, [], ◌∷◌, ◌++◌, map, length, sym, ◌∙◌, ap, subst, arith, append-nil}
 use Rattle.std.specs.Prelude.{Contains}
 use Rattle.std.proofs.lemmas.List.Elements.{Contains-append_right}
-use Rattle.re_config.proofs.Rearranging.{Rearranged-refl, Rearranged-sym}
-use Rattle.re_config.specs.Rearranging.{Rearranged, chained}
+use Rattle.re_labels.proofs.Rearranging.{Rearranged-refl, Rearranged-sym}
+use Rattle.re_labels.specs.Rearranging.{Rearranged, chained}
 use Rattle.re_given.proofs.Fitting.{Rearranged-front}
 use Rattle.re_given.proofs.GrownInputs.{AreSides, Has-occurs, active_sides, filled, filled_children}
 use Rattle.re_given.proofs.ZeroGiven.{config-Has}
@@ -21,7 +21,7 @@ use Rattle.re_problem.specs.NamedProblems.{OccursIn}
 use Rattle.re_problem.specs.Problems.{IsProblem, Problem}
 use Rattle.re_table.proofs.Goodness.{Has-Rearranged}
 use Rattle.re_table.specs.Constraints.{Has}
-use Rattle.re_views.specs.Trees.{IsTree, end, more}
+use Rattle.re_laws.specs.Trees.{IsTree, end, more}
 
 -- the degrees are b + 2 and r + 2
 module _ (b r N T : ℕ) (most : suc (suc b) ≤ 6) (most' : suc (suc r) ≤ 6) (many : suc (suc r) ≤ N) where

@@ -2,8 +2,8 @@
 use Rattle.std.proofs.Common.{◌≡◌, ℕ, zero, suc, pred, ◌+◌, ◌≤◌, ◌<◌, Some, List, [], ◌∷◌, ◌++◌, map, refl, sym, ◌∙◌, ap, subst, arith, append-nil, one-add, zero-add}
 use Rattle.std.specs.Prelude.{Contains, unwrap_or}
 use Rattle.std.proofs.lemmas.List.Elements.{Contains-append_left}
-use Rattle.re_config.proofs.Rearranging.{Rearranged-map, Rearranged-refl, Rearranged-sym}
-use Rattle.re_config.specs.Rearranging.{Rearranged, chained, kept}
+use Rattle.re_labels.proofs.Rearranging.{Rearranged-map, Rearranged-refl, Rearranged-sym}
+use Rattle.re_labels.specs.Rearranging.{Rearranged, chained, kept}
 use Rattle.re_given.proofs.Fitting.{FitsAround-cut, FitsAround-shift, Has-around, Rearranged-front}
 use Rattle.re_given.proofs.KnownViews.{backs-known, child_at-known, known_child, known-cut, known-known, known-shift}
 use Rattle.re_given.proofs.LabelledViews.{HasOutputs, Kind, active_behind, active_kind, behind_labels, child_labels, listed-same, passive_behind, passive_kind, ports-places, same_child, with_labels}
@@ -20,8 +20,8 @@ use Rattle.re_local.proofs.FewerRounds.{IsPart, behind_active-cut, behind_passiv
 use Rattle.re_local.specs.LocalAlgorithms.{AreDifferent, SolvableLocal, SolvesApart, behind_active, behind_passive, identified, shown}
 use Rattle.re_problem.specs.Problems.{IsProblem, Problem}
 use Rattle.re_table.specs.Constraints.{Has}
-use Rattle.re_views.proofs.ViewLaws.{HasRoom, HasRoom-tree, IsChild, IsTree-cut, IsView-shift, child_at-put, child_of, others-put, shift-at, shift-cut}
-use Rattle.re_views.specs.Trees.{Child, IsView, backs, child_at, cut, end, leaf, more, others, put, shift}
+use Rattle.re_laws.proofs.ViewLaws.{HasRoom, HasRoom-tree, IsChild, IsTree-cut, IsView-shift, child_at-put, child_of, others-put, shift-at, shift-cut}
+use Rattle.re_laws.specs.Trees.{Child, IsView, backs, child_at, cut, end, leaf, more, others, put, shift}
 
 -- ---- lists in another order
 moved : (xs ys zs : List ℕ) → Rearranged (xs ++ (ys ++ zs)) (ys ++ (xs ++ zs))

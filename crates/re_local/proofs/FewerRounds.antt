@@ -10,7 +10,7 @@ use Rattle.re_local.specs.Identifiers.{IdHypergraph, identifiers}
 use Rattle.re_local.specs.LocalAlgorithms.{AreDifferent, behind_active, behind_passive, shown}
 use Rattle.re_local.specs.Separating.{AreApart, Separates}
 use Rattle.re_problem.specs.Problems.{IsProblem, Problem}
-use Rattle.re_views.specs.Trees.{cut, end, leaf, more}
+use Rattle.re_laws.specs.Trees.{cut, end, leaf, more}
 
 -- the first list is the second with some elements left out
 pub data IsPart : List ℕ → List ℕ → Type 0 where

@@ -2,9 +2,9 @@
 use Rattle.std.proofs.Common.{◌≡◌, ℕ, zero, suc, ◌+◌, ◌-◌, ◌*◌, ◌/◌, ◌%◌, ◌≤◌, ◌<◌, [], map, filter, length, refl, subst, arith}
 use Rattle.std.proofs.Math.Nat.{le-mul_of_pos_right, mul_comm}
 use Rattle.std.proofs.lemmas.Nat.{div-add-mod', div_below, mod_below, mul-add-lt}
-use Rattle.re_config.proofs.LawsOfRows.{multisets_law}
-use Rattle.re_config.specs.Configs.{IsConfig}
-use Rattle.re_config.specs.Orders.{multisets}
+use Rattle.re_labels.proofs.LawsOfRows.{multisets_law}
+use Rattle.re_labels.specs.Configs.{IsConfig}
+use Rattle.re_labels.specs.Orders.{multisets}
 use Rattle.re_given.proofs.Colourings.{rising_weakly}
 use Rattle.re_given.specs.Inputs.{IsInput}
 use Rattle.re_labels.proofs.Before.{IsBefore-head, IsBefore-trans}

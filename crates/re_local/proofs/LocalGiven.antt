@@ -5,11 +5,11 @@ use Rattle.std.specs.List.{AllByRecursion}
 use Rattle.std.proofs.Math.Nat.{mul_comm}
 use Rattle.std.proofs.lemmas.List.{length-map, map-append, map-id}
 use Rattle.std.proofs.lemmas.Nat.{div-mul-add, div_below}
-use Rattle.re_config.proofs.LawsOfRows.{multisets_law}
-use Rattle.re_config.proofs.Rearranging.{Contains-Rearranged}
-use Rattle.re_config.proofs.Sorting.{IsConfig-sorted, Rearranged-sorted, length-sorted, sorted_again, sorted_map}
-use Rattle.re_config.specs.Configs.{IsConfig, sorted}
-use Rattle.re_config.specs.Orders.{multisets}
+use Rattle.re_labels.proofs.LawsOfRows.{multisets_law}
+use Rattle.re_labels.proofs.Rearranging.{Contains-Rearranged}
+use Rattle.re_labels.proofs.Sorting.{IsConfig-sorted, Rearranged-sorted, length-sorted, sorted_again, sorted_map}
+use Rattle.re_labels.specs.Configs.{IsConfig, sorted}
+use Rattle.re_labels.specs.Orders.{multisets}
 use Rattle.re_families.proofs.Whole.{alike_rise}
 use Rattle.re_given.proofs.GivenTables.{SolvableGiven-by}
 use Rattle.re_given.proofs.Relabelled.{IsTree-relabelled, backs-relabelled, relabelled, relabelled-known, relabelled-shift}
@@ -26,8 +26,8 @@ use Rattle.re_local.specs.Separating.{AreApart}
 use Rattle.re_problem.proofs.StepLaws.{map-map}
 use Rattle.re_problem.specs.Problems.{Problem}
 use Rattle.re_table.specs.Constraints.{Constraint, Has}
-use Rattle.re_views.proofs.ViewLaws.{IsChild, child_of}
-use Rattle.re_views.specs.Trees.{Child, IsView, backs, child_at, end, leaf, more, shift}
+use Rattle.re_laws.proofs.ViewLaws.{IsChild, child_of}
+use Rattle.re_laws.specs.Trees.{Child, IsView, backs, child_at, end, leaf, more, shift}
 
 -- ---- what is shown under other labels
 mutual

@@ -7,8 +7,8 @@ use Rattle.re_given.specs.InputViews.{InputView, known}
 use Rattle.re_local.proofs.FewerRounds.{behind_passive-cut, part_different, part_map, shown-cut}
 use Rattle.re_local.specs.LocalAlgorithms.{SolvableLocal, SolvesApart}
 use Rattle.re_problem.specs.Problems.{Problem}
-use Rattle.re_views.proofs.ViewLaws.{IsTree-cut}
-use Rattle.re_views.specs.Trees.{cut}
+use Rattle.re_laws.proofs.ViewLaws.{IsTree-cut}
+use Rattle.re_laws.specs.Trees.{cut}
 
 SolvesApart-more : (problem input : Problem) (id : ℕ → ℕ) (T : ℕ) (f : InputView → List ℕ) → SolvesApart problem input id T f
     → SolvesApart problem input id (suc T) (λ k. f (known T k))

@@ -5,10 +5,10 @@ use Rattle.std.proofs.Math.Nat.{mul-le-mul, pow-suc, pow-zero}
 use Rattle.std.proofs.lemmas.Bool.Decides.{eqb_tells}
 use Rattle.std.proofs.lemmas.List.{map-id}
 use Rattle.std.proofs.lemmas.List.Elements.{Contains-append_cases}
-use Rattle.re_config.proofs.LawsOfRows.{multisets_law}
-use Rattle.re_config.proofs.Rearranging.{Contains-Rearranged}
-use Rattle.re_config.proofs.Sorting.{Rearranged-sorted}
-use Rattle.re_config.specs.Configs.{IsConfig, sorted}
+use Rattle.re_labels.proofs.LawsOfRows.{multisets_law}
+use Rattle.re_labels.proofs.Rearranging.{Contains-Rearranged}
+use Rattle.re_labels.proofs.Sorting.{Rearranged-sorted}
+use Rattle.re_labels.specs.Configs.{IsConfig, sorted}
 use Rattle.re_given.proofs.Fitting.{Has-around}
 use Rattle.re_given.specs.InputViews.{Fits, FitsAround, InputView, payloads}
 use Rattle.re_labels.proofs.Membership.{AllByRecursion-contains, Contains-cases, Contains-here, Contains-later, Contains-map_cases, Contains-none, count_from_range}
@@ -18,7 +18,7 @@ use Rattle.re_local.proofs.FewerRounds.{IsPart, held, left_out, none, part_diffe
 use Rattle.re_local.specs.LocalAlgorithms.{AreDifferent, behind_active, behind_passive, identified, shown}
 use Rattle.re_local.specs.Shown.{LinearRoomLaw, LogarithmicRoomLaw, NoRoomLaw, NodesSeenLaw, nodes_behind, nodes_seen}
 use Rattle.re_table.specs.Constraints.{Has}
-use Rattle.re_views.specs.Trees.{IsTree, IsView, end, leaf, more}
+use Rattle.re_laws.specs.Trees.{IsTree, IsView, end, leaf, more}
 
 -- ---- different numbers below n are at most n
 part_whole : (xs : List ℕ) → IsPart xs xs

@@ -1,7 +1,7 @@
 -- The relaxation of sinkless orientation, where nodes have identifiers.
 use Rattle.std.proofs.Common.{◌<◌, ℕ, ◌∷◌, refl, sym, subst, arith, ◌≤◌, ◌≡◌}
 use Rattle.std.specs.List.{AllByRecursion}
-use Rattle.re_config.specs.Orders.{placements}
+use Rattle.re_labels.specs.Orders.{placements}
 use Rattle.re_labels.specs.Sets.{set_of}
 use Rattle.re_given.proofs.Worked.{back_relaxed, turn, twice_is, two_steps}
 use Rattle.re_given.specs.Unavoidable.{reached}

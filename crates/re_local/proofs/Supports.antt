@@ -1,8 +1,8 @@
 -- The set of labels of a list, which is as long as the list where nothing stands twice.
 use Rattle.std.proofs.Common.{◌≡◌, ℕ, suc, ◌≤◌, ◌<◌, Bool, true, false, cond, eqb, ltb, List, [], ◌∷◌, length, refl, sym, ◌∙◌, subst, arith, inl, inr}
 use Rattle.std.specs.Prelude.{Contains}
-use Rattle.re_config.proofs.Replacing.{has-support_of}
-use Rattle.re_config.specs.Configs.{support_of}
+use Rattle.re_labels.proofs.Replacing.{has-support_of}
+use Rattle.re_labels.specs.Configs.{support_of}
 use Rattle.re_given.proofs.Colourings.{first_below}
 use Rattle.re_labels.proofs.Membership.{Contains-cases, Contains-none, Distinct}
 use Rattle.re_labels.proofs.Numbers.{rising-with_label, rising_tail}

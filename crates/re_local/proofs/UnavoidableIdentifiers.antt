@@ -3,10 +3,10 @@ use Rattle.std.proofs.Common.{inl, inr, ◌≡◌, ℕ, zero, suc, ◌+◌, ◌*
 use Rattle.std.specs.List.{AllByRecursion, AllZip}
 use Rattle.std.specs.Prelude.{Contains, replicate}
 use Rattle.std.proofs.lemmas.Nat.{mul-add-lt}
-use Rattle.re_config.proofs.LawsOfRows.{multisets_law}
-use Rattle.re_config.proofs.Sorting.{IsConfig-sorted}
-use Rattle.re_config.specs.Configs.{sorted}
-use Rattle.re_config.specs.Orders.{multisets}
+use Rattle.re_labels.proofs.LawsOfRows.{multisets_law}
+use Rattle.re_labels.proofs.Sorting.{IsConfig-sorted}
+use Rattle.re_labels.specs.Configs.{sorted}
+use Rattle.re_labels.specs.Orders.{multisets}
 use Rattle.re_given.specs.Unavoidable.{IsMet, IsUnavoidable}
 use Rattle.re_local.specs.Identifiers.{AreAlike, IdHypergraph, JoinsAlike, id_labels, identifiers, labels_at}
 use Rattle.re_labels.proofs.Membership.{Contains-cases, Contains-count_from, Contains-filter, Contains-here, Contains-later, Contains-map, Contains-none, get_or-count_from, length-count_from}

@@ -4,11 +4,11 @@ use Rattle.std.specs.Prelude.{Contains}
 use Rattle.std.specs.List.{AllByRecursion}
 use Rattle.std.proofs.lemmas.List.{length-map}
 use Rattle.std.proofs.lemmas.Nat.{div-mul-add, mul-add-lt}
-use Rattle.re_config.proofs.LawsOfRows.{multisets_law}
-use Rattle.re_config.proofs.Rearranging.{Contains-Rearranged, Rearranged-sym}
-use Rattle.re_config.proofs.Sorting.{Rearranged-sorted}
-use Rattle.re_config.specs.Configs.{IsConfig, sorted}
-use Rattle.re_config.specs.Orders.{multisets}
+use Rattle.re_labels.proofs.LawsOfRows.{multisets_law}
+use Rattle.re_labels.proofs.Rearranging.{Contains-Rearranged, Rearranged-sym}
+use Rattle.re_labels.proofs.Sorting.{Rearranged-sorted}
+use Rattle.re_labels.specs.Configs.{IsConfig, sorted}
+use Rattle.re_labels.specs.Orders.{multisets}
 use Rattle.re_local.specs.Identifiers.{IdHypergraph, are_of_one, virtual_identifiers}
 use Rattle.re_labels.proofs.Membership.{Contains-cases, Contains-filter, Contains-filter_cases, Contains-none, In, In-Contains}
 use Rattle.re_labels.proofs.Tests.{and-true, below-true, eqb-same, eqb-true, true-and, true-below}

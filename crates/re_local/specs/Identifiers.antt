@@ -1,8 +1,8 @@
 -- Identifiers as an input problem, on trees in which a hypergraph says who may stand around a passive node.
 use Rattle.std.specs.Prelude.{◌≡◌, ℕ, ◌+◌, ◌*◌, ◌/◌, ◌<◌, nat_lt, Bool, true, ◌&&◌, ◌==◌, List, [], ◌∷◌, length, map, filter}
 use Rattle.std.specs.List.{AllByRecursion}
-use Rattle.re_config.specs.Configs.{sorted}
-use Rattle.re_config.specs.Orders.{multisets}
+use Rattle.re_labels.specs.Configs.{sorted}
+use Rattle.re_labels.specs.Orders.{multisets}
 use Rattle.re_labels.specs.Lists.{count_from}
 use Rattle.re_problem.specs.Problems.{Problem}
 

@@ -1,7 +1,10 @@
 pub mod Examples
+pub mod FewColoursLaws
+pub mod Hypergraphs
 pub mod Identifiers
 pub mod Laws
 pub mod LocalAlgorithms
 pub mod Separating
+pub mod SeparatingLaws
 pub mod Shown
 pub mod Towers

@@ -1,13 +1,13 @@
 -- Local algorithms: active nodes have identifiers, all different, and know those of the nodes near them.
 use Rattle.std.specs.Prelude.{ℕ, suc, ◌*◌, ◌/◌, List, [], ◌∷◌, ◌++◌, map, replicate, Contains}
-use Rattle.re_config.specs.Orders.{multisets}
+use Rattle.re_labels.specs.Orders.{multisets}
 use Rattle.re_given.specs.Given.{around_known}
 use Rattle.re_local.specs.Identifiers.{id_labels}
 use Rattle.re_given.specs.InputViews.{Fits, InputView, known}
 use Rattle.re_labels.specs.Lists.{count_from}
 use Rattle.re_problem.specs.Problems.{Problem}
 use Rattle.re_table.specs.Constraints.{Has}
-use Rattle.re_views.specs.Trees.{IsView, end, leaf, more}
+use Rattle.re_laws.specs.Trees.{IsView, end, leaf, more}
 
 -- for each active node that these children of an active node show, and those of a passive node, the input label of the edge to it; one of
 -- which only an edge is shown has its label there

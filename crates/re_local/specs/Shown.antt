@@ -3,7 +3,7 @@ use Rattle.std.specs.Prelude.{◌≡◌, ℕ, zero, suc, ◌+◌, ◌-◌, ◌*�
 use Rattle.re_given.specs.InputViews.{InputView}
 use Rattle.re_local.specs.LocalAlgorithms.{SolvableLocal, shown}
 use Rattle.re_problem.specs.Problems.{IsProblem, Problem}
-use Rattle.re_views.specs.Trees.{IsView}
+use Rattle.re_laws.specs.Trees.{IsView}
 
 -- the active nodes that an active node sees behind one of its edges in t rounds
 abbrev pub nodes_behind : ℕ → ℕ → ℕ → ℕ

@@ -1,9 +1,19 @@
-//! Local algorithms, those with unique identifiers below N: what lower bounds say of them, and where the model ends. Laws alone, no code.
+//! Unique identifiers: algorithms that see them, what separates identifiers from port numbers, and what few colours give.
 #![tactic(auto)]
+
+mod few_colours;
+mod separating;
 
 ghost use Rattle.re_local.specs.Examples.{SinklessLocalLaw};
 ghost use Rattle.re_local.specs.Laws.{ColouredLocalLaw, CompleteLaw, CompleteLimitLaw, ComposedLocalLaw, FewerIdentifiersLaw, FewerRoundsLaw, FixedPointLocalLaw, IdentifiersInputLaw, IdentifiersLaw, LabelledLaw, LocalGivenLaw, MoreRoundsLocalLaw, ShorterBoundLocalLaw, VirtualGivenLaw, VirtualInputLaw, VirtualUnavoidableLaw};
 ghost use Rattle.re_local.specs.Shown.{LinearRoomLaw, LogarithmicRoomLaw, NoRoomLaw, NodesSeenLaw};
+
+pub use few_colours::{
+    few_colours_law, few_colours_local_law, logarithmic_colours_law, one_colour_less_law,
+};
+pub use separating::{
+    separating_law, sinkless_unique_law, sparse_law, virtual_separating_law, whole_bound_law,
+};
 
 /// What a local algorithm solves is solved where the labels of identifiers are known too.
 pub fn labelled_law()

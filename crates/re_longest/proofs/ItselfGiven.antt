@@ -2,14 +2,14 @@
 use Rattle.std.proofs.Common.{◌≡◌, ℕ, Bool, true, false, List, [], refl, sym, ap, ◌∙◌, subst}
 use Rattle.std.specs.Prelude.{◌==◌, length, nat_le, ◌&&◌, if◌then◌else◌}
 use Rattle.re_labels.proofs.Tests.{and-true, eqb-true}
-use Rattle.re_items.specs.Steps.{is_nil}
+use Rattle.re_problem.specs.ItemSteps.{is_nil}
 use Rattle.re_problem.proofs.TextLines.{nil_of}
 use Rattle.re_problem.specs.NamedProblems.{IsNamedProblem, NamedProblem}
 use Rattle.re_cert.specs.Bounds.{Bound, is_bound, is_fixed, one_form, renaming_fits, steps_fit}
 use Rattle.re_cert.specs.declared.certificate.TheConstants.{MAX_STEPS}
 use Rattle.re_cert.specs.declared.certificate.Kind.{Kind}
 use Rattle.re_cert.specs.declared.certificate.Kind.TheVariants.{Lower}
-use Rattle.re_chain_parts.specs.Chains.{IsOverProblems, chain_kind, chain_of}
+use Rattle.re_chains.specs.Chains.{IsOverProblems, chain_kind, chain_of}
 use Rattle.re_given_words.specs.Extensions.{GoesOnGiven, IsTaken, TakenLaw}
 
 -- there is no way back and no renaming

@@ -4,7 +4,7 @@ use Rattle.re_problem.specs.NamedProblems.{unnamed}
 use Rattle.re_problem.specs.Zero.{zero_place}
 use Rattle.re_cert.specs.Bounds.{Bound, last_problem}
 use Rattle.re_cert.specs.declared.certificate.Kind.TheVariants.{Lower}
-use Rattle.re_extend.specs.Extensions.{GoesOn}
+use Rattle.re_shaping.specs.Extensions.{GoesOn}
 use Rattle.re_longest.specs.declared.finding.Longest.{Longest}
 use Rattle.re_longest.specs.declared.finding.Longest.TheVariants.{Found, Solvable}
 

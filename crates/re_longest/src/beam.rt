@@ -3,9 +3,9 @@ use crate::levels::{Built, Level, next_level, plain_stop};
 use crate::spreads::Spreads;
 use crate::starts::Start;
 use re_beams::{Given, Kept, next_size};
-use re_extend::{Route, Stop};
 use re_labels::NoMemory;
 use re_problem::Problem;
+use re_shaping::{Route, Stop};
 use std::alloc::Global;
 
 /// How many levels are built at most.

@@ -1,7 +1,7 @@
 //! The certificate of the longest path.
 ghost use Rattle.re_cert.specs.Bounds.{last_problem};
 ghost use Rattle.re_cert.specs.declared.certificate.Kind.TheVariants.{Lower};
-ghost use Rattle.re_extend.specs.Extensions.{GoesOn};
+ghost use Rattle.re_shaping.specs.Extensions.{GoesOn};
 ghost use Rattle.re_longest.specs.Answers.{Answers};
 ghost use Rattle.re_problem.specs.NamedProblems.{unnamed};
 ghost use Rattle.re_problem.specs.Zero.{zero_place};
@@ -10,10 +10,10 @@ ghost use Rattle.std.specs.Prelude.{◌≡◌, IfOk, IfSome, None};
 use crate::beam::{longest_merged, longest_route};
 use re_beams::Given;
 use re_cert::{Certificate, Kind, MAX_STEPS};
-use re_chain_parts::LowerChain;
-use re_extend::{Extension, Route, extended, repeated, route_steps, takes_merges};
+use re_chains::LowerChain;
 use re_labels::NoMemory;
-use re_zero::zero_round;
+use re_problem::zero_round;
+use re_shaping::{Extension, Route, extended, repeated, route_steps, takes_merges};
 use std::alloc::Global;
 
 /// What the search comes to.

@@ -9,11 +9,11 @@ use crate::beam::longest_route;
 use crate::finding::{levels_behind, longer_route};
 use re_beams::Given;
 use re_cert::{Certificate, Kind, Step};
-use re_chain_parts::{LowerChain, chain as copied, over_problems};
-use re_extend::{Extension, Route, route_steps};
+use re_chains::{LowerChain, chain as copied, over_problems};
 use re_given_words::{FEW_TRIES, extended_given, taken_law};
 use re_labels::NoMemory;
 use re_problem::Problem;
+use re_shaping::{Extension, Route, route_steps};
 use std::alloc::Global;
 
 // The lower bound with these steps behind the chain's, where it goes on from the chain.

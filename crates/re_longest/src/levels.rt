@@ -2,11 +2,10 @@
 use crate::spreads::{Spread, Spreads, Trace};
 use re_beams::{Candidates, Given, Kept, first_kept};
 use re_changes::Changed;
-use re_extend::Stop;
 use re_labels::{MAX_LABELS, NoMemory};
-use re_problem::Problem;
+use re_problem::{Problem, zero_round};
+use re_shaping::Stop;
 use re_step::{Derived, StepFault, step};
-use re_zero::zero_round;
 use std::alloc::Global;
 
 /// How many candidates of a level stay.

@@ -3,12 +3,11 @@ ghost use Rattle.std.specs.Prelude.{◌≤◌, length};
 
 use arrayvec::ArrayVec;
 use re_beams::{State, has_mark};
+use re_boxes::up_sets;
 use re_changes::{Change, Changed};
 use re_labels::{LabelSet, MAX_LABELS, NoMemory};
-use re_problem::Problem;
-use re_renaming::{config_mark, label_mark, moved_mark, problem_mark};
-use re_rests::up_sets;
-use re_zero::zero_round;
+use re_problem::{Problem, zero_round};
+use re_shaping::{config_mark, label_mark, moved_mark, problem_mark};
 use std::alloc::Global;
 
 /// How many problems of the inner beam stay after each merge.

@@ -17,7 +17,7 @@ use Rattle.re_net.proofs.Edges.{edge_of, opposite-opposite}
 use Rattle.re_net.proofs.Rounds.{all_over}
 use Rattle.re_net.proofs.Steps.{length-over}
 use Rattle.re_net.proofs.Surroundings.{filter-above, other_ports}
-use Rattle.re_views.specs.Trees.{IsTree, IsView, Tree}
+use Rattle.re_laws.specs.Trees.{IsTree, IsView, Tree}
 
 -- what holds of each port of a list
 abbrev pub AllPorts : (ℕ → Type 0) → List ℕ → Type 0

@@ -10,7 +10,7 @@ use Rattle.std.specs.declared.cmp.Ordering.TheVariants.{Less, Equal, Greater}
 use Rattle.std.proofs.lemmas.Bool.Decides.{eqb_tells}
 use Rattle.std.specs.Prelude.{IsSome, fold}
 use Rattle.std.proofs.lemmas.Bool.{cases_lt, eq-eqb}
-use Rattle.re_views.specs.Trees.{leaf}
+use Rattle.re_laws.specs.Trees.{leaf}
 use Rattle.std.proofs.Math.Seq.{get_or-append_seam}
 use Rattle.std.proofs.lemmas.List.{get_or_append_left, length-replicate, get_or-replicate, get_or-set_other, get_or-set_same, length-set}
 use Rattle.re_labels.proofs.Tests.{and-true, eqb-true, or-true, or-right, or_swap, or-false}

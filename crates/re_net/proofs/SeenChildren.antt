@@ -9,9 +9,9 @@ use Rattle.re_labels.specs.Lists.{count_from}
 use Rattle.re_net.specs.declared.joins.Neighbour.{Neighbour}
 use Rattle.re_net.specs.FiniteTrees.{FiniteTree, children_of, neighbour, neighbours_over, ports_of, most_ports, seen}
 use Rattle.re_net.proofs.Surroundings.{filter-above}
-use Rattle.re_views.specs.Shown.{tree_of_branch, tree_of_children}
-use Rattle.re_views.specs.declared.Child.{Child}
-use Rattle.re_views.specs.Trees.{Tree, end, leaf, more}
+use Rattle.re_laws.specs.Shown.{tree_of_branch, tree_of_children}
+use Rattle.re_laws.specs.declared.Child.{Child}
+use Rattle.re_laws.specs.Trees.{Tree, end, leaf, more}
 
 -- the children of one list behind those of another
 abbrev pub followed : {E : Type 0} → Tree E → Tree E → Tree E

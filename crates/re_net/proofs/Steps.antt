@@ -25,9 +25,9 @@ use Rattle.re_pool.proofs.Growing.{Keeps-trans}
 use Rattle.re_pool.proofs.Links.{Made, made_more}
 use Rattle.re_pool.specs.declared.shape.Shape.{Shape}
 use Rattle.re_pool.specs.Pools.{AreLinksHeld, Keeps, children_of, tree_at}
-use Rattle.re_views.proofs.ShownLemmas.{after}
-use Rattle.re_views.specs.Ends.{End, branchwise}
-use Rattle.re_views.specs.Trees.{Tree, end, leaf, more, others}
+use Rattle.re_laws.proofs.ShownLemmas.{after}
+use Rattle.re_laws.specs.Ends.{End, branchwise}
+use Rattle.re_laws.specs.Trees.{Tree, end, leaf, more, others}
 
 -- ---- one port more
 pub over_more : (tree : FiniteTree) (v n : ℕ) → neighbours_over tree v (count_from 1 (n + 1)) ≡ neighbours_over tree v (count_from 1 n) ++ neighbours_over tree v ((n + 1) ∷ [])

@@ -4,7 +4,7 @@ ghost use Rattle.re_net.specs.FiniteTrees.{node_count, side_of, surroundings, un
 ghost use Rattle.re_net.specs.FullTrees.{is_full};
 ghost use Rattle.re_net.specs.Rounds.{round};
 ghost use Rattle.re_pool.specs.Pools.{Keeps};
-ghost use Rattle.re_views.specs.Trees.{Tree};
+ghost use Rattle.re_laws.specs.Trees.{Tree};
 ghost use Rattle.std.specs.Prelude.{◌≡◌, ◌<◌, ◌↔◌, IfOk, IfSome, IsSome, true};
 
 use crate::nets::Net;

@@ -3,9 +3,9 @@ use Rattle.std.proofs.Common.{◌≡◌, ℕ, zero, suc, pred, ◌≤◌, ◌<�
 use Rattle.std.specs.Prelude.{Contains, unwrap_or}
 use Rattle.std.proofs.lemmas.List.{length-map}
 use Rattle.std.proofs.lemmas.List.Elements.{Contains-append_cases, Contains-append_left, Contains-append_right}
-use Rattle.re_config.proofs.Rearranging.{Rearranged-map, Rearranged-refl}
-use Rattle.re_config.specs.Configs.{sorted}
-use Rattle.re_config.specs.Rearranging.{Rearranged, chained, kept, swapped, unmoved}
+use Rattle.re_labels.proofs.Rearranging.{Rearranged-map, Rearranged-refl}
+use Rattle.re_labels.specs.Configs.{sorted}
+use Rattle.re_labels.specs.Rearranging.{Rearranged, chained, kept, swapped, unmoved}
 use Rattle.re_given.proofs.Relabelled.{IsTree-relabelled, relabelled, relabelled-known}
 use Rattle.re_given.specs.InputViews.{InputView, known}
 use Rattle.re_labels.proofs.Membership.{Contains-here, Contains-later, Contains-map, Contains-none}
@@ -14,8 +14,8 @@ use Rattle.re_ordered.proofs.Parts.{Pairwise}
 use Rattle.re_ordered.proofs.Ranks.{labels, ordered_ranks, rank, ranks_found}
 use Rattle.re_ordered.proofs.Tagged.{active_parts-known, fst, labels-append, labels-lowered, labels-raised, numbered_around, numbered_turns, places, places_active, places_active-known, places_active-relabelled, places_around, places_passive, snd, tagged, tagged_active, tagged_passive, untagged_active, untagged_passive}
 use Rattle.re_ordered.proofs.Turns.{Ordered, Turn, active_parts, active_parts-relabelled, active_turns, active_turns-relabelled, after, around_active, around_passive, before, joined_all, joined_all-map, level, lowered, passive_parts, passive_turns, passive_turns-relabelled, raised, turned_to}
-use Rattle.re_views.proofs.ViewLaws.{shift-at}
-use Rattle.re_views.specs.Trees.{Child, IsTree, Tree, child_at, cut, end, leaf, more, others, put, shift}
+use Rattle.re_laws.proofs.ViewLaws.{shift-at}
+use Rattle.re_laws.specs.Trees.{Child, IsTree, Tree, child_at, cut, end, leaf, more, others, put, shift}
 
 -- ---- each active node has its label on all its edges
 abbrev mutual

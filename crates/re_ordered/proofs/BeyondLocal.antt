@@ -6,7 +6,7 @@ use Rattle.re_local.proofs.LocalGiven.{SolvableLocal-fewer}
 use Rattle.re_ordered.proofs.PortNumbered.{Solvable-local, SolvableLocal-unnoticed}
 use Rattle.re_ordered.specs.Laws.{BeyondLocalLaw, NoSolutionLocalLaw}
 use Rattle.re_problem.specs.Problems.{IsProblem, Problem}
-use Rattle.re_separating.specs.Laws.{IsBeyondLocal}
+use Rattle.re_local.specs.SeparatingLaws.{IsBeyondLocal}
 
 pub IsBeyondLocal-unsolvable : (problem : Problem) (T : ℕ) → IsProblem problem → (Solvable problem T → ⊥) → IsBeyondLocal problem T
 IsBeyondLocal-unsolvable problem T is never =

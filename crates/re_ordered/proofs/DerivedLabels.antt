@@ -4,7 +4,7 @@ use Rattle.std.specs.List.{list_any}
 use Rattle.std.proofs.Math.Nat.{pow-le-pow_right}
 use Rattle.std.proofs.lemmas.List.{length-map}
 use Rattle.std.proofs.lemmas.List.Sums.{count_by-le-length, length-filter}
-use Rattle.re_config.specs.Rows.{all_sets}
+use Rattle.re_labels.specs.Rows.{all_sets}
 use Rattle.re_ordered.specs.GapLaws.{FewLabelsLaw}
 use Rattle.re_local.specs.Towers.{tower}
 use Rattle.re_labels.proofs.Membership.{length-count_from}

@@ -5,7 +5,7 @@ use Rattle.std.proofs.lemmas.Nat.{pow-add}
 use Rattle.re_local.proofs.Towers.{above, below_power, power_below, power_of, tower-le}
 use Rattle.re_local.specs.Towers.{tower}
 use Rattle.re_ordered.specs.GapLaws.{TowerLaw}
-use Rattle.re_separating.specs.Laws.{virtual_base, virtual_ports}
+use Rattle.re_local.specs.SeparatingLaws.{virtual_base, virtual_ports}
 
 pub below_tower : TowerLaw
 below_tower n = let l : suc n ≤ tower n = above n in omega (arith, l)

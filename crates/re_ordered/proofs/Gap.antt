@@ -8,8 +8,8 @@ use Rattle.re_ordered.proofs.FewIdentifiers.{below_virtual}
 use Rattle.re_ordered.proofs.GivenGap.{unavoidable_rounds}
 use Rattle.re_ordered.proofs.PortNumbered.{SolvableLocal-unnoticed}
 use Rattle.re_ordered.specs.GapLaws.{BeyondPortsLaw, GapLaw, GraphGapLaw, OneNumberLaw}
-use Rattle.re_separating.proofs.WholeBound.{given}
-use Rattle.re_separating.specs.Laws.{virtual_base}
+use Rattle.re_local.proofs.WholeBound.{given}
+use Rattle.re_local.specs.SeparatingLaws.{virtual_base}
 
 pub gap : GapLaw
 gap problem h T N is l many = (without, SolvableLocal-unnoticed problem N T)

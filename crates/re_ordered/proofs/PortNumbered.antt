@@ -4,10 +4,10 @@ use Rattle.std.proofs.Common.{◌≡◌, ℕ, zero, suc, pred, ◌+◌, ◌≤�
 use Rattle.std.specs.Prelude.{◌↔◌, Contains, flat_map, if◌then◌else◌, replicate}
 use Rattle.std.specs.List.{AllByRecursion}
 use Rattle.std.proofs.lemmas.List.{length-map, length-take-le, map-id}
-use Rattle.re_config.proofs.LawsOfRows.{multisets_law}
-use Rattle.re_config.proofs.Rearranging.{Contains-Rearranged, Rearranged-sym}
-use Rattle.re_config.proofs.Sorting.{IsConfig-sorted, Rearranged-sorted, length-sorted, sorted_again}
-use Rattle.re_config.specs.Configs.{IsConfig, sorted}
+use Rattle.re_labels.proofs.LawsOfRows.{multisets_law}
+use Rattle.re_labels.proofs.Rearranging.{Contains-Rearranged, Rearranged-sym}
+use Rattle.re_labels.proofs.Sorting.{IsConfig-sorted, Rearranged-sorted, length-sorted, sorted_again}
+use Rattle.re_labels.specs.Configs.{IsConfig, sorted}
 use Rattle.re_families.proofs.Whole.{alike_rise}
 use Rattle.re_given.proofs.AllInputViews.{Contains-fitting, fitting_views}
 use Rattle.re_given.proofs.Fitting.{FitsAround-shift}
@@ -33,8 +33,8 @@ use Rattle.re_ordered.proofs.Turns.{Ordered, Turn, active_turns, active_turns-re
 use Rattle.re_problem.specs.Problems.{IsProblem, Problem}
 use Rattle.re_table.proofs.Goodness.{Has-has_config, has_config-Has}
 use Rattle.re_table.specs.Constraints.{Has, has_config}
-use Rattle.re_views.proofs.ViewLaws.{IsChild, IsView-shift, child_of}
-use Rattle.re_views.specs.Trees.{Child, IsTree, IsView, backs, child_at, cut, end, leaf, more, shift}
+use Rattle.re_laws.proofs.ViewLaws.{IsChild, IsView-shift, child_of}
+use Rattle.re_laws.specs.Trees.{Child, IsTree, IsView, backs, child_at, cut, end, leaf, more, shift}
 
 -- ---- lists
 -- all lists of n numbers below m

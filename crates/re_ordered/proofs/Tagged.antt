@@ -7,7 +7,7 @@ use Rattle.re_labels.specs.Lists.{count_from}
 use Rattle.re_ordered.proofs.Ranks.{labels}
 use Rattle.re_ordered.proofs.Turns.{Turn, active_parts, active_parts-relabelled, active_turns, after, after-map, around_active, around_passive, before, before-map, joined_all, level, lowered, passive_parts, passive_parts-relabelled, passive_turns, raised, turned_to}
 use Rattle.re_problem.proofs.Walks.{count_from_split}
-use Rattle.re_views.specs.Trees.{IsTree, Tree, end, leaf, more}
+use Rattle.re_laws.specs.Trees.{IsTree, Tree, end, leaf, more}
 
 -- how many nodes come before the node itself around it, and how many there are in all
 abbrev pub sooner_active : {E : Type 0} → ℕ → Tree E → ℕ

@@ -9,8 +9,8 @@ use Rattle.re_given.proofs.Relabelled.{relabelled}
 use Rattle.re_given.specs.InputViews.{InputView}
 use Rattle.re_labels.proofs.Membership.{Contains-cases, Contains-here, Contains-later, Contains-map_cases, Contains-none}
 use Rattle.re_ordered.proofs.Parts.{Pairwise, Part, held, none, pairwise_across, pairwise_append, pairwise_left, pairwise_map, pairwise_part, pairwise_right, part_append, part_empty, part_map, part_whole}
-use Rattle.re_views.proofs.ViewLaws.{shift-at}
-use Rattle.re_views.specs.Trees.{Child, Tree, child_at, cut, end, leaf, more, others, put, shift}
+use Rattle.re_laws.proofs.ViewLaws.{shift-at}
+use Rattle.re_laws.specs.Trees.{Child, Tree, child_at, cut, end, leaf, more, others, put, shift}
 
 -- an active node on the way, with its label
 pub record Turn (E : Type 0) : Type 0 where

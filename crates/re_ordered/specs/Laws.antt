@@ -4,7 +4,7 @@ use Rattle.re_cover.specs.Graphs.{IsGraphOf, IsSolution, PortGraph}
 use Rattle.re_laws.specs.Algorithms.{Solvable}
 use Rattle.re_local.specs.LocalAlgorithms.{SolvableLocal}
 use Rattle.re_problem.specs.Problems.{IsProblem, Problem}
-use Rattle.re_separating.specs.Laws.{IsBeyondLocal}
+use Rattle.re_local.specs.SeparatingLaws.{IsBeyondLocal}
 
 -- for each problem and number of rounds there is a number of identifiers such that what a local algorithm solves with so many, an algorithm
 -- solves with port numbers alone

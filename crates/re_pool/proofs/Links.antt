@@ -1,11 +1,11 @@
 -- What loops over links make.
 use Rattle.std.proofs.Common.{◌≡◌, ℕ, zero, suc, ◌+◌, ◌-◌, ◌≤◌, ◌<◌, List, [], ◌∷◌, ◌++◌, length, get_or, take, refl, sym, ap, ◌∙◌, subst, arith, length-append}
 use Rattle.std.proofs.lemmas.List.{take_more}
-use Rattle.re_views.proofs.ShownLemmas.{after, tree_of_children-append}
-use Rattle.re_views.specs.declared.Branch.{Branch}
-use Rattle.re_views.specs.declared.Child.{Child}
-use Rattle.re_views.specs.Shown.{tree_of_branch, tree_of_children}
-use Rattle.re_views.specs.Trees.{Tree, cut, leaf, end, more}
+use Rattle.re_laws.proofs.ShownLemmas.{after, tree_of_children-append}
+use Rattle.re_laws.specs.declared.Branch.{Branch}
+use Rattle.re_laws.specs.declared.Child.{Child}
+use Rattle.re_laws.specs.Shown.{tree_of_branch, tree_of_children}
+use Rattle.re_laws.specs.Trees.{Tree, cut, leaf, end, more}
 use Rattle.re_pool.proofs.Growing.{Keeps-children, Keeps-refl, Keeps-trans}
 use Rattle.re_pool.specs.Narrow.{IsNarrow, width}
 use Rattle.re_pool.specs.Pools.{AreLinksHeld, Keeps, children_of, tree_at, trees}

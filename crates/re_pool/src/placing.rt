@@ -1,13 +1,13 @@
 //! Views put into a pool, and read from it.
 ghost use Rattle.re_pool.specs.Narrow.{IsNarrow};
 ghost use Rattle.re_pool.specs.Pools.{IsPool, Keeps, tree_at};
-ghost use Rattle.re_views.specs.Shown.{tree_of_branch, tree_of_children, tree_of_view};
+ghost use Rattle.re_laws.specs.Shown.{tree_of_branch, tree_of_children, tree_of_view};
 ghost use Rattle.std.specs.Prelude.{◌<◌, ◌≡◌, IfOk, length};
 
 use crate::{Link, NodeId, Pool, Shape};
 use arrayvec::ArrayVec;
 use re_labels::NoMemory;
-use re_views::{Branch, Child, View};
+use re_laws::{Branch, Child, View};
 
 impl Pool {
     /// The number of the view, each of whose nodes has at most 6 children. The nodes of it that aren't there yet are added. Without

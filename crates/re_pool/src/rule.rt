@@ -1,6 +1,6 @@
 //! Local rules: what a node outputs, by its view.
 ghost use Rattle.re_pool.specs.Pools.{IsPool, Keeps, tree_at};
-ghost use Rattle.re_views.specs.Trees.{IsView, Tree};
+ghost use Rattle.re_laws.specs.Trees.{IsView, Tree};
 ghost use Rattle.re_labels.specs.declared.sides.Degrees.{Degrees};
 ghost use Rattle.std.specs.Prelude.{◌<◌, ◌≡◌, IfOk, List, length, ℕ};
 

@@ -1,7 +1,7 @@
 //! Cut and shift of views in a pool.
 ghost use Rattle.re_pool.specs.Narrow.{depth_of};
 ghost use Rattle.re_pool.specs.Pools.{AreLinksHeld, IsPool, Keeps, children_of, tree_at, trees};
-ghost use Rattle.re_views.specs.Trees.{IsView, cut, others, shift};
+ghost use Rattle.re_laws.specs.Trees.{IsView, cut, others, shift};
 ghost use Rattle.std.specs.Prelude.{◌<◌, ◌≡◌, ◌≤◌, IfOk, Some, length, slice_get, suc, ℕ};
 
 use crate::{Link, NodeId, Pool, Shape};

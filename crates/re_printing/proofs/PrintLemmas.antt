@@ -1,9 +1,9 @@
 -- Labels of a set, one after another; runs of equal sets; labels by their places.
-use Rattle.re_config.proofs.Sorting.{take_all}
+use Rattle.re_labels.proofs.Sorting.{take_all}
 use Rattle.std.proofs.Common.{◌≡◌, ℕ, zero, suc, ◌<◌, ◌≤◌, ◌+◌, List, [], ◌∷◌, ◌++◌, length, flat_map, map, take, get_or, Some, refl, sym, ap, ◌∙◌, subst, arith, append_assoc}
 use Rattle.std.specs.List.{AllByRecursion}
 use Rattle.std.proofs.lemmas.List.{take_more}
-use Rattle.re_config.proofs.LeastLabels.{first-is}
+use Rattle.re_labels.proofs.LeastLabels.{first-is}
 use Rattle.re_labels.proofs.Membership.{get_or-count_from, length-count_from, length-map'}
 use Rattle.re_labels.proofs.Numbers.{set_of-number, rising_tail}
 use Rattle.re_labels.specs.Lists.{IsRising, count_from}

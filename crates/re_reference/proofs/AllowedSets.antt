@@ -1,11 +1,11 @@
 -- Allowed multisets of sets, by rows.
 use Rattle.std.proofs.Common.{◌≡◌, ℕ, ◌<◌, List, [], ◌∷◌, length, sym, subst}
 use Rattle.std.specs.List.{AllByRecursion}
-use Rattle.re_config.proofs.LawsOfRows.{multisets_law}
-use Rattle.re_config.proofs.Rows.{all_at}
-use Rattle.re_config.specs.Configs.{IsConfig}
-use Rattle.re_config.specs.Orders.{multisets}
-use Rattle.re_config.specs.Rows.{placed}
+use Rattle.re_labels.proofs.LawsOfRows.{multisets_law}
+use Rattle.re_labels.proofs.Rows.{all_at}
+use Rattle.re_labels.specs.Configs.{IsConfig}
+use Rattle.re_labels.specs.Orders.{multisets}
+use Rattle.re_labels.specs.Rows.{placed}
 use Rattle.re_labels.proofs.Membership.{AllByRecursion-from_contains}
 use Rattle.re_reference.specs.Reading.{AreSets}
 

@@ -2,10 +2,10 @@
 use Rattle.std.proofs.Common.{◌≡◌, ℕ, ◌≤◌, List, [], ◌∷◌, length, map, refl, sym, ap, ◌∙◌, Some}
 use Rattle.std.specs.Cmp.Lexicographic.{slice_cmp}
 use Rattle.std.specs.Ordering.{nat_cmp, ordering_then}
-use Rattle.re_config.proofs.Placing.{row_found}
-use Rattle.re_config.proofs.Rows.{row_numbers}
-use Rattle.re_config.proofs.Sorting.{sorted_again}
-use Rattle.re_config.specs.Rows.{IsRow, row_cmp, row_of}
+use Rattle.re_labels.proofs.Placing.{row_found}
+use Rattle.re_labels.proofs.Rows.{row_numbers}
+use Rattle.re_labels.proofs.Sorting.{sorted_again}
+use Rattle.re_labels.specs.Rows.{IsRow, row_cmp, row_of}
 use Rattle.re_labels.proofs.Membership.{AllByRecursion-weaker}
 use Rattle.re_labels.proofs.Rising.{rising-map}
 use Rattle.re_labels.specs.Sets.{number}

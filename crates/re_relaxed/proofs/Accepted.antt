@@ -2,7 +2,7 @@
 use Rattle.std.proofs.Common.{◌≡◌, ℕ, length, Option, None, Some, refl}
 use Rattle.re_cert.specs.Bounds.{Bound}
 use Rattle.re_cert.specs.declared.certificate.Kind.{Kind}
-use Rattle.re_chain_parts.specs.Chains.{IsSound}
+use Rattle.re_chains.specs.Chains.{IsSound}
 use Rattle.re_check.specs.Verdicts.{end_fault, fault_or, steps_fault, verdict_of, verdict_with}
 use Rattle.re_check.specs.declared.verdict.ClauseFault.{ClauseFault}
 use Rattle.re_check.specs.declared.verdict.Verdict.TheVariants.{Accepted}

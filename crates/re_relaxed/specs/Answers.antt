@@ -6,7 +6,7 @@ use Rattle.re_problem.specs.Zero.{zero_place}
 use Rattle.re_cert.specs.Bounds.{Bound, last_problem}
 use Rattle.re_cert.specs.declared.certificate.Kind.TheVariants.{Fixed}
 use Rattle.re_cert.specs.declared.certificate.TheConstants.{MAX_STEPS}
-use Rattle.re_extend.specs.Extensions.{GoesOn}
+use Rattle.re_shaping.specs.Extensions.{GoesOn}
 use Rattle.re_relaxed.specs.declared.types.Relaxed.{Relaxed}
 use Rattle.re_relaxed.specs.declared.types.Relaxed.TheVariants.{Found, NotFound, Solvable, TooMany}
 

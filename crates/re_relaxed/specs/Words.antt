@@ -3,7 +3,7 @@ use Rattle.std.specs.Prelude.{ℕ, nat_le, ◌&&◌, List, [], ◌∷◌, codes,
 use Rattle.std.specs.Str.{bytes_eq}
 use Rattle.re_cert.specs.declared.certificate.TheConstants.{MAX_STEPS}
 use Rattle.re_frame.specs.Outcomes.{Outcome}
-use Rattle.re_items.specs.Numerals.{number_of}
+use Rattle.re_problem.specs.Numerals.{number_of}
 use Rattle.re_relaxed.specs.declared.words.RelaxedWord.{RelaxedWord}
 use Rattle.re_relaxed.specs.declared.words.TheConstants.{MAX_RELAXATIONS}
 use Rattle.re_search_words.specs.MayGive.{MayGive as MayFind}

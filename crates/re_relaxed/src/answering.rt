@@ -2,9 +2,9 @@
 ghost use Rattle.re_cert.specs.Bounds.{last_problem};
 ghost use Rattle.re_cert.specs.declared.certificate.Kind.TheVariants.{Fixed};
 ghost use Rattle.re_cert.specs.declared.certificate.TheConstants.{MAX_STEPS};
-ghost use Rattle.re_chain_parts.specs.HeldBounds.{held_bound};
-ghost use Rattle.re_chain_texts.specs.ChainTexts.{text_chain};
-ghost use Rattle.re_chain_texts.specs.OverChains.{steps_refusal};
+ghost use Rattle.re_chains.specs.HeldBounds.{held_bound};
+ghost use Rattle.re_chains.specs.ChainTexts.{text_chain};
+ghost use Rattle.re_chains.specs.OverChains.{steps_refusal};
 ghost use Rattle.re_frame.specs.Outcomes.{outcome_of};
 ghost use Rattle.re_io.specs.declared.read.TheConstants.{MAX_BYTES};
 ghost use Rattle.re_problem.specs.NamedProblems.{unnamed};
@@ -18,8 +18,7 @@ use crate::finding::find_relaxed;
 use crate::types::Relaxed;
 use crate::words::RelaxedWord;
 use re_cert::Certificate;
-use re_chain_parts::{Chain, LowerChain};
-use re_chain_texts::{certificate_output, judged_chain, read_chain};
+use re_chains::{Chain, LowerChain, certificate_output, judged_chain, read_chain};
 use re_frame::{
     Finding, Output, fault_output, limit_of, not_found_output, not_lower_output, solvable_output,
     verdict_output,

@@ -3,11 +3,11 @@ ghost use Rattle.std.specs.Prelude.{◌<◌, length};
 
 use crate::relaxing::relaxed_chain;
 use crate::types::Tried;
-use re_chain_parts::LowerChain;
-use re_chain_steps::{ChainStepFault, step_lower};
+use re_chains::LowerChain;
 use re_changes::Changed;
 use re_closure::{Closing, ClosureFault, find_closure, find_raised};
 use re_labels::NoMemory;
+use re_shaping::{ChainStepFault, step_lower};
 use std::alloc::Global;
 
 /// Up to how many labels a derived problem has whose closure is tried.

@@ -1,7 +1,7 @@
 //! The search.
 ghost use Rattle.re_cert.specs.Bounds.{last_problem};
 ghost use Rattle.re_cert.specs.declared.certificate.Kind.TheVariants.{Fixed};
-ghost use Rattle.re_extend.specs.Extensions.{GoesOn};
+ghost use Rattle.re_shaping.specs.Extensions.{GoesOn};
 ghost use Rattle.re_problem.specs.NamedProblems.{unnamed};
 ghost use Rattle.re_problem.specs.Zero.{zero_place};
 ghost use Rattle.re_relaxed.specs.Answers.{Answers};
@@ -14,10 +14,10 @@ use crate::returning::{chain_behind, returned};
 use crate::types::{Relaxed, Tried};
 use crate::walk::Walk;
 use re_cert::{Certificate, Kind, MAX_STEPS};
-use re_chain_parts::{LowerChain, copied_step};
-use re_extend::{Extension, extended, takes_merges};
+use re_chains::{LowerChain, copied_step};
 use re_labels::{MAX_LABELS, NoMemory};
-use re_zero::zero_round;
+use re_problem::zero_round;
+use re_shaping::{Extension, extended, takes_merges};
 use std::alloc::Global;
 
 /// Up to how many labels a problem has whose relaxations are looked at.

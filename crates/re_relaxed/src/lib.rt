@@ -9,7 +9,7 @@
 //! - the problem itself, the one behind 2 steps and the one behind 4, each of at most 8 labels, under all partitions of them, those into most classes
 //!   first: whether the relaxation comes back to itself, by a lower step from its derived problem or from that of three steps.
 //!
-//! Nothing of this has a clause: what is found is judged by `re_extend::extended`.
+//! Nothing of this has a clause: what is found is judged by `re_shaping::extended`.
 #![tactic(auto)]
 
 mod answering;

@@ -1,5 +1,5 @@
 //! Relaxations of problems by partitions of their labels, and the steps to their derived problems.
-ghost use Rattle.re_config.specs.Configs.{image_at};
+ghost use Rattle.re_labels.specs.Configs.{image_at};
 ghost use Rattle.re_problem.specs.NamedProblems.{unnamed};
 ghost use Rattle.re_problem.specs.Steps.{IsRelaxed};
 ghost use Rattle.std.specs.List.{AllByRecursion};
@@ -8,13 +8,11 @@ ghost use Rattle.std.specs.Prelude.{◌≡◌, ◌<◌, ◌↔◌, IsTrue, lengt
 use crate::classes::merge_at;
 use arrayvec::ArrayVec;
 use re_cert::{Kind, Step};
-use re_chain::{MergeFault, merge_lower, relaxed_step};
-use re_chain_parts::{LowerChain, chain as copied_chain};
+use re_chains::{LowerChain, chain as copied_chain};
 use re_changes::{Change, Changed};
-use re_extend::{Extension, extended};
 use re_labels::{MAX_LABELS, NoMemory};
-use re_maps::{MapVerdict, relaxes, relaxes_law};
-use re_problem::{LabelMap, Problem};
+use re_problem::{LabelMap, MapVerdict, Problem, relaxes, relaxes_law};
+use re_shaping::{Extension, MergeFault, extended, merge_lower, relaxed_step};
 use re_step::StepFault;
 use std::alloc::Global;
 

@@ -5,12 +5,11 @@ use crate::types::Tried;
 use re_bridge::BridgeFault;
 use re_bridge_words::bridge;
 use re_cert::{Certificate, Kind, MAX_STEPS, Step};
-use re_chain_parts::{LowerChain, copied_step, copied_steps};
-use re_chain_steps::by_rows;
-use re_chain_texts::problem_chain;
+use re_chains::{LowerChain, copied_step, copied_steps, problem_chain};
 use re_changes::Changed;
 use re_labels::{MAX_LABELS, NoMemory};
 use re_problem::Problem;
+use re_shaping::by_rows;
 use std::alloc::Global;
 
 /// How many labels a derived problem has at most from which the way back is tried.

@@ -1,8 +1,7 @@
 //! The relaxations that were looked at.
 use re_labels::NoMemory;
-use re_problem::Problem;
-use re_renaming::{Coloured, Renaming, renaming_to};
-use re_zero::zero_round;
+use re_problem::{Problem, zero_round};
+use re_shaping::{Coloured, Renaming, renaming_to};
 use std::alloc::Global;
 
 /// How many relaxations may be looked at and were, how many passed a limit, whether more would have to be looked at, and those of one kind.

@@ -2,7 +2,7 @@
 ghost use Rattle.re_relaxed.specs.Words.{relaxed_help, relaxed_with, relaxed_word_of};
 ghost use Rattle.std.specs.Prelude.{◌≡◌, map, string_bytes};
 
-use re_items::read_number;
+use re_problem::read_number;
 
 /// The most relaxations that may be looked at.
 pub const MAX_RELAXATIONS: u32 = 1_000_000;

@@ -15,10 +15,10 @@ use Rattle.re_check.proofs.Meaning.{verdict_means}
 use Rattle.re_check.specs.Verdicts.{Means, bound_fault, verdict_of, verdict_with}
 use Rattle.re_check.specs.declared.verdict.Verdict.{Verdict}
 use Rattle.re_check.specs.declared.verdict.Verdict.TheVariants.{Accepted}
-use Rattle.re_tree.proofs.Paths.{IsPath-all}
-use Rattle.re_tree.proofs.Successes.{success_law}
-use Rattle.re_tree.specs.Nodes.{Node, all_nodes, is_cut, preorder, root, succeeds, way_back}
-use Rattle.re_tree.specs.Paths.{bound_of, bound_with}
+use Rattle.re_search.proofs.Paths.{IsPath-all}
+use Rattle.re_search.proofs.Successes.{success_law}
+use Rattle.re_search.specs.Nodes.{Node, all_nodes, is_cut, preorder, root, succeeds, way_back}
+use Rattle.re_search.specs.Paths.{bound_of, bound_with}
 use Rattle.re_search.proofs.Judgements.{found-some, full-none, passed-none}
 use Rattle.re_search.specs.Judging.{judged}
 use Rattle.re_search.specs.Judging.Judged.{found, full, passed}

@@ -9,10 +9,10 @@ use Rattle.re_step.specs.Derivations.{step_limit}
 use Rattle.re_cert.specs.Bounds.{Bound, BoundStep, is_fixed}
 use Rattle.re_cert.specs.declared.certificate.Kind.{Kind}
 use Rattle.re_cert.specs.declared.certificate.Kind.TheVariants.{Fixed, Lower, Upper}
-use Rattle.re_tree.proofs.Paths.{going-left}
-use Rattle.re_tree.proofs.Successes.{found-in}
-use Rattle.re_tree.specs.Nodes.{Node, all_nodes, child, children, goes_on, is_zero, preorder, root, roots, steps_from, succeeds, way_back}
-use Rattle.re_tree.specs.Paths.{bound_of}
+use Rattle.re_search.proofs.Paths.{going-left}
+use Rattle.re_search.proofs.Successes.{found-in}
+use Rattle.re_search.specs.Nodes.{Node, all_nodes, child, children, goes_on, is_zero, preorder, root, roots, steps_from, succeeds, way_back}
+use Rattle.re_search.specs.Paths.{bound_of}
 use Rattle.re_search.proofs.Findings.{steps-told}
 use Rattle.re_search.specs.Searches.{HasSteps, concluded, search_of}
 use Rattle.re_search.specs.declared.types.FindFault.TheVariants.{TooManyNodes}

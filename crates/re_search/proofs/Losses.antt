@@ -6,13 +6,13 @@ use Rattle.std.proofs.lemmas.Bool.{false≢true}
 use Rattle.std.proofs.lemmas.Bool.Decides.{nat_tests}
 use Rattle.std.proofs.lemmas.List.{get_or_append_left}
 use Rattle.re_check.specs.Verdicts.{is_yes}
-use Rattle.re_config.specs.Configs.{image_at}
+use Rattle.re_labels.specs.Configs.{image_at}
 use Rattle.re_labels.proofs.Membership.{AllByRecursion-weaker, In, any-In_from}
 use Rattle.re_labels.proofs.Tests.{and-true, or-true}
 use Rattle.re_labels.specs.declared.sides.Side.{Side}
 use Rattle.re_labels.specs.declared.sides.Side.TheVariants.{Active as ActiveSide, Passive as PassiveSide}
-use Rattle.re_maps.specs.Verdicts.{first_lost, first_twice, first_violation, has_degrees, larger, renaming_verdict, unless}
-use Rattle.re_maps.specs.declared.verdict.MapVerdict.TheVariants.{Active, Count, Degrees, Passive, Twice}
+use Rattle.re_problem.specs.Verdicts.{first_lost, first_twice, first_violation, has_degrees, larger, renaming_verdict, unless}
+use Rattle.re_problem.specs.declared.verdict.MapVerdict.TheVariants.{Active, Count, Degrees, Passive, Twice}
 use Rattle.re_problem.specs.Problems.{Problem}
 use Rattle.re_table.specs.Constraints.{Constraint, has_config}
 use Rattle.re_search.specs.Losses.{are_mapped, is_lost, loses, may_become}

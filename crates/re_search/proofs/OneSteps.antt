@@ -11,7 +11,7 @@ use Rattle.re_cert.specs.Bounds.{BoundStep, is_bound, step_fits}
 use Rattle.re_cert.specs.declared.certificate.Kind.TheVariants.{Lower}
 use Rattle.re_check.specs.Verdicts.{end_fault, fault_at, fault_or, steps_fault, verdict_with}
 use Rattle.std.specs.Prelude.{option_map}
-use Rattle.re_tree.proofs.LowerSteps.{IsProblem-named_derived, lower-fits, lower-meets}
+use Rattle.re_search.proofs.LowerSteps.{IsProblem-named_derived, lower-fits, lower-meets}
 use Rattle.re_search.specs.OneStep.{OneStepLaw, one_step_bound, step_of_problem}
 
 pub one-bound : (problem : NamedProblem) → IsProblem (unnamed problem) → step_limit (unnamed problem) ≡ None → is_bound (one_step_bound problem) ≡ true

@@ -19,7 +19,7 @@ use Rattle.re_changes.specs.declared.change.Change.TheVariants.{Merge}
 use Rattle.re_cert.specs.Bounds.{BoundStep, is_lower, next_problems}
 use Rattle.re_cert.specs.declared.certificate.Kind.{Kind}
 use Rattle.re_cert.specs.declared.certificate.Kind.TheVariants.{Fixed}
-use Rattle.re_tree.specs.Nodes.{behind, is_zero, renaming_to, step_to, succeeds, way_back, way_to}
+use Rattle.re_search.specs.Nodes.{behind, is_zero, renaming_to, step_to, succeeds, way_back, way_to}
 use Rattle.re_search.proofs.Firsts.{none-there}
 use Rattle.re_search.proofs.Walks.{child-passed, child-refused, visit-full, visit-leaf}
 use Rattle.re_search.specs.Walking.{Walks, below_made, node_at}

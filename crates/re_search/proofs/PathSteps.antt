@@ -2,8 +2,8 @@
 use Rattle.std.proofs.Common.{◌≡◌, ℕ, zero, suc, ◌+◌, ◌<◌, List, [], ◌∷◌, ◌++◌, length, take, get_or, Option, None, Some, refl, sym, ap, ◌∙◌, arith}
 use Rattle.re_problem.specs.Steps.{SetEntry}
 use Rattle.re_cert.specs.Bounds.{BoundStep}
-use Rattle.re_tree.specs.Nodes.{entries_of}
-use Rattle.re_config.proofs.Sorting.{take_front}
+use Rattle.re_search.specs.Nodes.{entries_of}
+use Rattle.re_labels.proofs.Sorting.{take_front}
 
 -- ---- entries
 entries-passed : (sets : List (List ℕ)) (images : List (Option ℕ)) (k : ℕ) → k < length images → length images ≡ length sets → get_or images k None ≡ None

@@ -1,13 +1,13 @@
 -- All orders of some elements, begun with others, and the first that passes a test.
 use Rattle.re_problem.proofs.NewNumbers.{map_flat_map}
-use Rattle.re_config.proofs.OrdersAt.{length-splits}
+use Rattle.re_labels.proofs.OrdersAt.{length-splits}
 use Rattle.std.proofs.Common.{◌≡◌, ℕ, zero, suc, ◌+◌, ◌-◌, ◌<◌, ◌≤◌, Bool, cond, List, [], ◌∷◌, ◌++◌, length, map, flat_map, take, drop, get_or, None, Some, refl, sym, ap, ◌∙◌, arith, append_assoc, append-nil}
 use Rattle.std.specs.Prelude.{find}
 use Rattle.std.specs.Option.{option_or}
 use Rattle.std.proofs.lemmas.Grind.{flat_map-append}
 use Rattle.std.proofs.lemmas.List.{get_or-map, take-append-drop, take_all, take_more}
 use Rattle.std.proofs.lemmas.List.Folds.{find-append}
-use Rattle.re_config.specs.Orders.{orders, splits}
+use Rattle.re_labels.specs.Orders.{orders, splits}
 use Rattle.re_problem.proofs.StepLaws.{map-map}
 
 -- ---- an element and the others

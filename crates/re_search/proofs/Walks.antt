@@ -1,7 +1,7 @@
 -- Walks one after another, and what is found at a node.
 use Rattle.re_problem.proofs.NewNumbers.{flat_map_map}
 use Rattle.re_problem.proofs.TextLines.{last_push}
-use Rattle.re_tree.proofs.Paths.{going-left}
+use Rattle.re_search.proofs.Paths.{going-left}
 use Rattle.std.proofs.Common.{◌≡◌, ℕ, zero, suc, ◌+◌, ◌-◌, ◌<◌, ◌≤◌, Bool, true, false, cond, List, [], ◌∷◌, ◌++◌, length, map, flat_map, take, drop, get_or, Option, None, Some, Result, Ok, Err, refl, sym, ap, ◌∙◌, subst, arith, length-append, append-nil, inl, inr}
 use Rattle.std.specs.Prelude.{◌&&◌, count_by, filter, if◌then◌else◌, is_none, is_some, pred, MatchOption}
 use Rattle.std.proofs.lemmas.List.Elements.{filter-append}
@@ -18,10 +18,10 @@ use Rattle.re_labels.proofs.Membership.{In, get_or-count_from, length-count_from
 use Rattle.re_labels.specs.Lists.{count_from}
 use Rattle.re_step.specs.Derivations.{Derivation, derivation, named_derived, step_limit}
 use Rattle.re_problem.specs.Steps.LowerMap.{by_set}
-use Rattle.re_tree.proofs.LowerSteps.{names-sets}
+use Rattle.re_search.proofs.LowerSteps.{names-sets}
 use Rattle.re_cert.specs.Bounds.{BoundStep, is_lower, next_problems}
 use Rattle.re_cert.specs.declared.certificate.Kind.{Kind}
-use Rattle.re_tree.specs.Nodes.{Node, child, children, entries_of, goes_on, is_cut, preorder, step_to, steps_from, succeeds}
+use Rattle.re_search.specs.Nodes.{Node, child, children, entries_of, goes_on, is_cut, preorder, step_to, steps_from, succeeds}
 use Rattle.re_search.proofs.Judgements.{flat_map-flat_map, found-on, full-on, passed-none, passed-on}
 use Rattle.re_search.specs.Judging.{judged}
 use Rattle.re_search.specs.Judging.Judged.{found, full, passed}

@@ -4,17 +4,17 @@ use Rattle.std.specs.Prelude.{find, if◌then◌else◌, option_map}
 use Rattle.std.proofs.lemmas.Bool.Decides.{nat_tests}
 use Rattle.std.proofs.lemmas.List.{map-id}
 use Rattle.re_check.specs.Verdicts.{is_yes}
-use Rattle.re_config.specs.Orders.{orders}
+use Rattle.re_labels.specs.Orders.{orders}
 use Rattle.re_labels.proofs.Membership.{length-count_from}
 use Rattle.re_labels.proofs.Tests.{and-true, eqb-same, true-and}
 use Rattle.re_labels.specs.Lists.{count_from}
-use Rattle.re_maps.specs.Verdicts.{renaming_verdict}
+use Rattle.re_problem.specs.Verdicts.{renaming_verdict}
 use Rattle.re_problem.specs.NamedProblems.{NamedProblem, unnamed}
 use Rattle.re_problem.specs.ProblemTexts.{last_or}
 use Rattle.re_cert.specs.Bounds.{BoundStep, is_bound, next_problems}
 use Rattle.re_cert.specs.declared.certificate.Kind.{Kind}
-use Rattle.re_tree.specs.Nodes.{Node, behind, renaming_to, way_back, way_to}
-use Rattle.re_tree.specs.Paths.{bound_with}
+use Rattle.re_search.specs.Nodes.{Node, behind, renaming_to, way_back, way_to}
+use Rattle.re_search.specs.Paths.{bound_with}
 use Rattle.re_search.proofs.Firsts.{none-there, some-there}
 use Rattle.re_search.proofs.Losses.{apart-becomes}
 use Rattle.re_search.specs.Losses.{may_become}

@@ -1,8 +1,8 @@
 -- What shows early that one problem isn't the other under other labels: degrees, counts, and images of the first labels alone.
 use Rattle.std.specs.Prelude.{ℕ, nat_le, nat_lt, Bool, not, ◌&&◌, List, length, map}
 use Rattle.std.specs.List.{list_all, list_any}
-use Rattle.re_config.specs.Configs.{image_at}
-use Rattle.re_maps.specs.Verdicts.{has_degrees}
+use Rattle.re_labels.specs.Configs.{image_at}
+use Rattle.re_problem.specs.Verdicts.{has_degrees}
 use Rattle.re_problem.specs.Problems.{Problem}
 use Rattle.re_table.specs.Constraints.{Constraint, has_config}
 

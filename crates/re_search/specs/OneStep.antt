@@ -6,7 +6,7 @@ use Rattle.re_step.specs.Derivations.{named_derived}
 use Rattle.re_cert.specs.Bounds.{Bound, BoundStep}
 use Rattle.re_cert.specs.declared.certificate.Kind.TheVariants.{Lower}
 use Rattle.re_check.specs.Verdicts.{end_fault, steps_fault, verdict_of, verdict_with}
-use Rattle.re_tree.specs.Nodes.{step_to}
+use Rattle.re_search.specs.Nodes.{step_to}
 
 -- the lower step from a problem to its derived problem, which sends each set to its own label
 abbrev pub step_of_problem : NamedProblem → BoundStep

@@ -5,8 +5,8 @@ use Rattle.re_cert.specs.declared.certificate.Kind.{Kind}
 use Rattle.re_cert.specs.declared.certificate.Kind.TheVariants.{Fixed, Lower, Upper}
 use Rattle.re_check.specs.Verdicts.{Means, verdict_of}
 use Rattle.re_check.specs.declared.verdict.Verdict.TheVariants.{Accepted}
-use Rattle.re_tree.specs.Nodes.{Node, all_nodes, is_cut, succeeds}
-use Rattle.re_tree.specs.Paths.{bound_of}
+use Rattle.re_search.specs.Nodes.{Node, all_nodes, is_cut, succeeds}
+use Rattle.re_search.specs.Paths.{bound_of}
 use Rattle.re_search.specs.declared.types.FindFault.{FindFault}
 use Rattle.re_search.specs.declared.types.FindFault.TheVariants.{NoMemory, TooManyNodes}
 use Rattle.re_search.specs.declared.types.Search.{Search}

@@ -7,7 +7,7 @@ use Rattle.re_changes.specs.Changes.{Changed}
 use Rattle.re_table.specs.GoodRows.{max_rows, max_sets}
 use Rattle.re_cert.specs.Bounds.{BoundStep, is_lower, next_problems}
 use Rattle.re_cert.specs.declared.certificate.Kind.{Kind}
-use Rattle.re_tree.specs.Nodes.{Node, child, goes_on, is_cut, preorder, step_to, succeeds}
+use Rattle.re_search.specs.Nodes.{Node, child, goes_on, is_cut, preorder, step_to, succeeds}
 use Rattle.re_search.specs.Judging.{Judged, judged}
 use Rattle.re_search.specs.Judging.Judged.{found, full, passed}
 use Rattle.re_search.specs.declared.steps.Level.{Level}

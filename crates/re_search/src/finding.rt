@@ -3,8 +3,8 @@ ghost use Rattle.re_cert.specs.Bounds.{is_bound, is_fixed};
 ghost use Rattle.re_cert.specs.declared.certificate.TheConstants.{MAX_STEPS};
 ghost use Rattle.re_search.specs.Searches.{Answers, FindsSteps, FindsTrue, FindsValid};
 ghost use Rattle.re_search.specs.Walking.{least_depth, node_at};
-ghost use Rattle.re_tree.specs.Nodes.{way_back};
-ghost use Rattle.re_tree.specs.Paths.{bound_of, pairs_of};
+ghost use Rattle.re_search.specs.Nodes.{way_back};
+ghost use Rattle.re_search.specs.Paths.{bound_of, pairs_of};
 ghost use Rattle.std.specs.Prelude.{◌≡◌, ◌≤◌, IfOk, MatchOption, None, Some, if◌then◌else◌, length, map, true};
 
 use crate::derivations::Derivations;

@@ -1,13 +1,12 @@
 //! What shows early that one problem isn't the other under other labels.
-ghost use Rattle.re_config.specs.Configs.{image_at};
+ghost use Rattle.re_labels.specs.Configs.{image_at};
 ghost use Rattle.re_problem.specs.NamedProblems.{unnamed};
 ghost use Rattle.re_search.specs.Losses.{are_mapped, is_lost, loses, may_become};
 ghost use Rattle.re_table.specs.Constraints.{has_config};
 ghost use Rattle.std.specs.List.{AllByRecursion, list_any};
 ghost use Rattle.std.specs.Prelude.{◌≡◌, ◌<◌, ◌||◌, length};
 
-use re_config::Config;
-use re_labels::MAX_LABELS;
+use re_labels::{Config, MAX_LABELS};
 use re_problem::Problem;
 use re_table::Constraint;
 

@@ -1,12 +1,12 @@
 //! Problems on a path that the problem at its end is an image of.
 ghost use Rattle.re_cert.specs.declared.certificate.TheConstants.{MAX_STEPS};
 ghost use Rattle.re_check.specs.Verdicts.{is_yes};
-ghost use Rattle.re_config.specs.Orders.{orders};
+ghost use Rattle.re_labels.specs.Orders.{orders};
 ghost use Rattle.re_labels.specs.Lists.{count_from};
-ghost use Rattle.re_maps.specs.Verdicts.{renaming_verdict};
+ghost use Rattle.re_problem.specs.Verdicts.{renaming_verdict};
 ghost use Rattle.re_problem.specs.NamedProblems.{unnamed};
 ghost use Rattle.re_search.specs.Walking.{node_at};
-ghost use Rattle.re_tree.specs.Nodes.{renaming_to, way_back};
+ghost use Rattle.re_search.specs.Nodes.{renaming_to, way_back};
 ghost use Rattle.std.specs.List.{AllByRecursion};
 ghost use Rattle.std.specs.Prelude.{◌≡◌, ◌+◌, ◌<◌, ◌≤◌, ◌++◌, ◌∷◌, [], ℕ, MatchOption, None, Some, drop, find, length, map, take};
 
@@ -14,8 +14,7 @@ use crate::losing::{loses, may_become};
 use crate::steps::{end_of, problem_behind};
 use arrayvec::ArrayVec;
 use re_cert::Step;
-use re_maps::{MapVerdict, renames};
-use re_problem::{LabelMap, Problem};
+use re_problem::{LabelMap, MapVerdict, Problem, renames};
 
 /// The number of a problem on a path, and the map of labels that makes the problem at the end of the path this one.
 #[derive(Drop)]

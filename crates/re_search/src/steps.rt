@@ -3,14 +3,13 @@ ghost use Rattle.re_cert.specs.Bounds.{is_lower, next_problems};
 ghost use Rattle.re_problem.specs.NamedProblems.{IsNamedProblem};
 ghost use Rattle.re_problem.specs.ProblemTexts.{last_or};
 ghost use Rattle.re_problem.specs.Steps.LowerMap.{by_set};
-ghost use Rattle.re_tree.specs.Nodes.{behind, entries_of};
+ghost use Rattle.re_search.specs.Nodes.{behind, entries_of};
 ghost use Rattle.std.specs.List.{AllByRecursion};
 ghost use Rattle.std.specs.Prelude.{◌≡◌, ◌≤◌, [], IfOk, if◌then◌else◌, length, map};
 
 use re_cert::{Kind, LowerMap, SetEntry, Step, StepParts};
 use re_changes::Changed;
-use re_config::Row;
-use re_labels::{LabelSet, NoMemory};
+use re_labels::{LabelSet, NoMemory, Row};
 use re_problem::Problem;
 use std::alloc::Global;
 

@@ -5,7 +5,7 @@ ghost use Rattle.re_changes.specs.Changes.{Changed as Outcome, changed_times};
 ghost use Rattle.re_problem.specs.NamedProblems.{NamedProblem, unnamed};
 ghost use Rattle.re_search.specs.Walking.{IsLevel, Visits, Walks, below_made, node_at};
 ghost use Rattle.re_step.specs.Derivations.{derivation};
-ghost use Rattle.re_tree.specs.Nodes.{behind, child, goes_on, is_zero, preorder, steps_from, succeeds};
+ghost use Rattle.re_search.specs.Nodes.{behind, child, goes_on, is_zero, preorder, steps_from, succeeds};
 ghost use Rattle.std.specs.Prelude.{◌≡◌, ◌<◌, ◌≤◌, ℕ, IsTrue, List, false, true, ◌+◌, ◌++◌, ◌∷◌, ◌&&◌, ◌||◌, [], OnOk, flat_map, length, map, nat_lt, not, suc};
 
 use crate::counting::is_zero;

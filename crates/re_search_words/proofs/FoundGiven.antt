@@ -4,13 +4,13 @@ use Rattle.re_problem.specs.NamedProblems.{IsNamedProblem, NamedProblem}
 use Rattle.re_problem.specs.declared.fault.InputFault.{InputFault}
 use Rattle.re_cert.specs.Bounds.{Bound, is_bound}
 use Rattle.re_cert.specs.declared.certificate.Kind.{Kind}
-use Rattle.re_chain_parts.specs.Chains.{IsOverProblems}
+use Rattle.re_chains.specs.Chains.{IsOverProblems}
 use Rattle.re_fit.specs.InputProblems.{input_fault}
 use Rattle.re_frame.specs.Outcomes.{Outcome}
 use Rattle.re_frame.specs.TextFaults.{fault_outcome}
 use Rattle.re_given_words.specs.Extensions.{GoesOnGiven, IsTaken, TakenLaw}
-use Rattle.re_two_texts.specs.GivenTexts.{GivesBoth, given_text_outcome}
-use Rattle.re_two_texts.specs.TwoTexts.{back_problem, two_fault}
+use Rattle.re_chains.specs.GivenTexts.{GivesBoth, given_text_outcome}
+use Rattle.re_chains.specs.TwoTexts.{back_problem, two_fault}
 use Rattle.re_search_words.specs.GivenAnswers.{IsTextOnGiven, MayGiveGiven, MayGiveGivenInput, MayGiveGivenRead, given_chain}
 use Rattle.re_search_words.specs.declared.words.SearchWord.{SearchWord}
 

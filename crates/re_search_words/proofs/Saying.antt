@@ -6,9 +6,9 @@ use Rattle.re_problem.specs.declared.fault.InputFault.{InputFault}
 use Rattle.re_cert.specs.Bounds.{Bound, last_problem}
 use Rattle.re_cert.specs.declared.certificate.Kind.{Kind}
 use Rattle.re_cert.specs.declared.certificate.Kind.TheVariants.{Fixed, Lower, Upper}
-use Rattle.re_chain_texts.specs.ChainTexts.{chain_fault}
-use Rattle.re_chain_texts.proofs.WordsGiven.{certificate_says}
-use Rattle.re_chain_texts.specs.OverChains.{steps_refusal}
+use Rattle.re_chains.specs.ChainTexts.{chain_fault}
+use Rattle.re_chains.proofs.WordsGiven.{certificate_says}
+use Rattle.re_chains.specs.OverChains.{steps_refusal}
 use Rattle.re_check.specs.declared.verdict.Verdict.{Verdict}
 use Rattle.re_frame.proofs.Said.{check_says, fault_says, says_as}
 use Rattle.re_frame.specs.Outcomes.{Outcome}

@@ -2,7 +2,7 @@
 use Rattle.std.proofs.Common.{◌≡◌, ℕ, Option, Some, None, inl, subst}
 use Rattle.re_cert.specs.Bounds.{Bound}
 use Rattle.re_cert.specs.declared.certificate.Kind.TheVariants.{Upper}
-use Rattle.re_chain_texts.specs.OverChains.{GivesText, certificate_outcome}
+use Rattle.re_chains.specs.OverChains.{GivesText, certificate_outcome}
 use Rattle.re_frame.specs.Outcomes.{Outcome}
 use Rattle.re_shortest.specs.Answers.{AnswersAt}
 use Rattle.re_shortest.specs.declared.shortening.Shortest.TheVariants.{Found}

@@ -4,8 +4,8 @@ use Rattle.std.specs.Prelude.{Err, IfOk, IfSome, Ok, Result}
 use Rattle.re_cert.specs.Bounds.{Bound, BoundStep}
 use Rattle.re_cert.specs.declared.certificate.Kind.{Kind}
 use Rattle.re_cert.specs.declared.certificate.Kind.TheVariants.{Lower, Upper}
-use Rattle.re_chain_texts.specs.OverChains.{GivesText, certificate_outcome}
-use Rattle.re_extend.specs.Extensions.{AreSmall, GoesOn}
+use Rattle.re_chains.specs.OverChains.{GivesText, certificate_outcome}
+use Rattle.re_shaping.specs.Extensions.{AreSmall, GoesOn}
 use Rattle.re_frame.specs.Outcomes.{Outcome, status_of, too_long}
 use Rattle.re_frame.specs.declared.output.Output.{Output}
 use Rattle.re_frame.specs.declared.status.Status.TheVariants as status

@@ -6,7 +6,7 @@ use Rattle.re_problem.specs.declared.fault.InputFault.{InputFault}
 use Rattle.re_cert.specs.Bounds.{Bound}
 use Rattle.re_cert.specs.declared.certificate.Kind.{Kind}
 use Rattle.re_cert.specs.declared.certificate.Kind.TheVariants.{Fixed, Lower, Upper}
-use Rattle.re_chain_texts.specs.OverChains.{steps_refusal}
+use Rattle.re_chains.specs.OverChains.{steps_refusal}
 use Rattle.re_check.specs.declared.verdict.Verdict.{Verdict}
 use Rattle.re_fit.specs.InputProblems.{input_fault}
 use Rattle.re_fit.specs.declared.inputs.InputFault.{InputFault as NoInput}
@@ -19,8 +19,8 @@ use Rattle.re_given_words.specs.Extensions.{GoesOnGiven, IsTaken}
 use Rattle.re_given_words.specs.InputFaults.{fault_line}
 use Rattle.re_given_words.specs.Verdicts.{given_outcome}
 use Rattle.re_given_words.specs.declared.words.BoundWord.TheVariants.{Given}
-use Rattle.re_two_texts.specs.GivenTexts.{GivesBoth, given_text_outcome}
-use Rattle.re_two_texts.specs.TwoTexts.{back_problem, front_text, has_line, two_fault}
+use Rattle.re_chains.specs.GivenTexts.{GivesBoth, given_text_outcome}
+use Rattle.re_chains.specs.TwoTexts.{back_problem, front_text, has_line, two_fault}
 use Rattle.re_search_words.specs.MayGive.{MayGive, word_chain}
 use Rattle.re_search_words.specs.declared.words.SearchWord.{SearchWord}
 use Rattle.re_search_words.specs.declared.words.SearchWord.TheVariants.{Cycle, Longest, Shortest}

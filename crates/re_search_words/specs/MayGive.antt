@@ -7,11 +7,11 @@ use Rattle.re_problem.specs.declared.fault.InputFault.{InputFault}
 use Rattle.re_cert.specs.Bounds.{Bound, last_problem}
 use Rattle.re_cert.specs.declared.certificate.Kind.{Kind}
 use Rattle.re_cert.specs.declared.certificate.Kind.TheVariants.{Fixed, Lower, Upper}
-use Rattle.re_chain_parts.specs.Chains.{chain_with}
-use Rattle.re_chain_texts.specs.ChainTexts.{chain_fault, is_certificate_text, text_chain}
-use Rattle.re_chain_texts.specs.OverChains.{GivesText, certificate_outcome, steps_refusal}
+use Rattle.re_chains.specs.Chains.{chain_with}
+use Rattle.re_chains.specs.ChainTexts.{chain_fault, is_certificate_text, text_chain}
+use Rattle.re_chains.specs.OverChains.{GivesText, certificate_outcome, steps_refusal}
 use Rattle.re_check.specs.declared.verdict.Verdict.{Verdict}
-use Rattle.re_extend.specs.Extensions.{GoesOn}
+use Rattle.re_shaping.specs.Extensions.{GoesOn}
 use Rattle.re_frame.specs.Check.{verdict_outcome}
 use Rattle.re_frame.specs.Outcomes.{Outcome, limit_of, refused, too_long}
 use Rattle.re_frame.specs.SearchLines.{not_found_line, not_lower_line, not_upper_line, solvable_line}

@@ -1,9 +1,9 @@
 //! What the words answer.
 ghost use Rattle.re_cert.specs.Bounds.{last_problem};
 ghost use Rattle.re_cert.specs.declared.certificate.Kind.TheVariants.{Fixed};
-ghost use Rattle.re_chain_parts.specs.HeldBounds.{held_bound};
-ghost use Rattle.re_chain_texts.specs.ChainTexts.{text_chain};
-ghost use Rattle.re_chain_texts.specs.OverChains.{steps_refusal};
+ghost use Rattle.re_chains.specs.HeldBounds.{held_bound};
+ghost use Rattle.re_chains.specs.ChainTexts.{text_chain};
+ghost use Rattle.re_chains.specs.OverChains.{steps_refusal};
 ghost use Rattle.re_frame.specs.Outcomes.{outcome_of};
 ghost use Rattle.re_io.specs.declared.read.TheConstants.{MAX_BYTES};
 ghost use Rattle.re_problem.specs.NamedProblems.{unnamed};
@@ -16,20 +16,20 @@ use crate::fitting::{fitting_lower, fitting_upper, three_quarters};
 use crate::given::given_output;
 use crate::words::SearchWord;
 use re_cert::{Certificate, Kind};
-use re_chain_parts::{Chain, LowerChain, UpperChain};
-use re_chain_texts::{certificate_output, is_certificate_text, judged_chain, read_chain};
+use re_chains::{
+    Chain, LowerChain, UpperChain, certificate_output, has_line, is_certificate_text, judged_chain,
+    read_chain,
+};
 use re_cycle::{Cycle, find_cycle};
-use re_extend::repeated;
 use re_frame::{
     Answer, Finding, Output, fault_output, limit_of, not_found_output, not_lower_output,
     not_upper_output, solvable_output, verdict_output,
 };
 use re_given_words::GIVEN;
 use re_labels::NoMemory;
-use re_problem::TextFault;
+use re_problem::{TextFault, zero_round};
+use re_shaping::repeated;
 use re_shortest::{Shortest, find_shortest};
-use re_two_texts::has_line;
-use re_zero::zero_round;
 use std::alloc::Global;
 
 // What `longest` gives to a chain of kind lower.

@@ -9,15 +9,13 @@ ghost use Rattle.re_search_words.specs.GivenAnswers.{IsFoundGiven};
 ghost use Rattle.re_search_words.specs.MayGive.{IsFound};
 ghost use Rattle.std.specs.Prelude.{◌≡◌, ◌≤◌, ◌<◌, IfOk, IfSome};
 
-use re_chain_parts::{LowerChain, UpperChain};
-use re_chain_texts::certificate_output;
+use re_chains::{LowerChain, UpperChain, certificate_output, print_given};
 use re_frame::Output;
 use re_given_words::is_done;
 use re_labels::NoMemory;
 use re_longest::{Longest, find_longest, find_longest_given};
 use re_problem::Problem;
 use re_shortest::{Shortest, find_shortest, find_shortest_given};
-use re_two_texts::print_given;
 use std::alloc::Global;
 
 /// With how many labels a search is tried again behind one with so many: three quarters of them.

@@ -1,7 +1,7 @@
 //! What the words answer where a solution of an input problem is given.
 ghost use Rattle.re_cert.specs.declared.certificate.Kind.TheVariants.{Fixed};
-ghost use Rattle.re_chain_parts.specs.HeldBounds.{held_bound};
-ghost use Rattle.re_chain_texts.specs.OverChains.{steps_refusal};
+ghost use Rattle.re_chains.specs.HeldBounds.{held_bound};
+ghost use Rattle.re_chains.specs.OverChains.{steps_refusal};
 ghost use Rattle.re_fit.specs.InputProblems.{input_fault as fault_of};
 ghost use Rattle.re_frame.specs.Outcomes.{outcome_of};
 ghost use Rattle.re_given.specs.Inputs.{IsInput};
@@ -10,15 +10,17 @@ ghost use Rattle.re_io.specs.declared.read.TheConstants.{MAX_BYTES};
 ghost use Rattle.re_labels.specs.declared.TheConstants.{MAX_LABELS};
 ghost use Rattle.re_problem.specs.NamedProblems.{unnamed};
 ghost use Rattle.re_search_words.specs.GivenAnswers.{IsFoundGiven, IsTextOnGiven, MayFindBy, MayFindElse, MayFindGiven, MayGiveGiven, MayGiveGivenAt, MayGiveGivenInput, MayGiveGivenSound, Refuses, given_chain};
-ghost use Rattle.re_two_texts.specs.TwoTexts.{front_chain, has_line};
+ghost use Rattle.re_chains.specs.TwoTexts.{front_chain, has_line};
 ghost use Rattle.std.specs.Prelude.{◌≡◌, ◌≤◌, IfOk, codes, length, true};
 
 use crate::answering::word_chain;
 use crate::fitting::{fitting_lower_given, fitting_upper_given, three_quarters};
 use crate::words::SearchWord;
 use re_cert::Certificate;
-use re_chain_parts::{Chain, LowerChain, UpperChain, over_problems};
-use re_chain_texts::judged_chain;
+use re_chains::{
+    Chain, LowerChain, TwoTexts, UpperChain, cut_at, judged_chain, over_problems, print_given,
+    read_chain_two,
+};
 use re_cycle::{Cycle, find_cycle_given};
 use re_fit::input_fault;
 use re_frame::{
@@ -29,7 +31,6 @@ use re_given_words::{GIVEN, given_verdict, input_fault_output, is_accepted, is_d
 use re_labels::NoMemory;
 use re_problem::{Problem, TextFault};
 use re_shortest::{Shortest, find_shortest_given};
-use re_two_texts::{TwoTexts, cut_at, print_given, read_chain_two};
 use std::alloc::Global;
 
 // The answer of `given` to the chain, where that isn't that it accepts it.

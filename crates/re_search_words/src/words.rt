@@ -3,8 +3,8 @@ ghost use Rattle.re_search_words.specs.Words.{IsSearchWord, bound_word, cycle_wi
 ghost use Rattle.std.specs.Prelude.{◌≡◌, IfSome, map, string_bytes};
 
 use re_cert::MAX_STEPS;
-use re_items::read_number;
 use re_labels::MAX_LABELS;
+use re_problem::read_number;
 
 /// The most merges in each step of a fixed point.
 pub(crate) const MAX_MERGES: u32 = 8;

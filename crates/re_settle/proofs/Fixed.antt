@@ -4,7 +4,7 @@ use Rattle.std.specs.Prelude.{find, nat_lt, if◌then◌else◌}
 use Rattle.re_cert.specs.Bounds.{Bound, is_bound, is_fixed}
 use Rattle.re_cert.specs.declared.certificate.Kind.{Kind}
 use Rattle.re_cert.specs.declared.certificate.Kind.TheVariants as kind
-use Rattle.re_chain_parts.specs.Chains.{IsOverProblems}
+use Rattle.re_chains.specs.Chains.{IsOverProblems}
 use Rattle.re_check.specs.Verdicts.{verdict_of}
 use Rattle.re_check.specs.declared.verdict.Verdict.TheVariants.{Accepted}
 use Rattle.re_classes.specs.Classes.{IsAboveLog}
@@ -14,8 +14,8 @@ use Rattle.re_search.specs.Searches.{concluded, search_of}
 use Rattle.re_search.specs.declared.types.FindFault.TheVariants.{TooManyNodes}
 use Rattle.re_search.specs.declared.types.Search.TheVariants.{Found, NotFound}
 use Rattle.re_search.specs.declared.walking.TheConstants.{MAX_NODES}
-use Rattle.re_tree.specs.Nodes.{Node, all_nodes, succeeds, way_back}
-use Rattle.re_tree.specs.Paths.{bound_of, bound_with}
+use Rattle.re_search.specs.Nodes.{Node, all_nodes, succeeds, way_back}
+use Rattle.re_search.specs.Paths.{bound_of, bound_with}
 
 -- what is accepted as a fixed point and begins with the problem
 pub above_log_on : (problem : NamedProblem) (bound : Bound) → is_bound bound ≡ true → IsOverProblems bound → bound.first ≡ problem

@@ -3,15 +3,15 @@ use Rattle.std.proofs.Common.{◌≡◌, ℕ, zero, suc, ◌*◌, ◌≤◌, ◌
 use Rattle.re_cert.specs.Bounds.{Bound, is_bound, last_problem}
 use Rattle.re_cert.specs.declared.certificate.Kind.TheVariants as kind
 use Rattle.re_cert.specs.declared.certificate.TheConstants.{MAX_STEPS}
-use Rattle.re_chain.specs.Merging.{merge_limit, merge_refusal, merged}
-use Rattle.re_chain_parts.specs.Chains.{IsOverProblems, chain_with}
-use Rattle.re_chain_steps.specs.Stepped.{stepped, stepping_fault}
-use Rattle.re_chain_texts.specs.ChainTexts.{problem_chain}
+use Rattle.re_shaping.specs.Merging.{merge_limit, merge_refusal, merged}
+use Rattle.re_chains.specs.Chains.{IsOverProblems, chain_with}
+use Rattle.re_shaping.specs.Stepped.{stepped, stepping_fault}
+use Rattle.re_chains.specs.ChainTexts.{problem_chain}
 use Rattle.re_closure.specs.Closures.{IsClosed, IsSolvableBy}
 use Rattle.re_closure.specs.RaisedClosures.{IsRaisedClosed}
 use Rattle.re_cycle.specs.Answers as cycle
 use Rattle.re_cycle.specs.declared.finding.Cycle.TheVariants as cycle_answer
-use Rattle.re_extend.specs.Extensions.{GoesOn}
+use Rattle.re_shaping.specs.Extensions.{GoesOn}
 use Rattle.re_given_words.proofs.CountingMeans.{told_means}
 use Rattle.re_given_words.specs.Counting.{CountMeans, MayTell}
 use Rattle.re_given_words.specs.declared.counting.Counted.{Counted}

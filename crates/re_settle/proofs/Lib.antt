@@ -1,4 +1,7 @@
 mod Fixed
+mod GivenKnown
+mod GivenSaying
+mod GivenTogether
 mod Graphs
 mod Known
 mod Local

@@ -3,7 +3,7 @@ use Rattle.std.proofs.Common.{◌≡◌, ℕ, Bool, ◌≤◌, true, [], length,
 use Rattle.std.specs.Prelude.{if◌then◌else◌}
 use Rattle.re_cert.specs.Bounds.{Bound}
 use Rattle.re_cert.specs.declared.certificate.Kind.TheVariants.{Upper}
-use Rattle.re_chain_parts.specs.Chains.{chain_with}
+use Rattle.re_chains.specs.Chains.{chain_with}
 use Rattle.re_classes.proofs.Decided.{above_log_star, order_log_star}
 use Rattle.re_given.specs.Given.{SolvableGiven}
 use Rattle.re_given.specs.Inputs.{IsInput}
@@ -12,7 +12,7 @@ use Rattle.re_given_words.specs.Counting.{IsCounted}
 use Rattle.re_given_words.specs.Extensions.{GoesOnGiven}
 use Rattle.re_given_words.specs.declared.counting.Counted.TheVariants as counted
 use Rattle.re_classes.specs.Classes.{IsOrderLogStar}
-use Rattle.re_input_laws.proofs.EdgeClasses.{order_edge_coloured}
+use Rattle.re_given_bounds.proofs.EdgeClasses.{order_edge_coloured}
 use Rattle.re_given.specs.InputExamples.{edge_colouring}
 use Rattle.re_inputs.proofs.NamedProofs.{inputs, named_inputs}
 use Rattle.re_inputs.specs.NamedInputs.{edge_colours, fits, input_of, law_input}
@@ -24,7 +24,7 @@ use Rattle.re_ordered.proofs.BeyondLocal.{beyond_local}
 use Rattle.re_ordered.proofs.PortNumbered.{SolvableLocal-unnoticed}
 use Rattle.re_problem.specs.NamedProblems.{NamedProblem, unnamed}
 use Rattle.re_problem.specs.Problems.{IsProblem, Problem}
-use Rattle.re_separating.specs.Laws.{IsBeyondLocal}
+use Rattle.re_local.specs.SeparatingLaws.{IsBeyondLocal}
 use Rattle.re_settle.specs.Claims.{Holds}
 use Rattle.re_settle.specs.Classes.{ClassHolds, HoldsLocal, SolvableByAny, class_of, few_colours}
 use Rattle.re_settle.specs.Coloured.{IsColoured, IsColouringOf, IsSolvableGivenFew, IsTriedGiven, colours_of, input_kind}
@@ -36,7 +36,7 @@ use Rattle.re_settle.specs.declared.types.Coloured.{Coloured}
 use Rattle.re_settle.specs.declared.types.ColouredWay.TheVariants.{Rounds, Shortest}
 use Rattle.re_settle.specs.declared.types.Settled.TheVariants as settled
 use Rattle.re_settle.specs.declared.types.Way.{Way}
-use Rattle.re_two_texts.specs.GivenTexts.{IsGivenText, given_text}
+use Rattle.re_chains.specs.GivenTexts.{IsGivenText, given_text}
 
 -- ---- constantly many rounds
 module _ (problem : Problem) (is : IsProblem problem) where

@@ -5,7 +5,7 @@ use Rattle.re_labels.specs.declared.sides.Side.{Side}
 use Rattle.re_labels.specs.declared.sides.Side.TheVariants.{Active, Passive}
 use Rattle.re_local.specs.LocalAlgorithms.{SolvableLocal}
 use Rattle.re_problem.specs.Problems.{Problem}
-use Rattle.re_separating.specs.Laws.{IsBeyondLocal}
+use Rattle.re_local.specs.SeparatingLaws.{IsBeyondLocal}
 use Rattle.re_settle.specs.Claims.{within}
 use Rattle.re_settle.specs.declared.types.Claim.{Claim}
 use Rattle.re_settle.specs.declared.types.Claim.TheVariants.{AtMost, Between, Exactly, MoreThan, Never}

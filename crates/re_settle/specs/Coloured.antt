@@ -2,9 +2,9 @@
 use Rattle.std.specs.Prelude.{◌≡◌, ℕ, [], Some}
 use Rattle.re_cert.specs.Bounds.{Bound}
 use Rattle.re_cert.specs.declared.certificate.Kind.TheVariants.{Upper}
-use Rattle.re_chain_parts.specs.Chains.{chain_with}
+use Rattle.re_chains.specs.Chains.{chain_with}
 use Rattle.re_classes.specs.Laws.{IsSolvableColoured}
-use Rattle.re_input_laws.specs.EdgeClasses.{IsSolvableEdgeColoured}
+use Rattle.re_given_bounds.specs.EdgeClasses.{IsSolvableEdgeColoured}
 use Rattle.re_given.specs.InputExamples.{edge_colouring}
 use Rattle.re_given.specs.Inputs.{IsInput}
 use Rattle.re_given.specs.Unavoidable.{colouring}
@@ -22,7 +22,7 @@ use Rattle.re_settle.specs.Measures.{coloured_steps, doublings, greatest_degree,
 use Rattle.re_settle.specs.declared.types.Coloured.{Coloured}
 use Rattle.re_settle.specs.declared.types.ColouredWay.{ColouredWay}
 use Rattle.re_settle.specs.declared.types.ColouredWay.TheVariants.{Rounds, Shortest}
-use Rattle.re_two_texts.specs.GivenTexts.{IsGivenText, given_text}
+use Rattle.re_chains.specs.GivenTexts.{IsGivenText, given_text}
 
 -- the proper colouring of a side with so many colours, of the degrees of a problem
 abbrev pub colours_of : Side → NamedProblem → ℕ → Problem

@@ -2,6 +2,9 @@ pub mod Answers
 pub mod Claims
 pub mod Classes
 pub mod Coloured
+pub mod GivenAnswers
+pub mod GivenClaims
+pub mod GivenWays
 pub mod GraphRounds
 pub mod Lines
 pub mod Measures

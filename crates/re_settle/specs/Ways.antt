@@ -3,12 +3,12 @@ use Rattle.std.specs.Prelude.{◌≡◌, ◌≤◌, ◌<◌, ◌*◌, ◌⊎◌,
 use Rattle.re_cert.specs.Bounds.{Bound, last_problem}
 use Rattle.re_cert.specs.declared.certificate.Kind.{Kind}
 use Rattle.re_cert.specs.declared.certificate.Kind.TheVariants as kind
-use Rattle.re_cert_text.specs.PrintedCertificates.{certificate_text}
-use Rattle.re_chain.specs.Merging.{merge_limit, merge_refusal, merged}
-use Rattle.re_chain_parts.specs.Chains.{chain_with}
-use Rattle.re_chain_steps.specs.Stepped.{stepped, stepping_fault}
-use Rattle.re_chain_texts.specs.ChainTexts.{problem_chain}
-use Rattle.re_chain_texts.specs.OverChains.{IsTextOf}
+use Rattle.re_texts.specs.PrintedCertificates.{certificate_text}
+use Rattle.re_shaping.specs.Merging.{merge_limit, merge_refusal, merged}
+use Rattle.re_chains.specs.Chains.{chain_with}
+use Rattle.re_shaping.specs.Stepped.{stepped, stepping_fault}
+use Rattle.re_chains.specs.ChainTexts.{problem_chain}
+use Rattle.re_chains.specs.OverChains.{IsTextOf}
 use Rattle.re_classes.specs.Classes.{IsAboveLog}
 use Rattle.re_closure.specs.Closures.{IsClosed, IsSolvableBy}
 use Rattle.re_closure.specs.RaisedClosures.{IsRaisedClosed}

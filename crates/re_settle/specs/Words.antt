@@ -1,7 +1,7 @@
 -- The word `settle`.
 use Rattle.std.specs.Prelude.{ℕ, ◌≤◌, nat_le, ◌&&◌, List, [], ◌∷◌, codes, if◌then◌else◌, Option, None, Some}
 use Rattle.std.specs.Str.{bytes_eq}
-use Rattle.re_items.specs.Numerals.{number_of}
+use Rattle.re_problem.specs.Numerals.{number_of}
 use Rattle.re_settle.specs.declared.words.SettleWord.{SettleWord}
 use Rattle.re_settle.specs.declared.words.TheConstants.{MAX_TIMES}
 

@@ -1,7 +1,7 @@
 //! Lower and upper bounds. Each way that is tried tells the number of rounds that it shows.
 ghost use Rattle.re_cert.specs.declared.certificate.Kind.TheVariants.{Upper};
-ghost use Rattle.re_chain_parts.specs.Chains.{chain_with};
-ghost use Rattle.re_chain_texts.specs.ChainTexts.{problem_chain};
+ghost use Rattle.re_chains.specs.Chains.{chain_with};
+ghost use Rattle.re_chains.specs.ChainTexts.{problem_chain};
 ghost use Rattle.re_problem.specs.NamedProblems.{unnamed};
 ghost use Rattle.re_problem.specs.Zero.{zero_place};
 ghost use Rattle.re_settle.specs.Measures.{IsSmall, doublings, greatest_degree, shortest_labels, shortest_steps};
@@ -15,7 +15,7 @@ use crate::measures::{
 use crate::texts::has_text;
 use crate::types::{Claim, Shown, Way};
 use re_cert::{Certificate, Kind};
-use re_chain_parts::{LowerChain, UpperChain};
+use re_chains::{LowerChain, UpperChain};
 use re_labels::NoMemory;
 use re_longest::{Longest, find_longest};
 use re_problem::Problem;

@@ -26,24 +26,58 @@
 //! What is found is accepted by `check`, and its text is no longer than one that is read; or it is a count of rounds, or a graph without a
 //! solution. Where a text is too long, the way counts as one that finds nothing; for an upper bound without labels left out one with few labels
 //! is looked for, and where no lower bound has a text, `re zero` shows that 0 rounds aren't enough. Where nothing is found, nothing is known.
+//!
+//! How many rounds a problem takes where a solution of an input problem is given, as far as searches with fixed limits find out, and the words
+//! whose answers show it.
+//!
+//! **Order.** Each way has a bound on its work, which is none on its time: so the answer is the same on every machine. What is said of N is
+//! multiplied by N in `settle N`.
+//!
+//! 1. Whether 0 rounds are enough; and where they are too few, the number of rounds, where this is at most `re_settle::MAX_ROUNDS` and no step on
+//!    the way passes a limit or starts from a problem of more than 64 labels. As many rounds as are counted to be too few are known.
+//! 2. The fixed point of the closure of the problem, where `given` accepts it; and a graph of at most 4 active nodes on which the problem has no solution
+//!    and the input problem has one.
+//! 3. An upper bound: what `shortest` finds, where the problem has at most 12 N configurations. Its numbers of steps and labels, and those of `longest`
+//!    below, and the problems in degrees 5 and 2 on which `shortest 6 20` comes first, are those of `re_settle`.
+//! 4. Where no upper bound is found, a fixed point of at most 8 steps with at most 1 merge in each, among the first 300 N problems, where the first four
+//!    derived problems have at most 40 N configurations each; and a graph of at most 64 active nodes that gadgets make in 1,000,000 N steps,
+//!    50,000,000 at most.
+//! 5. Where a question is left, the first two derived problems have at most 160 N configurations each, and the input problem has at most 12 N, the longer
+//!    lower bound of the rounds that are too few and of what `longest` finds.
+//!
+//! Where r rounds are too few, and the labels of the input problem, with its sides exchanged r times, tell the passive configurations in which they
+//! stand, so are r + 1 (`re_given_bounds`).
+//!
+//! What is found is accepted by `given`, and its text with the input problem is no longer than one that is read; or it is a count of rounds, or a
+//! graph with a solution of the input problem. Where a text is too long, the way counts as one that finds nothing. Where nothing is found, nothing
+//! is known.
 #![tactic(auto)]
 
-ghost use Rattle.re_settle.specs.GraphRounds.{GraphRoundsLaw};
-
 mod answering;
+mod answering_given;
 mod bounds;
+mod bounds_given;
 mod coloured;
 mod counting;
+mod counting_given;
+mod given_lines;
+mod given_types;
 mod lines;
 mod measures;
 mod never;
+mod never_given;
 mod settling;
+mod settling_given;
 mod texts;
 mod types;
 mod words;
 
+ghost use Rattle.re_settle.specs.GraphRounds.{GraphRoundsLaw};
+
+pub use answering_given::SettleText;
 pub use bounds::{count_of, has_patterns, upper_chain};
 pub use counting::{MAX_ROUNDS, few_of};
+pub use given_types::SettledGiven;
 pub use lines::{is_final, push_claim, push_counted, push_way, within};
 pub use measures::{
     doublings, greatest_degree, is_small, longest_labels, longest_steps, shortest_labels,
@@ -51,6 +85,7 @@ pub use measures::{
 };
 pub use never::{CYCLE_NODES, CYCLE_SIZE, CYCLE_STEPS, GADGET_STEPS, grows_little};
 pub use settling::settle;
+pub use settling_given::settle_given;
 pub use texts::{has_given_text, has_text};
 pub use types::{Claim, Class, Coloured, ColouredWay, Settled, Shown, Way};
 pub use words::{MAX_TIMES, SettleWord, settle_help, settle_word};

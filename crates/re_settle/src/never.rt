@@ -1,16 +1,14 @@
 //! Fixed points, and graphs without a solution. Each function tries one way to show that no number of rounds solves a problem, and tells the words
 //! that show it.
-ghost use Rattle.re_chain.specs.Merging.{merge_limit, merge_refusal, merged};
-ghost use Rattle.re_chain_texts.specs.ChainTexts.{problem_chain};
+ghost use Rattle.re_shaping.specs.Merging.{merge_limit, merge_refusal, merged};
+ghost use Rattle.re_chains.specs.ChainTexts.{problem_chain};
 ghost use Rattle.re_settle.specs.Ways.{ClosesBehind, HasText, IsExcluded, IsFixedPoint, IsTried};
 ghost use Rattle.std.specs.Prelude.{◌≡◌, ◌<◌, ◌≤◌, IfOk, IfSome, None, length};
 
 use crate::measures::is_small;
 use crate::texts::has_text;
 use crate::types::Way;
-use re_chain::{MergeFault, merge_lower};
-use re_chain_parts::{LowerChain, over_problems};
-use re_chain_steps::{ChainStepFault, step_lower};
+use re_chains::{LowerChain, over_problems};
 use re_closure::{Closing, ClosureFault, find_closure, find_raised};
 use re_cycle::{Cycle, find_cycle};
 use re_gadgets::{MAX_STEPS, find_gadgets};
@@ -19,6 +17,7 @@ use re_labels::NoMemory;
 use re_problem::Problem;
 use re_relaxed::{Relaxed, find_relaxed};
 use re_search::{FindFault, Search, find_fixed};
+use re_shaping::{ChainStepFault, MergeFault, merge_lower, step_lower};
 use re_step::{StepFault, step as derive};
 use std::alloc::Global;
 

@@ -1,6 +1,6 @@
 //! What is known of a problem.
 ghost use Rattle.re_given_words.specs.Counting.{MayTell};
-ghost use Rattle.re_chain_texts.specs.ChainTexts.{problem_chain};
+ghost use Rattle.re_chains.specs.ChainTexts.{problem_chain};
 ghost use Rattle.re_problem.specs.NamedProblems.{unnamed};
 ghost use Rattle.re_problem.specs.Zero.{zero_place};
 ghost use Rattle.re_settle.specs.Ways.{IsExcluded, IsSettled};
@@ -11,12 +11,10 @@ use crate::coloured::coloured_way;
 use crate::counting::{MAX_ROUNDS, counted, more_way, steps_of};
 use crate::never::{cover_way, far_way, near_way};
 use crate::types::{Settled, Shown, Way};
-use re_chain_parts::LowerChain;
-use re_chain_texts::problem_chain;
+use re_chains::{LowerChain, problem_chain};
 use re_given_words::Counted;
 use re_labels::NoMemory;
-use re_problem::Problem;
-use re_zero::zero_round;
+use re_problem::{Problem, zero_round};
 use std::alloc::Global;
 
 // More than so many rounds, by steps without changes, and one more suffices.

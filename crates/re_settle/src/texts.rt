@@ -1,15 +1,15 @@
 //! Whether what is found can be written out.
 ghost use Rattle.re_settle.specs.Ways.{HasText};
-ghost use Rattle.re_two_texts.specs.GivenTexts.{IsGivenText, given_text};
+ghost use Rattle.re_chains.specs.GivenTexts.{IsGivenText, given_text};
 ghost use Rattle.std.specs.Prelude.{◌≡◌, IfOk, true};
 
 use re_cert::Certificate;
-use re_cert_text::print_certificate;
+use re_chains::print_given;
 use re_frame::Answer;
 use re_io::MAX_BYTES;
 use re_labels::NoMemory;
 use re_problem::Problem;
-use re_two_texts::print_given;
+use re_texts::print_certificate;
 use std::alloc::Global;
 
 /// Whether the text of the certificate is no longer than one that is read, which is where it is read as the certificate.

@@ -2,7 +2,7 @@
 ghost use Rattle.re_settle.specs.Words.{IsSettleWord, settle_help, settle_with, settle_word_of};
 ghost use Rattle.std.specs.Prelude.{◌≡◌, IfSome, map, string_bytes};
 
-use re_items::read_number;
+use re_problem::read_number;
 
 /// How often the bounds of the searches may be taken.
 pub const MAX_TIMES: u32 = 64;

@@ -2,7 +2,7 @@
 use Rattle.std.specs.Prelude.{◌≡◌, ℕ, Option, Some, None}
 use Rattle.re_cert.specs.Bounds.{Bound}
 use Rattle.re_cert.specs.declared.certificate.Kind.TheVariants.{Upper}
-use Rattle.re_extend.specs.Extensions.{GoesOn}
+use Rattle.re_shaping.specs.Extensions.{GoesOn}
 use Rattle.re_given_words.specs.Extensions.{GoesOnGiven}
 use Rattle.re_problem.specs.NamedProblems.{NamedProblem}
 use Rattle.re_shortest.specs.declared.shortening.Shortest.{Shortest}

@@ -1,6 +1,5 @@
 //! How near a problem is to being solvable without communication, where some of its labels stay.
-use re_config::Config;
-use re_labels::{LabelSet, MAX_LABELS, NoMemory};
+use re_labels::{Config, LabelSet, MAX_LABELS, NoMemory};
 use re_problem::Problem;
 use std::alloc::Global;
 

@@ -1,8 +1,7 @@
 //! Right-closed sets, and the good rows in which one of them stands at all places but one.
 use crate::patterns::Pattern;
-use re_config::Row;
-use re_labels::{LabelSet, MAX_LABELS, NoMemory};
-use re_rests::up_sets;
+use re_boxes::up_sets;
+use re_labels::{LabelSet, MAX_LABELS, NoMemory, Row};
 use re_table::Constraint;
 use std::alloc::Global;
 

@@ -6,9 +6,8 @@ use re_beams::{Candidates, Given, Kept, State, Told};
 use re_cert::Step;
 use re_changes::Changed;
 use re_labels::{LabelSet, MAX_LABELS, NoMemory};
-use re_problem::Problem;
+use re_problem::{Problem, zero_round};
 use re_step::{Derived, StepFault, step};
-use re_zero::zero_round;
 use std::alloc::Global;
 
 /// How many candidates of a level stay.

@@ -5,7 +5,7 @@ use re_beams::{State, has_mark};
 use re_changes::Changed;
 use re_labels::{LabelSet, MAX_LABELS, NoMemory};
 use re_problem::Problem;
-use re_renaming::problem_mark;
+use re_shaping::problem_mark;
 use std::alloc::Global;
 
 /// How many problems of the inner beam stay after each label that is left out.

@@ -1,6 +1,5 @@
 //! Sets of labels that passive nodes of degree 2 take to each other, and the problem between whose labels they are.
-use re_config::Config;
-use re_labels::{LabelSet, MAX_LABELS, NoMemory};
+use re_labels::{Config, LabelSet, MAX_LABELS, NoMemory};
 use re_problem::Problem;
 use std::alloc::Global;
 

@@ -4,11 +4,9 @@ use crate::opposites::{Sides, beside_labels, opposite_pairs, sides_of};
 use crate::patterns::{Pattern, family_of, patterns_of};
 use re_beams::next_size;
 use re_cert::{SetEntry, Step, StepParts};
-use re_config::Config;
-use re_exist::{AllowedFault, allowed};
-use re_labels::{LabelSet, MAX_LABELS, NoMemory};
+use re_labels::{Config, LabelSet, MAX_LABELS, NoMemory};
 use re_problem::Problem;
-use re_step::{names_of, place_of};
+use re_step::{AllowedFault, allowed, names_of, place_of};
 use re_table::{Constraint, InsertFault};
 use std::alloc::Global;
 

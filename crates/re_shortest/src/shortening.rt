@@ -1,7 +1,7 @@
 //! The certificate of the shortest path.
 ghost use Rattle.re_cert.specs.Bounds.{last_problem};
 ghost use Rattle.re_cert.specs.declared.certificate.Kind.TheVariants.{Upper};
-ghost use Rattle.re_extend.specs.Extensions.{GoesOn};
+ghost use Rattle.re_shaping.specs.Extensions.{GoesOn};
 ghost use Rattle.re_shortest.specs.Answers.{AnswersAt};
 ghost use Rattle.re_problem.specs.NamedProblems.{unnamed};
 ghost use Rattle.re_problem.specs.Zero.{zero_place};
@@ -10,11 +10,11 @@ ghost use Rattle.std.specs.Prelude.{◌≡◌, [], IfOk, IfSome, None};
 use crate::beam::{Climb, shortest_path};
 use re_beams::Given;
 use re_cert::{Certificate, Kind, MAX_STEPS, Step};
-use re_chain_parts::{UpperChain, over_problems};
+use re_chains::{UpperChain, over_problems};
 use re_check::check;
-use re_extend::{Extension, extended};
 use re_labels::NoMemory;
-use re_zero::zero_round;
+use re_problem::zero_round;
+use re_shaping::{Extension, extended};
 use std::alloc::Global;
 
 /// What the search for an upper bound comes to.

@@ -10,7 +10,7 @@ use crate::beam::{Climb, shortest_path};
 use crate::shortening::{Shortest, upper_with};
 use re_beams::Given;
 use re_cert::{Certificate, MAX_STEPS, Step};
-use re_chain_parts::UpperChain;
+use re_chains::UpperChain;
 use re_given_words::{FEW_TRIES, extended_given};
 use re_labels::NoMemory;
 use re_problem::Problem;

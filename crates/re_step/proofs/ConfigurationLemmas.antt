@@ -2,8 +2,8 @@
 use Rattle.std.proofs.Common.{◌≡◌, ℕ, zero, suc, ◌<◌, ◌≤◌, ◌+◌, List, [], ◌∷◌, ◌++◌, length, map, take, get_or, Contains, refl, sym, ap, ◌∙◌, subst, arith}
 use Rattle.std.specs.List.{AllByRecursion}
 use Rattle.std.proofs.lemmas.List.{take_more}
-use Rattle.re_config.proofs.Sorting.{length-sorted}
-use Rattle.re_config.specs.Configs.{sorted}
+use Rattle.re_labels.proofs.Sorting.{length-sorted}
+use Rattle.re_labels.specs.Configs.{sorted}
 use Rattle.re_labels.proofs.ListSets.{list_set_push}
 use Rattle.re_labels.proofs.Membership.{AllByRecursion-contains, Contains-here, Contains-later, length-map'}
 use Rattle.re_labels.proofs.Places.{place_of-below}

@@ -1,5 +1,5 @@
 -- The names of the labels of a derived problem.
-use Rattle.re_config.proofs.Sorting.{take_all}
+use Rattle.re_labels.proofs.Sorting.{take_all}
 use Rattle.std.proofs.Common.{◌≡◌, ℕ, zero, suc, ◌<◌, ◌≤◌, ◌+◌, Bool, true, false, cond, leb, List, [], ◌∷◌, ◌++◌, ◌&&◌, length, map, take, get_or, ◌⊎◌, codes, inl, inr, refl, sym, ap, ◌∙◌, subst, arith}
 use Rattle.std.specs.List.{AllByRecursion, list_all}
 use Rattle.std.specs.Cmp.Lexicographic.{slice_cmp}

@@ -1,13 +1,13 @@
 -- The derived problem, its sets and its limits.
-use Rattle.re_strength.proofs.LabelsAbove.{ltb_not}
+use Rattle.re_boxes.proofs.LabelsAbove.{ltb_not}
 use Rattle.re_problem.proofs.ZeroPlaces.{get-Contains}
-use Rattle.re_config.proofs.Rows.{number_filled}
+use Rattle.re_labels.proofs.Rows.{number_filled}
 use Rattle.std.proofs.Common.{◌≡◌, ℕ, zero, suc, ◌<◌, ◌≤◌, Bool, false, cond, ltb, List, [], ◌∷◌, length, map, flat_map, get_or, Contains, Option, None, Some, is_some, inl, refl, sym, ap, ◌∙◌, subst, arith}
 use Rattle.std.specs.List.{AllByRecursion}
 use Rattle.std.specs.Prelude.{◌*◌, MatchOption}
 use Rattle.std.proofs.lemmas.Bool.{false≢true}
-use Rattle.re_config.proofs.Sorting.{sorted_again}
-use Rattle.re_config.specs.Configs.{IsConfig, sorted}
+use Rattle.re_labels.proofs.Sorting.{sorted_again}
+use Rattle.re_labels.specs.Configs.{IsConfig, sorted}
 use Rattle.re_labels.proofs.ListSets.{In-list_set, list_set-In, one_set, rising-list_set}
 use Rattle.re_labels.proofs.Membership.{AllByRecursion-contains, AllByRecursion-from_contains, AllByRecursion-weaker, Contains-flat_map, Contains-flat_map_cases, Contains-map, map-alike}
 use Rattle.re_labels.proofs.Before.{same_list-refl}
@@ -31,7 +31,7 @@ use Rattle.re_step.specs.declared.derivation.StepLimit.TheVariants.{Configuratio
 use Rattle.re_labels.proofs.Numbers.{not_same}
 use Rattle.re_table.specs.declared.constraint_table.TheConstants.{MAX_CONFIGURATIONS}
 use Rattle.re_labels.specs.declared.TheConstants.{MAX_LABELS}
-use Rattle.re_config.specs.declared.TheConstants.{MAX_ROWS}
+use Rattle.re_labels.specs.declared.TheConstants.{MAX_ROWS}
 
 -- ---- the sets of the maximal rows
 set_is : (K : Constraint) (n : ℕ) (row : List (List ℕ)) → Contains (max_rows K n) row → (set : List ℕ) → Contains row set → IsLabelSet n set × (0 < length set)

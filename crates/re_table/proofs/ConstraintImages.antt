@@ -3,8 +3,8 @@ use Rattle.std.proofs.Common.{List, ap, map, not, subst, sym, ℕ, ◌<◌, ◌=
 use Rattle.std.specs.Prelude.{Contains}
 use Rattle.std.specs.List.{list_any}
 use Rattle.std.proofs.lemmas.Simd.{map-map}
-use Rattle.re_config.proofs.Sorting.{IsConfig-sorted, sorted_again, sorted_map}
-use Rattle.re_config.specs.Configs.{IsConfig, image_at, image_of, sorted}
+use Rattle.re_labels.proofs.Sorting.{IsConfig-sorted, sorted_again, sorted_map}
+use Rattle.re_labels.specs.Configs.{IsConfig, image_at, image_of, sorted}
 use Rattle.re_labels.proofs.ListSets.{In-list_set, list_set-In, rising-list_set}
 use Rattle.re_labels.proofs.Membership.{AllByRecursion-In, AllByRecursion-contains, AllByRecursion-from_In, AllByRecursion-from_contains, Contains-In, Contains-filter_cases, In, In-Contains, In-map, In-map_from, length-map'}
 use Rattle.re_table.specs.Constraints.{Constraint, Has, IsConstraint, images_of}

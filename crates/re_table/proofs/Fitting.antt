@@ -3,13 +3,13 @@ use Rattle.std.proofs.Common.{◌≡◌, ℕ, zero, suc, ◌<◌, ◌≤◌, ◌
 use Rattle.std.proofs.Math.Seq.{drop-cons}
 use Rattle.std.specs.List.{remove}
 use Rattle.std.specs.Prelude.{Contains, IsTrue, ◌↔◌}
-use Rattle.re_config.proofs.ChoicesOfRows.{IsChoice-Rearranged}
-use Rattle.re_config.proofs.Sorting.{Rearranged-sorted, sorted-Rearranged, sorted_again}
-use Rattle.re_config.specs.Configs.{IsConfig, sorted}
-use Rattle.re_config.proofs.Placing.{Pick, here, picked, there, no_length}
-use Rattle.re_config.proofs.Rearranging.{AllZip-Rearranged, Rearranged-refl, Rearranged-sym, length-Rearranged}
-use Rattle.re_config.specs.Rearranging.{Rearranged, chained, kept, swapped, unmoved}
-use Rattle.re_config.specs.Rows.{IsChoice}
+use Rattle.re_labels.proofs.ChoicesOfRows.{IsChoice-Rearranged}
+use Rattle.re_labels.proofs.Sorting.{Rearranged-sorted, sorted-Rearranged, sorted_again}
+use Rattle.re_labels.specs.Configs.{IsConfig, sorted}
+use Rattle.re_labels.proofs.Placing.{Pick, here, picked, there, no_length}
+use Rattle.re_labels.proofs.Rearranging.{AllZip-Rearranged, Rearranged-refl, Rearranged-sym, length-Rearranged}
+use Rattle.re_labels.specs.Rearranging.{Rearranged, chained, kept, swapped, unmoved}
+use Rattle.re_labels.specs.Rows.{IsChoice}
 use Rattle.re_labels.proofs.Before.{three_ways}
 use Rattle.re_labels.proofs.ListSets.{list_set-In}
 use Rattle.re_labels.proofs.Membership.{AllByRecursion-contains, In-Contains}

@@ -9,8 +9,8 @@ use Rattle.std.proofs.lemmas.List.{take_more}
 use Rattle.re_labels.proofs.ListSets.{In-list_set, In-with_list, cases_of, list_set-In, list_set_map, list_set_push, one_set, rising-list_set, rising-with_list}
 use Rattle.re_labels.proofs.Membership.{In, In-append_cases, In-append_left, In-map_from, AllByRecursion-In, AllByRecursion-from_In, AllByRecursion-from_contains, all-push, Contains-In, Contains-map_cases, In-Contains, length-map'}
 use Rattle.re_labels.specs.ListSets.{list_set, with_list}
-use Rattle.re_config.proofs.Sorting.{IsConfig-of_sorted, length-sorted}
-use Rattle.re_config.specs.Configs.{IsConfig, image_at, image_of, sorted}
+use Rattle.re_labels.proofs.Sorting.{IsConfig-of_sorted, length-sorted}
+use Rattle.re_labels.specs.Configs.{IsConfig, image_at, image_of, sorted}
 use Rattle.re_table.specs.Constraints.{IsConstraint, with_each}
 use Rattle.re_table.specs.PrefixTrees.{held_configs, leaf_configs}
 use Rattle.re_table.specs.declared.prefix_tree.Node.{Node}

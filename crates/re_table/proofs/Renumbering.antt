@@ -5,8 +5,8 @@ use Rattle.std.proofs.lemmas.List.Elements.{Contains-get_or}
 use Rattle.std.proofs.lemmas.List.Sums.{sum_by-cons}
 use Rattle.std.specs.List.{AllByRecursion}
 use Rattle.std.specs.Prelude.{count_by}
-use Rattle.re_config.proofs.Sorting.{sorted_again}
-use Rattle.re_config.specs.Configs.{IsConfig, image_at, image_of}
+use Rattle.re_labels.proofs.Sorting.{sorted_again}
+use Rattle.re_labels.specs.Configs.{IsConfig, image_at, image_of}
 use Rattle.re_labels.proofs.Before.{IsBefore-apart, IsBefore-cases, IsBefore-head, IsBefore-tail, three_ways}
 use Rattle.re_labels.proofs.ListSets.{In-list_set, list_set-In, list_set_map, one_set, rising-list_set}
 use Rattle.re_labels.proofs.Membership.{AllByRecursion-In, AllByRecursion-from_In, Contains-In, In, In-append_left, In-append_right, length-map', map-alike}

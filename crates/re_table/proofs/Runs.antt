@@ -4,8 +4,8 @@ use Rattle.std.proofs.lemmas.List.{append-nil, get_or_append_left, map-append}
 use Rattle.std.proofs.Math.Seq.{get_or-append_seam}
 use Rattle.std.specs.List.{AllByRecursion}
 use Rattle.std.specs.Prelude.{Contains, None}
-use Rattle.re_config.proofs.Sorting.{length-sorted, rising_with_last}
-use Rattle.re_config.specs.Configs.{sorted}
+use Rattle.re_labels.proofs.Sorting.{length-sorted, rising_with_last}
+use Rattle.re_labels.specs.Configs.{sorted}
 use Rattle.re_labels.proofs.ListSets.{list_set-longer, list_set_append, list_set_push}
 use Rattle.re_labels.proofs.Membership.{AllByRecursion-weaker, In-Contains}
 use Rattle.re_labels.specs.Lists.{IsRising}

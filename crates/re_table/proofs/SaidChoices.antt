@@ -3,9 +3,9 @@ use Rattle.re_labels.proofs.Membership.{all-append}
 use Rattle.std.proofs.Common.{◌≡◌, ℕ, suc, ◌<◌, ◌+◌, ◌-◌, Bool, true, false, eqb, ◌&&◌, List, [], ◌∷◌, ◌++◌, length, map, take, refl, sym, ap, ◌∙◌, subst, arith, Some, append_assoc, append-nil, length-append}
 use Rattle.std.specs.Prelude.{Contains, IsTrue, ◌↔◌}
 use Rattle.std.specs.List.{list_all}
-use Rattle.re_config.proofs.LeastLabels.{first-is}
-use Rattle.re_config.specs.Configs.{sorted}
-use Rattle.re_config.specs.Rows.{choices, is_full}
+use Rattle.re_labels.proofs.LeastLabels.{first-is}
+use Rattle.re_labels.specs.Configs.{sorted}
+use Rattle.re_labels.specs.Rows.{choices, is_full}
 use Rattle.re_labels.proofs.Tests.{eqb-same, same_tests, and-whole}
 use Rattle.re_labels.specs.Lists.{IsRising}
 use Rattle.re_labels.specs.Sets.{IsLabelSet, first_of, without_label}

@@ -1,13 +1,13 @@
 -- Rows of sets that stand in any order.
 use Rattle.std.proofs.Common.{◌≡◌, ℕ, ◌<◌, ◌≤◌, List, length, map, refl, sym, ap, ◌∙◌, subst, Some}
 use Rattle.std.specs.List.{AllByRecursion}
-use Rattle.re_config.proofs.Placing.{row_found}
-use Rattle.re_config.proofs.Rearranging.{Rearranged-map, Rearranged-sym, length-Rearranged}
-use Rattle.re_config.proofs.Rows.{row_numbers}
-use Rattle.re_config.proofs.Sorting.{Rearranged-sorted}
-use Rattle.re_config.specs.Configs.{sorted}
-use Rattle.re_config.specs.Rearranging.{Rearranged}
-use Rattle.re_config.specs.Rows.{in_order, row_of}
+use Rattle.re_labels.proofs.Placing.{row_found}
+use Rattle.re_labels.proofs.Rearranging.{Rearranged-map, Rearranged-sym, length-Rearranged}
+use Rattle.re_labels.proofs.Rows.{row_numbers}
+use Rattle.re_labels.proofs.Sorting.{Rearranged-sorted}
+use Rattle.re_labels.specs.Configs.{sorted}
+use Rattle.re_labels.specs.Rearranging.{Rearranged}
+use Rattle.re_labels.specs.Rows.{in_order, row_of}
 use Rattle.re_labels.proofs.Membership.{AllByRecursion-weaker}
 use Rattle.re_labels.proofs.Tests.{same_tests}
 use Rattle.re_labels.specs.Sets.{IsLabelSet, number, set_of}

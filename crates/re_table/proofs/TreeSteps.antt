@@ -8,7 +8,7 @@ use Rattle.std.specs.Prelude.{Contains, count_by, map}
 use Rattle.re_labels.proofs.Before.{same_list-same, three_ways}
 use Rattle.re_labels.proofs.ListSets.{cases_of, list_set_push}
 use Rattle.std.proofs.lemmas.List.Elements.{Contains-get_or}
-use Rattle.re_config.specs.Configs.{IsConfig}
+use Rattle.re_labels.specs.Configs.{IsConfig}
 use Rattle.re_labels.proofs.Membership.{AllByRecursion-contains, In, In-Contains}
 use Rattle.re_labels.proofs.Tests.{eqb-apart, eqb-same, eqb-true}
 use Rattle.re_labels.specs.ListSets.{list_set, with_list}

@@ -1,6 +1,6 @@
 -- Nodes of a prefix tree whose labels are renumbered in place.
 use Rattle.std.specs.Prelude.{List, ℕ}
-use Rattle.re_config.specs.Configs.{image_at, image_of}
+use Rattle.re_labels.specs.Configs.{image_at, image_of}
 use Rattle.re_table.specs.declared.prefix_tree.Kind.{Kind}
 use Rattle.re_table.specs.declared.prefix_tree.Kind.TheVariants.{Inner, Leaf}
 use Rattle.re_table.specs.declared.prefix_tree.Node.{Node}

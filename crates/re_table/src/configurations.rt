@@ -5,7 +5,7 @@ ghost use Rattle.std.specs.Iterator.{YieldsFirstRef, item_count};
 ghost use Rattle.std.specs.Prelude.{◌≡◌, ◌<◌, ◌≤◌, ◌+◌, ◌^◌, ℕ, length, slice_index_or, []};
 
 use crate::prefix_tree::{Kind, Node, first_of, leaf_count};
-use re_config::Config;
+use re_labels::Config;
 use std::marker::Model;
 
 // The way down a prefix tree to one of its leaves: the number of the leaf in their order, and the places of the nodes on the way,

@@ -2,7 +2,7 @@
 ghost use Rattle.re_labels.specs.Lists.{IsBefore, IsRising, place_of};
 ghost use Rattle.re_labels.specs.ListSets.{list_set, with_list};
 ghost use Rattle.re_labels.specs.Sets.{has};
-ghost use Rattle.re_config.specs.Configs.{image_of};
+ghost use Rattle.re_labels.specs.Configs.{image_of};
 ghost use Rattle.std.specs.List.Sorted.{IsPermutation};
 ghost use Rattle.re_table.specs.Constraints.{IsConstraint, images_of, with_each};
 ghost use Rattle.re_table.specs.GoodRows.{is_allowed};
@@ -16,8 +16,7 @@ use crate::prefix_tree::{
     Node, Trail, copied, is_held, labels_of, leaf_at, leaf_count, leaf_images, make_root, put,
     put_each, renumber_nodes,
 };
-use re_config::{Config, Row};
-use re_labels::{LabelSet, MAX_LABELS, NoMemory};
+use re_labels::{Config, LabelSet, MAX_LABELS, NoMemory, Row};
 use std::alloc::Global;
 use std::marker::Model;
 

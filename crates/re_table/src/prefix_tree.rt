@@ -1,7 +1,7 @@
 //! The nodes of a prefix tree of configurations, in one vector.
 ghost use Rattle.re_table.specs.PrefixTrees.{IsInnerPlace, IsPrefixTree, IsTable, IsTree, configs_of, first_of, held_configs, leaf_configs, leaves_of, node_at, prefix};
 ghost use Rattle.re_table.specs.TreeGrowth.{IsChildBefore, IsFound, IsLastLeaf, IsLonger, linked, places_up, way_nodes, with_first, with_leaves};
-ghost use Rattle.re_config.specs.Configs.{image_at, image_of, sorted};
+ghost use Rattle.re_labels.specs.Configs.{image_at, image_of, sorted};
 ghost use Rattle.re_labels.specs.Lists.{IsRising};
 ghost use Rattle.re_table.specs.Constraints.{with_each};
 ghost use Rattle.re_labels.specs.ListSets.{list_set, with_list};
@@ -14,8 +14,7 @@ ghost use Rattle.re_table.specs.TreeWalks.{IsMissing, IsWalked, precedes};
 ghost use Rattle.std.specs.Prelude.{◌≡◌, ◌<◌, ◌≤◌, ◌+◌, ◌^◌, ◌==◌, ◌∷◌, ◌++◌, [], ℕ, Contains, List, IfOk, IfSome, IsTrue, MatchOption, MatchResult, OnErr, OnOk, ◌↔◌, true, count_by, map, length, slice_index_or};
 
 use crate::{InsertFault, MAX_CONFIGURATIONS};
-use re_config::Config;
-use re_labels::{LabelSet, MAX_LABELS, NoMemory};
+use re_labels::{Config, LabelSet, MAX_LABELS, NoMemory};
 use std::alloc::Global;
 
 /// What lies below a node: an inner node names its first child and counts the leaves below it, and a leaf holds a configuration.

@@ -7,14 +7,14 @@ use Rattle.std.proofs.lemmas.Bool.{false≢true}
 use Rattle.std.proofs.lemmas.Bool.Decides.{nat_tests}
 use Rattle.re_algo.specs.Tables.{AnswerTable, IsTable, views_of}
 use Rattle.re_cert.specs.Entries.{image_labels, label_items, labels_in, of_length}
-use Rattle.re_items.specs.Bytes.{bad_byte, is_empty_line}
-use Rattle.re_items.specs.Items.{ItemText}
+use Rattle.re_problem.specs.Bytes.{bad_byte, is_empty_line}
+use Rattle.re_problem.specs.Items.{ItemText}
 use Rattle.re_labels.proofs.Membership.{all-push}
 use Rattle.re_labels.proofs.Tests.{eqb-true}
 use Rattle.re_labels.specs.PortLabels.{port_labels}
-use Rattle.re_places.proofs.CountCode.{few-listed}
-use Rattle.re_places.specs.Counting.{view_count}
-use Rattle.re_places.specs.declared.counting.TheConstants.{MAX_VIEWS}
+use Rattle.re_algo.proofs.CountCode.{few-listed}
+use Rattle.re_algo.specs.Counting.{view_count}
+use Rattle.re_algo.specs.declared.counting.TheConstants.{MAX_VIEWS}
 use Rattle.re_problem.specs.NamedProblems.{IsNamedProblem, NamedProblem}
 use Rattle.re_problem.specs.ProblemTexts.{byte_fault, end_fault, fault_at, fault_or, problem_of}
 use Rattle.re_problem.specs.TextReading.{Reads}
@@ -22,7 +22,7 @@ use Rattle.re_problem.specs.declared.fault.InputFault.{InputFault}
 use Rattle.re_problem.specs.declared.fault.InputFault.TheVariants.{BadEntry, BadSection}
 use Rattle.re_problem.specs.declared.fault.TextFault.{TextFault}
 use Rattle.re_problem.specs.declared.text_reader.TextReader.{TextReader}
-use Rattle.re_sections.specs.SectionLines.{is_section}
+use Rattle.re_problem.specs.SectionLines.{is_section}
 use Rattle.re_table_texts.specs.Reading.{Holds, IsAt, IsBegun}
 use Rattle.re_table_texts.specs.SectionLines.{section_of}
 use Rattle.re_table_texts.specs.TableTexts.{State, are_all, has_room, judged, judged_start, judged_table, judged_text, may_stand, next_begins, problem_begins, table_begins, table_counted, table_of, takes_items, takes_labels, text_ends}

@@ -4,9 +4,9 @@ use Rattle.std.specs.List.{AllByRecursion, list_all}
 use Rattle.std.proofs.lemmas.Bool.{cases_lt}
 use Rattle.std.proofs.lemmas.Fmt.{decimal_digit, decimal_step}
 use Rattle.std.proofs.lemmas.Grind.{flat_map-append}
-use Rattle.re_canonical.proofs.BlocksWritten.{block_written}
-use Rattle.re_canonical.proofs.ReadBack.{all_append, text_ended}
-use Rattle.re_canonical.specs.CanonicalLines.{block_lines, canonical_lines}
+use Rattle.re_texts.proofs.BlocksWritten.{block_written}
+use Rattle.re_texts.proofs.ReadBack.{all_append, text_ended}
+use Rattle.re_texts.specs.CanonicalLines.{block_lines, canonical_lines}
 use Rattle.re_labels.proofs.Tests.{and-true}
 use Rattle.re_problem.proofs.EndedLines.{NoFeed, lines_in-ended, parts-ended}
 use Rattle.re_problem.specs.NamedProblems.{IsNamedProblem, NamedProblem}

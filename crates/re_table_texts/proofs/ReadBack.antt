@@ -6,22 +6,22 @@ use Rattle.std.specs.Option.{option_and_then}
 use Rattle.std.proofs.lemmas.Bool.Decides.{nat_tests}
 use Rattle.re_algo.proofs.SlowerCode.{radius_small}
 use Rattle.re_algo.specs.Tables.{AnswerTable, IsTable, views_of}
-use Rattle.re_canonical.proofs.ReadBack.{all_append, canonical_law, canonical_lines_law}
-use Rattle.re_canonical.specs.CanonicalLines.{IsWithinLimits, canonical_lines}
+use Rattle.re_texts.proofs.ReadBack.{all_append, canonical_law, canonical_lines_law}
+use Rattle.re_texts.specs.CanonicalLines.{IsWithinLimits, canonical_lines}
 use Rattle.re_cert.specs.Entries.{image_labels, image_on, label_items}
 use Rattle.re_labels.specs.PortLabels.{port_labels}
-use Rattle.re_cert_text.proofs.EntryLines.{image_line_law}
-use Rattle.re_cert_text.specs.CertificateLines.{IsRead}
-use Rattle.re_items.specs.Items.{ItemText}
+use Rattle.re_texts.proofs.EntryLines.{image_line_law}
+use Rattle.re_texts.specs.CertificateLines.{IsRead}
+use Rattle.re_problem.specs.Items.{ItemText}
 use Rattle.re_labels.proofs.Tests.{eqb-same}
-use Rattle.re_places.proofs.CountCode.{listed-few}
-use Rattle.re_places.specs.Counting.{view_count}
+use Rattle.re_algo.proofs.CountCode.{listed-few}
+use Rattle.re_algo.specs.Counting.{view_count}
 use Rattle.re_problem.proofs.EndedLines.{NoFeed, no_feed}
 use Rattle.re_problem.specs.CanonicalTexts.{canonical}
 use Rattle.re_problem.specs.NamedProblems.{IsNamedProblem, NamedProblem}
 use Rattle.re_problem.specs.ProblemTexts.{end_fault, fault_at, fault_or, first_fault, first_from, lines_of, problem_of}
 use Rattle.re_problem.specs.declared.fault.InputFault.TheVariants.{BadEntry, BadSection}
-use Rattle.re_sections.proofs.InnerLines.{inner_line, neither}
+use Rattle.re_problem.proofs.InnerLines.{inner_line, neither}
 use Rattle.re_table_texts.proofs.JudgedLines.{table-filled, text-line, text-section}
 use Rattle.re_table_texts.proofs.PrintedLines.{answer_lines, canonical_feeds, lines_ended, problem_line_feeds, table_line, table_line_feeds, table_lines, table_text_ended}
 use Rattle.re_table_texts.specs.PrintedTables.{IsTableFor, TableTextLaw, answer_text, table_text}

@@ -2,7 +2,7 @@
 use Rattle.std.specs.Prelude.{◌≡◌, ℕ, ◌≤◌, true, length, IsSome, unwrap_or, Result, Ok, Err}
 use Rattle.std.specs.List.{AllByRecursion}
 use Rattle.re_algo.specs.Tables.{views_of}
-use Rattle.re_places.specs.declared.counting.TheConstants.{MAX_VIEWS}
+use Rattle.re_algo.specs.declared.counting.TheConstants.{MAX_VIEWS}
 use Rattle.re_problem.specs.NamedProblems.{NamedProblem}
 use Rattle.re_problem.specs.TextReading.{IsRefused, Reads}
 use Rattle.re_problem.specs.declared.fault.InputFault.{InputFault}

@@ -1,8 +1,8 @@
 -- The sections of the text of a table.
 use Rattle.std.specs.Prelude.{ℕ, nat_le, List, [], ◌∷◌, if◌then◌else◌, Option, None, Some, codes}
 use Rattle.std.specs.Str.{bytes_eq}
-use Rattle.re_items.specs.Numerals.{number_of}
-use Rattle.re_sections.specs.SectionLines.{is_section, words_of}
+use Rattle.re_problem.specs.Numerals.{number_of}
+use Rattle.re_problem.specs.SectionLines.{is_section, words_of}
 use Rattle.re_table_texts.specs.declared.TheConstants.{MAX_RADIUS}
 use Rattle.re_table_texts.specs.declared.sections.Section.{Section}
 use Rattle.re_table_texts.specs.declared.sections.Section.TheVariants.{Next, Other, Problem, Table}

@@ -3,14 +3,14 @@ use Rattle.std.specs.Prelude.{ℕ, ◌+◌, ◌==◌, nat_le, nat_lt, Bool, true
 use Rattle.std.specs.Option.{option_map}
 use Rattle.re_algo.specs.Tables.{AnswerTable, views_of}
 use Rattle.re_cert.specs.Entries.{image_labels, label_items}
-use Rattle.re_items.specs.Bytes.{bad_byte, is_empty_line}
-use Rattle.re_items.specs.Items.{ItemText}
-use Rattle.re_places.specs.Counting.{view_count}
+use Rattle.re_problem.specs.Bytes.{bad_byte, is_empty_line}
+use Rattle.re_problem.specs.Items.{ItemText}
+use Rattle.re_algo.specs.Counting.{view_count}
 use Rattle.re_problem.specs.NamedProblems.{NamedProblem}
 use Rattle.re_problem.specs.ProblemTexts.{byte_fault, end_fault, fault_at, fault_or, lines_of, problem_of}
 use Rattle.re_problem.specs.declared.fault.InputFault.{InputFault}
 use Rattle.re_problem.specs.declared.fault.InputFault.TheVariants.{BadItem, BadSection, BadEntry, EarlyEnd, TooManyViews}
-use Rattle.re_sections.specs.SectionLines.{is_section}
+use Rattle.re_problem.specs.SectionLines.{is_section}
 use Rattle.re_table_texts.specs.SectionLines.{section_of}
 use Rattle.re_table_texts.specs.declared.sections.Section.{Section}
 use Rattle.re_table_texts.specs.declared.sections.Section.TheVariants.{Next, Problem, Table}

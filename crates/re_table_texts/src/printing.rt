@@ -1,6 +1,6 @@
 //! The printing of tables.
 ghost use Rattle.re_algo.specs.Tables.{IsTable};
-ghost use Rattle.re_canonical.specs.CanonicalLines.{IsWithinLimits};
+ghost use Rattle.re_texts.specs.CanonicalLines.{IsWithinLimits};
 ghost use Rattle.re_problem.specs.CanonicalTexts.{canonical};
 ghost use Rattle.re_problem.specs.NamedProblems.{IsNamedProblem};
 ghost use Rattle.re_table_texts.specs.PrintedTables.{IsTableFor, answer_text, answers_text, table_text};
@@ -12,10 +12,10 @@ ghost use Rattle.std.specs.Prelude.{◌≡◌, ◌<◌, ◌++◌, codes, IfOk, N
 use crate::table_texts::TableForm;
 use re_algo::Table;
 use re_cert::RowImage;
-use re_cert_text::push_image;
 use re_labels::{Names, NoMemory, PortLabels};
 use re_printing::push_all;
 use re_problem::{Problem, push_problem};
+use re_texts::push_image;
 use std::alloc::{AllocError, Global};
 
 // Appends an answer: its labels with one space between.

@@ -1,7 +1,7 @@
 //! The lines of the text of a table, one after another.
 ghost use Rattle.re_cert.specs.Entries.{label_items};
 ghost use Rattle.re_io.specs.declared.read.TheConstants.{MAX_BYTES};
-ghost use Rattle.re_places.specs.Counting.{view_count};
+ghost use Rattle.re_algo.specs.Counting.{view_count};
 ghost use Rattle.re_problem.specs.TextReading.{IsRefused, Reads};
 ghost use Rattle.re_table_texts.specs.Reading.{Gives, Holds, HoldsTable, IsAt, IsBegun, owner_in};
 ghost use Rattle.re_table_texts.specs.SectionLines.{section_of};
@@ -11,15 +11,14 @@ ghost use Rattle.std.specs.Prelude.{◌≡◌, ◌≤◌, ◌<◌, ◌+◌, ◌�
 
 use crate::sections::{Section, read_section};
 use crate::table_texts::{TableForm, TableInput};
-use re_algo::Table;
+use re_algo::{Table, view_count};
 use re_cert::{has_labels, line_labels};
 use re_io::MAX_BYTES;
-use re_items::{first_bad_byte, is_empty_line};
 use re_labels::{PortLabels, Side};
-use re_map_texts::text_behind;
-use re_places::view_count;
-use re_problem::{InputFault, Problem, TextFault, TextReader};
-use re_sections::begins_section;
+use re_problem::{
+    InputFault, Problem, TextFault, TextReader, begins_section, first_bad_byte, is_empty_line,
+};
+use re_texts::text_behind;
 use std::alloc::Global;
 
 /// A table that is begun: the problem of the text before the last one, if any, that of the last one, the radius, how many views there

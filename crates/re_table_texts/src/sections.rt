@@ -1,11 +1,10 @@
 //! The section lines of the text of a table.
-ghost use Rattle.re_sections.specs.SectionLines.{words_of};
+ghost use Rattle.re_problem.specs.SectionLines.{words_of};
 ghost use Rattle.re_table_texts.specs.SectionLines.{radius_section, section_named, section_of};
 ghost use Rattle.std.specs.Prelude.{◌≡◌, ◌≤◌, length};
 
 use crate::MAX_RADIUS;
-use re_items::read_number;
-use re_sections::{begins_section, next_word};
+use re_problem::{begins_section, next_word, read_number};
 
 const MARK: &[u8] = b"==";
 

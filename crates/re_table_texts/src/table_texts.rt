@@ -32,7 +32,7 @@ pub struct TableInput {
 /// belongs to the last of them. `Bad` comes exactly where the text has a fault, with its first one.
 ///
 /// The text has the section `== problem` with a problem text, in the form `TableForm::Slower` the section `== next` with another one,
-/// and `== table T` with one line for each view of radius T, in the order of `re_views::all_views`, up to its end: the labels that the
+/// and `== table T` with one line for each view of radius T, in the order of `re_laws::all_views`, up to its end: the labels that the
 /// node outputs, by port. A section line is one whose first two bytes are `==`, and its words are separated by blanks. Before the
 /// first one, and among the lines of labels, empty lines are passed over. Bytes count from 0 and lines from 1 in the whole text; the
 /// last line needs no line feed.
@@ -40,7 +40,7 @@ pub struct TableInput {
 /// A line of a problem text is at fault as `read_problem` has it, and a section line behind a problem text that lacks its passive
 /// block is `MissingBlock` first. Any other line where a section line is due, and any other section line, is `BadSection`, and so is a
 /// T that isn't written as a number from 0 to 64 without a leading zero, or is 0 in the form `TableForm::Faster`. Then `== table T` is
-/// `TooManyViews` where there are more than `re_places::MAX_VIEWS` views of that radius. A line of labels is `BadByte`, else `BadItem`
+/// `TooManyViews` where there are more than `re_algo::MAX_VIEWS` views of that radius. A line of labels is `BadByte`, else `BadItem`
 /// where it isn't a list of labels without power, else `BadEntry` where a label is unknown, they aren't as many as active nodes have
 /// ports, or each view has its line already. At the end it is `BadEntry` where views lack their lines, with the number of the line
 /// that would come next, and `EarlyEnd` where `== table` hasn't come.

@@ -6,13 +6,13 @@ use Rattle.std.proofs.lemmas.List.{get_or-map, length-map}
 use Rattle.re_cert.proofs.Stages.{count-stages}
 use Rattle.re_labels.proofs.Membership.{AllByRecursion-from_contains, Contains-map_cases}
 use Rattle.re_labels.specs.declared.sides.Degrees.{Degrees}
-use Rattle.re_places.proofs.CountCode.{some-listed}
-use Rattle.re_places.proofs.Places.{tree_at}
+use Rattle.re_algo.proofs.CountCode.{some-listed}
+use Rattle.re_algo.proofs.Places.{tree_at}
 use Rattle.re_problem.specs.NamedProblems.{IsNamedProblem, unnamed}
-use Rattle.re_views.proofs.AllViewsLemmas.{Contains-all_views, Distinct-all_views, all_views-IsView}
-use Rattle.re_views.specs.AllViews.{all_views}
-use Rattle.re_views.specs.Trees.{IsView, leaf}
-use Rattle.re_places.specs.Counting.{listed, view_count, view_place}
+use Rattle.re_laws.proofs.AllViewsLemmas.{Contains-all_views, Distinct-all_views, all_views-IsView}
+use Rattle.re_laws.specs.AllViews.{all_views}
+use Rattle.re_laws.specs.Trees.{IsView, leaf}
+use Rattle.re_algo.specs.Counting.{listed, view_count, view_place}
 use Rattle.re_laws.proofs.ExtractedRounds.{extracted_solves}
 use Rattle.re_laws.proofs.Tables.{SolvesBy-same}
 use Rattle.re_laws.specs.Algorithms.{Plain, Solves, SolvesBy}

@@ -2,8 +2,8 @@
 use Rattle.std.specs.Prelude.{length, map, Option}
 use Rattle.std.specs.Option.{option_map}
 use Rattle.re_problem.specs.NamedProblems.{unnamed}
-use Rattle.re_views.specs.AllViews.{all_views}
-use Rattle.re_places.specs.Counting.{view_count}
+use Rattle.re_laws.specs.AllViews.{all_views}
+use Rattle.re_algo.specs.Counting.{view_count}
 use Rattle.re_laws.specs.Algorithms.{Solves}
 use Rattle.re_laws.specs.Extracted.{IsUpperBound, extracted}
 use Rattle.re_cert.specs.Bounds.{Bound}

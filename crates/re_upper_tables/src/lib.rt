@@ -4,16 +4,15 @@
 ghost use Rattle.re_algo.specs.Tables.{entries};
 ghost use Rattle.re_algo.specs.Verdicts.{table_verdict};
 ghost use Rattle.re_laws.specs.Algorithms.{Solves};
-ghost use Rattle.re_places.specs.Counting.{view_count};
+ghost use Rattle.re_algo.specs.Counting.{view_count};
 ghost use Rattle.re_problem.specs.NamedProblems.{unnamed};
 ghost use Rattle.re_upper_tables.specs.UpperTables.{UpperTableLaw, listed_table, upper_table};
 ghost use Rattle.std.specs.List.{AllByRecursion};
 ghost use Rattle.std.specs.Prelude.{◌≡◌, ◌<◌, IfOk, IfSome, IsSome, length};
 
-use re_algo::{Table, TableVerdict};
+use re_algo::{Table, TableVerdict, view_count};
 use re_extract::Extractor;
 use re_labels::{NoMemory, Side};
-use re_places::view_count;
 use re_pool::Pool;
 use std::alloc::Global;
 
@@ -37,7 +36,7 @@ fn filled_table(alloc: Global, extractor: &mut Extractor) -> Result<Table, NoMem
 }
 
 /// The table of the algorithm of an upper bound: what the extractor gives at all active views of as many rounds as its certificate has
-/// steps. None exactly where there are more of them than `re_places::MAX_VIEWS`. The table solves the first problem of the
+/// steps. None exactly where there are more of them than `re_algo::MAX_VIEWS`. The table solves the first problem of the
 /// certificate, has its degrees, and labels of it alone. It costs what the extractor's `answers` cost; a pool for them is made and let
 /// go.
 pub fn upper_table(alloc: Global, extractor: &mut Extractor) -> Result<Option<Table>, NoMemory>

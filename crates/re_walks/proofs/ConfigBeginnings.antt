@@ -3,11 +3,11 @@ use Rattle.std.proofs.Common.{◌≡◌, ℕ, zero, suc, ◌<◌, ◌≤◌, ◌
 use Rattle.std.specs.Prelude.{Contains, find, is_some}
 use Rattle.std.specs.List.{AllByRecursion}
 use Rattle.std.proofs.lemmas.List.{length-take, take-append-drop}
-use Rattle.re_choice.proofs.Beginning.{some_found}
+use Rattle.re_algo.proofs.Beginning.{some_found}
 use Rattle.re_labels.proofs.Membership.{Contains-count_from, Contains-here, any_true}
 use Rattle.re_labels.specs.Lists.{count_from}
-use Rattle.re_config.proofs.ChoicesOfRows.{choices-IsChoice}
-use Rattle.re_config.specs.Rows.{IsChoice, choices, singles}
+use Rattle.re_labels.proofs.ChoicesOfRows.{choices-IsChoice}
+use Rattle.re_labels.specs.Rows.{IsChoice, choices, singles}
 use Rattle.re_table.specs.Constraints.{Constraint, has_config}
 use Rattle.re_walks.specs.Begun.{is_begun}
 

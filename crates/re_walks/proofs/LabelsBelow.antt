@@ -2,7 +2,7 @@
 use Rattle.std.proofs.Common.{◌≡◌, ℕ, ◌<◌, ◌+◌, List, sym, ◌∙◌, subst, arith}
 use Rattle.std.specs.List.{AllByRecursion}
 use Rattle.re_changes.proofs.Counted.{with_label-above}
-use Rattle.re_config.proofs.OrdersAt.{count_push}
+use Rattle.re_labels.proofs.OrdersAt.{count_push}
 use Rattle.re_labels.proofs.Membership.{AllByRecursion-from_contains, count_from_range}
 use Rattle.re_labels.specs.Lists.{count_from}
 use Rattle.re_labels.specs.Sets.{with_label}

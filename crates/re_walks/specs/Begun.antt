@@ -1,7 +1,7 @@
 -- Labels that begin a configuration.
 use Rattle.std.specs.Prelude.{ℕ, ◌-◌, Bool, List, ◌++◌, length, replicate, find, is_some}
 use Rattle.re_labels.specs.Lists.{count_from}
-use Rattle.re_config.specs.Rows.{choices, singles}
+use Rattle.re_labels.specs.Rows.{choices, singles}
 use Rattle.re_table.specs.Constraints.{Constraint, has_config}
 
 -- whether some configuration of labels below n begins with these labels, in some order of its own

@@ -1,12 +1,12 @@
 //! Labels that begin a configuration.
-ghost use Rattle.re_config.specs.Rows.{singles};
+ghost use Rattle.re_labels.specs.Rows.{singles};
 ghost use Rattle.re_labels.specs.Lists.{count_from};
 ghost use Rattle.re_walks.specs.Begun.{is_begun};
 ghost use Rattle.std.specs.List.{AllByRecursion};
 ghost use Rattle.std.specs.Prelude.{◌≡◌, ◌<◌, ◌≤◌, ◌++◌, ◌-◌, length, replicate};
 
 use arrayvec::ArrayVec;
-use re_choice::first_choice;
+use re_algo::first_choice;
 use re_labels::{LabelSet, MAX_LABELS};
 use re_table::Constraint;
 
@@ -40,7 +40,7 @@ fn begun_sets(labels: &[u8], degree: u8, all: LabelSet) -> ArrayVec<LabelSet, 6>
 }
 
 /// Whether some configuration of labels below the number begins with these labels, in some order of its own. It takes no memory, and costs
-/// what `first_choice` of `re_choice` costs.
+/// what `first_choice` of `re_algo` costs.
 pub fn is_begun(active: &Constraint, n: u8, labels: &[u8]) -> bool
     requires n { n ≤ MAX_LABELS }
     requires few { length labels.now ≤ active.now.degree }

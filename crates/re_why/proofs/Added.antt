@@ -2,15 +2,15 @@
 use Rattle.std.proofs.Common.{◌≡◌, ℕ, zero, suc, ◌<◌, ◌≤◌, Bool, true, false, not, ◌&&◌, List, [], ◌∷◌, length, refl, sym, ap, ◌∙◌, subst, Some, None, Option}
 use Rattle.std.specs.Prelude.{slice_set}
 use Rattle.re_boxes.specs.Grown.{added}
-use Rattle.re_config.specs.Rows.{in_order, row_of, set_at}
+use Rattle.re_labels.specs.Rows.{in_order, row_of, set_at}
 use Rattle.re_labels.specs.Sets.{has, with_label}
 use Rattle.re_labels.specs.declared.TheConstants.{MAX_LABELS}
-use Rattle.re_strength.proofs.RowsOfSets.{made}
-use Rattle.re_strength.specs.Sets.{AreSets}
+use Rattle.re_boxes.proofs.RowsOfSets.{made}
+use Rattle.re_boxes.specs.Sets.{AreSets}
 use Rattle.re_table.proofs.SetsInOrder.{in_order-good, in_order-length}
 use Rattle.re_table.specs.Constraints.{Constraint}
 use Rattle.re_table.specs.GoodRows.{is_good}
-use Rattle.re_universal.proofs.Growth.{added_sets}
+use Rattle.re_step.proofs.Growth.{added_sets}
 use Rattle.re_why.specs.Finding.{can_add}
 
 length-set : {X : Type 0} (xs : List X) (i : ℕ) (v : X) → length (slice_set xs i v) ≡ length xs

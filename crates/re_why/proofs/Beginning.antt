@@ -3,12 +3,12 @@ use Rattle.std.proofs.Common.{◌≡◌, ℕ, ◌<◌, ◌≤◌, Bool, true, fa
 use Rattle.std.specs.List.{AllByRecursion, list_all, list_any}
 use Rattle.std.specs.Prelude.{IsSome}
 use Rattle.std.proofs.lemmas.Bool.Decides.{nat_tests}
-use Rattle.re_config.proofs.ChoicesOfRows.{In-choices_from, IsChoice-filled}
-use Rattle.re_config.proofs.Rearranging.{length-AllZip}
-use Rattle.re_config.proofs.Placing.{row_found}
-use Rattle.re_config.proofs.RowCalls.{row_of-some}
-use Rattle.re_config.specs.Configs.{sorted}
-use Rattle.re_config.specs.Rows.{choices, in_order, is_full, row_of, singles}
+use Rattle.re_labels.proofs.ChoicesOfRows.{In-choices_from, IsChoice-filled}
+use Rattle.re_labels.proofs.Rearranging.{length-AllZip}
+use Rattle.re_labels.proofs.Placing.{row_found}
+use Rattle.re_labels.proofs.RowCalls.{row_of-some}
+use Rattle.re_labels.specs.Configs.{sorted}
+use Rattle.re_labels.specs.Rows.{choices, in_order, is_full, row_of, singles}
 use Rattle.re_labels.proofs.Membership.{any-In_from}
 use Rattle.re_labels.proofs.Tests.{eqb-same}
 use Rattle.re_labels.specs.PortLabels.{port_labels}
@@ -18,9 +18,9 @@ use Rattle.re_table.proofs.Goodness.{filled-is_full, is_full-filled}
 use Rattle.re_table.proofs.SetsInOrder.{AreSets, in_order-good, in_order-length}
 use Rattle.re_table.specs.Constraints.{Constraint, has_config}
 use Rattle.re_table.specs.GoodRows.{is_good}
-use Rattle.re_choice.proofs.Beginning.{any-fixed, none_found, some_found}
-use Rattle.re_choice.proofs.Drawing.{chosen_some}
-use Rattle.re_choice.specs.FirstChoice.{IsDrawn}
+use Rattle.re_algo.proofs.Beginning.{any-fixed, none_found, some_found}
+use Rattle.re_algo.proofs.Drawing.{chosen_some}
+use Rattle.re_algo.specs.FirstChoice.{IsDrawn}
 use Rattle.re_why.proofs.Found.{found_passes, not_all}
 use Rattle.re_why.specs.BadChoice.{begins, first_bad, first_behind, is_bad}
 

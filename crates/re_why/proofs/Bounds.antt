@@ -2,20 +2,20 @@
 use Rattle.std.proofs.Common.{◌≡◌, ℕ, zero, suc, ◌≤◌, arith, Bool, true, false, not, ◌&&◌, List, [], ◌∷◌, length, refl, sym, ap, ◌∙◌, subst, ◌⊎◌, inl, inr, Some, None, Option, true≢false}
 use Rattle.std.specs.Prelude.{Contains, Err, IfOk, IfSome, Ok, Result, ◌==◌, find, if◌then◌else◌, nat_le, nat_lt}
 use Rattle.std.proofs.lemmas.Bool.Decides.{nat_tests}
-use Rattle.re_items.specs.Steps.{is_nil}
+use Rattle.re_problem.specs.ItemSteps.{is_nil}
 use Rattle.re_cert.specs.declared.certificate.TheConstants.{MAX_STEPS}
 use Rattle.std.specs.List.{AllByRecursion, list_all}
 use Rattle.std.specs.Option.{option_and_then, option_map, option_or}
 use Rattle.re_labels.proofs.Membership.{AllByRecursion-contains}
 use Rattle.re_labels.proofs.Tests.{and-true, eqb-true}
 use Rattle.re_labels.specs.declared.TheConstants.{MAX_LABELS}
-use Rattle.re_config.specs.Rows.{IsRow}
+use Rattle.re_labels.specs.Rows.{IsRow}
 use Rattle.re_problem.specs.NamedProblems.{IsNamedProblem, NamedProblem, unnamed}
 use Rattle.re_cert.specs.Bounds.{Bound, BoundStep, is_bound, is_fixed, last_problem, one_form, pair_fits, problem_at, renaming_fits, step_fits, steps_fit}
 use Rattle.re_cert.specs.declared.certificate.Kind.{Kind}
-use Rattle.re_clauses.specs.Clauses.{step_clauses, step_fault}
-use Rattle.re_clauses.specs.declared.clause.Clause.{Clause}
-use Rattle.re_clauses.specs.declared.clause.Clause.TheVariants.{Back, End, L1, L2, L3, L4, L5, U1, U2, U3, U4}
+use Rattle.re_check.specs.Clauses.{step_clauses, step_fault}
+use Rattle.re_check.specs.declared.clause.Clause.{Clause}
+use Rattle.re_check.specs.declared.clause.Clause.TheVariants.{Back, End, L1, L2, L3, L4, L5, U1, U2, U3, U4}
 use Rattle.re_check.specs.Verdicts.{bound_fault, verdict_of, verdict_with, end_fault, ends_well, fault_at, fault_or, goes_back, meets_back, meets_end, steps_fault}
 use Rattle.re_check.specs.declared.verdict.ClauseFault.{ClauseFault}
 use Rattle.re_check.specs.declared.verdict.Verdict.{Verdict}

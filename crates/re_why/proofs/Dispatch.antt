@@ -10,9 +10,9 @@ use Rattle.re_labels.proofs.Tests.{and-true, eqb-same, eqb-true, true-and}
 use Rattle.re_labels.specs.Lists.{count_from}
 use Rattle.re_labels.specs.Sets.{IsLabelSet}
 use Rattle.re_labels.specs.declared.TheConstants.{MAX_LABELS}
-use Rattle.re_config.specs.Configs.{IsConfig}
-use Rattle.re_config.specs.Rows.{IsRow}
-use Rattle.re_config.specs.declared.TheConstants.{MAX_ROWS}
+use Rattle.re_labels.specs.Configs.{IsConfig}
+use Rattle.re_labels.specs.Rows.{IsRow}
+use Rattle.re_labels.specs.declared.TheConstants.{MAX_ROWS}
 use Rattle.re_table.proofs.Goodness.{Has-has_config, IsAllowed-is_allowed, IsGood-is_good}
 use Rattle.re_table.specs.Constraints.{Constraint, Has, IsConstraint, has_config}
 use Rattle.re_table.specs.GoodRows.{IsAllowed, IsGood, allowed, max_rows, max_sets}
@@ -23,15 +23,15 @@ use Rattle.re_problem.specs.Steps.LowerMap.{by_row, by_set}
 use Rattle.re_cert.proofs.KnownEntries.{entries-fit}
 use Rattle.re_cert.specs.Bounds.{BoundStep, entries_in, entry_fits, image_fits, is_label, kind_fits, map_fits, row_fits, step_fits}
 use Rattle.re_cert.specs.declared.certificate.Kind.{Kind}
-use Rattle.re_entry_clauses.proofs.AllowedImages.{keeps_allowed_law}
-use Rattle.re_entry_clauses.proofs.RowChoices.{keeps_allowed_by_row_law}
-use Rattle.re_entry_clauses.proofs.RowSets.{row_sets_law}
-use Rattle.re_entry_clauses.specs.StepClauses.{HasNextLabels, HasRowSets}
-use Rattle.re_clauses.proofs.StepMeaning.{all_held, by_row-tells, lists-Decides, rows-Decides}
-use Rattle.re_clauses.specs.Clauses.{are_allowed, are_exchanged, are_good, are_maximal, have_labels, have_row_sets, is_filled, maps_allowed, maps_rows, maps_sets, meets, sets_in, step_clauses, step_fault}
-use Rattle.re_clauses.specs.declared.clause.Clause.{Clause}
-use Rattle.re_clauses.specs.declared.clause.Clause.TheVariants.{Back, End, L1, L2, L3, L4, L5, U1, U2, U3, U4}
-use Rattle.re_clauses.proofs.StepTests.{occurs-listed, filled_sets, filled-nonempty}
+use Rattle.re_check.proofs.AllowedImages.{keeps_allowed_law}
+use Rattle.re_check.proofs.RowChoices.{keeps_allowed_by_row_law}
+use Rattle.re_check.proofs.RowSets.{row_sets_law}
+use Rattle.re_check.specs.StepClauses.{HasNextLabels, HasRowSets}
+use Rattle.re_check.proofs.StepMeaning.{all_held, by_row-tells, lists-Decides, rows-Decides}
+use Rattle.re_check.specs.Clauses.{are_allowed, are_exchanged, are_good, are_maximal, have_labels, have_row_sets, is_filled, maps_allowed, maps_rows, maps_sets, meets, sets_in, step_clauses, step_fault}
+use Rattle.re_check.specs.declared.clause.Clause.{Clause}
+use Rattle.re_check.specs.declared.clause.Clause.TheVariants.{Back, End, L1, L2, L3, L4, L5, U1, U2, U3, U4}
+use Rattle.re_check.proofs.StepTests.{occurs-listed, filled_sets, filled-nonempty}
 use Rattle.re_why.proofs.Found.{found_passes}
 use Rattle.re_why.proofs.Maps.{map_witness_law}
 use Rattle.re_why.proofs.Rows.{row_witness_law}

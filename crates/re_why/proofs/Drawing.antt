@@ -2,11 +2,11 @@
 use Rattle.std.proofs.Common.{◌≡◌, ℕ, ◌<◌, Bool, true, false, cond, List, [], ◌∷◌, ◌++◌, length, map, refl, sym, ap, ◌∙◌, subst, arith, Some, None, Option, append_assoc, append-nil, true≢false}
 use Rattle.std.specs.Prelude.{find}
 use Rattle.std.specs.Option.{option_map}
-use Rattle.re_choice.proofs.Drawing.{find-map}
-use Rattle.re_choice.specs.FirstChoice.{IsDrawn}
+use Rattle.re_algo.proofs.Drawing.{find-map}
+use Rattle.re_algo.specs.FirstChoice.{IsDrawn}
 use Rattle.re_why.specs.BadChoice.{first_behind, is_bad}
-use Rattle.re_config.proofs.LeastLabels.{first-is}
-use Rattle.re_config.specs.Rows.{choices}
+use Rattle.re_labels.proofs.LeastLabels.{first-is}
+use Rattle.re_labels.specs.Rows.{choices}
 use Rattle.re_labels.specs.Sets.{IsLabelSet, first_of, without_label}
 use Rattle.re_table.specs.Constraints.{Constraint}
 use Rattle.re_labels.specs.declared.TheConstants.{MAX_LABELS}

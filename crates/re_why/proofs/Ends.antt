@@ -4,7 +4,7 @@ use Rattle.std.specs.Prelude.{Contains, IsSome, find, if◌then◌else◌, is_no
 use Rattle.std.specs.List.{AllByRecursion, AllZip, list_all}
 use Rattle.std.proofs.lemmas.List.Quantifiers.{position-Some}
 use Rattle.re_problem.proofs.FedLines.{unnot_true}
-use Rattle.re_entry_clauses.proofs.Telling.{read-held}
+use Rattle.re_check.proofs.Telling.{read-held}
 use Rattle.std.specs.Option.{option_map, option_or}
 use Rattle.std.specs.Str.{bytes_eq}
 use Rattle.std.proofs.lemmas.Bool.Decides.{nat_tests}
@@ -14,22 +14,22 @@ use Rattle.re_labels.proofs.Sets.{IsIn-has, has-IsIn}
 use Rattle.re_labels.proofs.Tests.{eqb-same, eqb-true}
 use Rattle.re_labels.specs.Lists.{IsRising, count_from}
 use Rattle.re_labels.specs.Sets.{IsIn, has}
-use Rattle.re_config.proofs.Rearranging.{length-AllZip}
-use Rattle.re_config.proofs.Replacing.{has-support_of}
-use Rattle.re_config.specs.Configs.{support_of}
-use Rattle.re_config.specs.Rows.{IsChoice}
+use Rattle.re_labels.proofs.Rearranging.{length-AllZip}
+use Rattle.re_labels.proofs.Replacing.{has-support_of}
+use Rattle.re_labels.specs.Configs.{support_of}
+use Rattle.re_labels.specs.Rows.{IsChoice}
 use Rattle.re_table.specs.Constraints.{Constraint, Has}
 use Rattle.re_problem.proofs.ZeroPlaces.{law}
 use Rattle.re_problem.specs.NamedProblems.{NamedProblem, unnamed}
 use Rattle.re_problem.specs.Problems.{Problem}
 use Rattle.re_problem.specs.Zero.{ShowsZero, Zero, shows_zero, zero_place}
-use Rattle.re_maps.specs.Verdicts.{first_label, renaming_verdict}
-use Rattle.re_maps.specs.declared.verdict.MapVerdict.{MapVerdict}
-use Rattle.re_maps.specs.declared.verdict.MapVerdict.TheVariants as verdict
+use Rattle.re_problem.specs.Verdicts.{first_label, renaming_verdict}
+use Rattle.re_problem.specs.declared.verdict.MapVerdict.{MapVerdict}
+use Rattle.re_problem.specs.declared.verdict.MapVerdict.TheVariants as verdict
 use Rattle.re_cert.specs.Bounds.{is_lower}
 use Rattle.re_cert.specs.declared.certificate.Kind.{Kind}
 use Rattle.re_check.specs.Verdicts.{ends_well, goes_back, is_yes}
-use Rattle.re_maps.proofs.VerdictLaws.{label-none}
+use Rattle.re_problem.proofs.VerdictLaws.{label-none}
 use Rattle.re_why.proofs.Found.{found_passes, none_all}
 use Rattle.re_why.proofs.Giving.{gives-at_last, gives-or, map-none, map-some, unordered-rising, unordered-some}
 use Rattle.re_why.proofs.Rows.{bad_shown, first_label-some, none_bad}

@@ -10,8 +10,8 @@ use Rattle.re_labels.proofs.Membership.{AllByRecursion-contains, In-Contains, an
 use Rattle.re_labels.proofs.Tests.{and-true, same_tests}
 use Rattle.re_labels.specs.Lists.{same_list}
 use Rattle.re_labels.specs.declared.TheConstants.{MAX_LABELS}
-use Rattle.re_entry_clauses.proofs.Telling.{read-held}
-use Rattle.re_config.specs.Configs.{IsConfig}
+use Rattle.re_check.proofs.Telling.{read-held}
+use Rattle.re_labels.specs.Configs.{IsConfig}
 use Rattle.re_table.specs.Constraints.{Constraint, IsConstraint}
 use Rattle.re_problem.specs.Steps.{entry_sets, set_for}
 use Rattle.re_why.proofs.Found.{found_passes}

@@ -6,25 +6,25 @@ use Rattle.std.specs.Option.{option_map, option_or}
 use Rattle.std.specs.Ordering.{is_lt, nat_cmp}
 use Rattle.re_labels.proofs.Before.{nat_cmp-greater, nat_cmp-less, nat_cmp-same, same_list-refl, same_list-same}
 use Rattle.re_problem.proofs.FedLines.{unnot_true}
-use Rattle.re_entry_clauses.proofs.Telling.{read-held}
+use Rattle.re_check.proofs.Telling.{read-held}
 use Rattle.re_labels.proofs.Membership.{Contains-In, In, In-Contains, In-map, In-map_from, all-In, any_found, any_true}
 use Rattle.re_labels.proofs.Rising.{rising-map}
 use Rattle.re_labels.proofs.Sets.{IsIn-has, has-IsIn}
 use Rattle.re_labels.proofs.Tests.{and-true, eqb-same, eqb-true, true-and}
 use Rattle.re_labels.specs.Lists.{IsRising, same_list}
 use Rattle.re_labels.specs.Sets.{IsIn, has, number}
-use Rattle.re_config.specs.Configs.{sorted}
-use Rattle.re_config.specs.Rows.{IsChoice, set_at}
+use Rattle.re_labels.specs.Configs.{sorted}
+use Rattle.re_labels.specs.Rows.{IsChoice, set_at}
 use Rattle.re_table.proofs.Goodness.{Has-has_config, has_config-Has}
 use Rattle.re_table.specs.Constraints.{Constraint, Has, has_config}
 use Rattle.re_problem.specs.Steps.{LowerMap, SetEntry, entry_sets, label_at, label_of}
 use Rattle.re_problem.specs.Steps.LowerMap.{by_row, by_set}
-use Rattle.re_entry_clauses.proofs.AllowedImages.{entry-over, set_at-entry}
-use Rattle.re_entry_clauses.proofs.RowChoices.{entry-becomes}
-use Rattle.re_entry_clauses.specs.LabelsOver.{labels_over}
-use Rattle.re_entry_clauses.specs.RowEntries.{image_entries, row_entries}
-use Rattle.re_entry_clauses.specs.StepClauses.{HasRowSets, KeepsImages, KeepsRows, OccursInRows}
-use Rattle.re_choice.proofs.Beginning.{some_found}
+use Rattle.re_check.proofs.AllowedImages.{entry-over, set_at-entry}
+use Rattle.re_check.proofs.RowChoices.{entry-becomes}
+use Rattle.re_check.specs.LabelsOver.{labels_over}
+use Rattle.re_check.specs.RowEntries.{image_entries, row_entries}
+use Rattle.re_check.specs.StepClauses.{HasRowSets, KeepsImages, KeepsRows, OccursInRows}
+use Rattle.re_algo.proofs.Beginning.{some_found}
 use Rattle.re_why.proofs.Found.{found_passes, none_all}
 use Rattle.re_why.proofs.Giving.{at-held, from-none, from-some, gives-at_last, gives-or, held-at, map-none, map-some, some-none, some-some, unordered-rising, unordered-some}
 use Rattle.re_why.proofs.Occurring.{has-is, is-has, is-occurs, occurs-is}

@@ -8,9 +8,9 @@ use Rattle.re_labels.proofs.Places.{place_of-below}
 use Rattle.re_labels.proofs.Tests.{and-true}
 use Rattle.re_labels.specs.Lists.{count_from, place_of}
 use Rattle.re_labels.specs.Sets.{IsIn}
-use Rattle.re_config.proofs.Sorting.{IsConfig-sorted}
-use Rattle.re_config.specs.Configs.{IsConfig, sorted}
-use Rattle.re_config.specs.Rows.{IsChoice, IsRow}
+use Rattle.re_labels.proofs.Sorting.{IsConfig-sorted}
+use Rattle.re_labels.specs.Configs.{IsConfig, sorted}
+use Rattle.re_labels.specs.Rows.{IsChoice, IsRow}
 use Rattle.re_labels.specs.declared.TheConstants.{MAX_LABELS}
 use Rattle.re_labels.specs.declared.sides.Side.TheVariants.{Active as ActiveSide, Passive as PassiveSide}
 use Rattle.re_table.specs.Constraints.{Constraint, IsConstraint}
@@ -18,18 +18,18 @@ use Rattle.re_problem.specs.NamedProblems.{IsNamedProblem, NamedProblem, unnamed
 use Rattle.re_problem.specs.ProblemTexts.{last_or}
 use Rattle.re_problem.specs.Steps.{LowerMap, SetEntry, entry_sets, label_at, label_of, set_for}
 use Rattle.re_problem.specs.Steps.LowerMap.{by_row, by_set}
-use Rattle.re_maps.specs.Verdicts.{first_label, first_lost, first_twice, first_violation, has_degrees, larger, renaming_verdict, unless}
-use Rattle.re_maps.specs.declared.verdict.MapVerdict.{MapVerdict}
-use Rattle.re_maps.specs.declared.verdict.MapVerdict.TheVariants as verdict
+use Rattle.re_problem.specs.Verdicts.{first_label, first_lost, first_twice, first_violation, has_degrees, larger, renaming_verdict, unless}
+use Rattle.re_problem.specs.declared.verdict.MapVerdict.{MapVerdict}
+use Rattle.re_problem.specs.declared.verdict.MapVerdict.TheVariants as verdict
 use Rattle.re_cert.specs.Bounds.{Bound, BoundStep, entries_in, entry_fits, image_fits, is_bound, is_fixed, is_label, last_problem, map_fits, next_problems, problem_at, row_fits, step_fits, steps_fit}
 use Rattle.re_cert.specs.declared.certificate.Kind.{Kind}
 use Rattle.re_cert.proofs.FittingStates.{last_behind}
 use Rattle.re_cert.proofs.KnownEntries.{entries-fit}
-use Rattle.re_entry_clauses.proofs.Telling.{read-held}
-use Rattle.re_entry_clauses.specs.StepClauses.{HasRowSets, OccursInRows}
-use Rattle.re_clauses.specs.Clauses.{step_fault}
-use Rattle.re_clauses.specs.declared.clause.Clause.{Clause}
-use Rattle.re_clauses.specs.declared.clause.Clause.TheVariants.{Back, End, L1, L2, L3, L4, L5, U1, U2, U3, U4}
+use Rattle.re_check.proofs.Telling.{read-held}
+use Rattle.re_check.specs.StepClauses.{HasRowSets, OccursInRows}
+use Rattle.re_check.specs.Clauses.{step_fault}
+use Rattle.re_check.specs.declared.clause.Clause.{Clause}
+use Rattle.re_check.specs.declared.clause.Clause.TheVariants.{Back, End, L1, L2, L3, L4, L5, U1, U2, U3, U4}
 use Rattle.re_check.specs.Verdicts.{bound_fault, end_fault, ends_well, fault_at, fault_or, meets_back, meets_end, steps_fault}
 use Rattle.re_check.specs.declared.verdict.ClauseFault.{ClauseFault}
 use Rattle.re_why.proofs.Bounds.{at_steps, final, fits_back, fits_steps, steps_clause}

@@ -7,7 +7,7 @@ use Rattle.re_labels.proofs.Membership.{any_found, any_true}
 use Rattle.re_labels.proofs.Tests.{same_tests}
 use Rattle.re_labels.specs.Lists.{same_list}
 use Rattle.re_problem.specs.Steps.{SetEntry, entry_sets}
-use Rattle.re_entry_clauses.specs.StepClauses.{OccursInRows}
+use Rattle.re_check.specs.StepClauses.{OccursInRows}
 use Rattle.re_why.specs.Finding.{has_set, is_foreign, occurs_in}
 
 pub has-is : (entries : List SetEntry) (set : List ℕ) → has_set entries set ≡ true → Contains (entry_sets entries) set

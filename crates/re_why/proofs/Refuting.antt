@@ -9,10 +9,10 @@ use Rattle.re_labels.proofs.Membership.{AllByRecursion-contains, Contains-In, Co
 use Rattle.re_labels.proofs.Tests.{and-true}
 use Rattle.re_labels.specs.Lists.{IsRising, count_from}
 use Rattle.re_labels.specs.Sets.{IsIn, number}
-use Rattle.re_config.proofs.RowCalls.{read_within}
-use Rattle.re_config.proofs.Rows.{RowBefore}
-use Rattle.re_config.specs.Rows.{IsChoice, set_at}
-use Rattle.re_config.specs.declared.TheConstants.{MAX_ROWS}
+use Rattle.re_labels.proofs.RowCalls.{read_within}
+use Rattle.re_labels.proofs.Rows.{RowBefore}
+use Rattle.re_labels.specs.Rows.{IsChoice, set_at}
+use Rattle.re_labels.specs.declared.TheConstants.{MAX_ROWS}
 use Rattle.re_table.proofs.Goodness.{is_allowed-IsAllowed, is_good-IsGood}
 use Rattle.re_table.proofs.MaxSets.{max_sets-row}
 use Rattle.re_table.proofs.MaxRows.{IsMaximal-max_rows, max_rows-IsMaximal, rising-max_rows}
@@ -27,23 +27,23 @@ use Rattle.re_problem.specs.Steps.LowerMap.{by_row, by_set}
 use Rattle.re_problem.specs.Zero.{Zero, zero_place}
 use Rattle.re_cert.specs.Bounds.{Bound, BoundStep, entries_in, is_bound, is_fixed, is_lower, last_problem, next_problems, problem_at, step_fits, steps_fit}
 use Rattle.re_cert.specs.declared.certificate.Kind.{Kind}
-use Rattle.re_entry_clauses.proofs.AllowedImages.{keeps_allowed_law, over-entry, set_at-entry}
-use Rattle.re_entry_clauses.proofs.RowChoices.{becomes-entry, keeps_allowed_by_row_law}
-use Rattle.re_entry_clauses.proofs.RowSets.{row_sets_law}
-use Rattle.re_entry_clauses.specs.LabelsOver.{labels_over}
-use Rattle.re_entry_clauses.specs.RowEntries.{image_entries}
-use Rattle.re_entry_clauses.specs.StepClauses.{HasAllowedImages, HasGoodImages, HasNextLabels, HasRowSets, entry_labels}
-use Rattle.re_clauses.proofs.StepMeaning.{all_pass, all_there, lower_clauses}
-use Rattle.re_clauses.specs.Clauses.{are_exchanged, meets, step_clauses, step_fault}
-use Rattle.re_clauses.specs.declared.clause.Clause.{Clause}
-use Rattle.re_clauses.specs.declared.clause.Clause.TheVariants.{Back, End, L1, L2, L3, L4, L5, U1, U2, U3, U4}
+use Rattle.re_check.proofs.AllowedImages.{keeps_allowed_law, over-entry, set_at-entry}
+use Rattle.re_check.proofs.RowChoices.{becomes-entry, keeps_allowed_by_row_law}
+use Rattle.re_check.proofs.RowSets.{row_sets_law}
+use Rattle.re_check.specs.LabelsOver.{labels_over}
+use Rattle.re_check.specs.RowEntries.{image_entries}
+use Rattle.re_check.specs.StepClauses.{HasAllowedImages, HasGoodImages, HasNextLabels, HasRowSets, entry_labels}
+use Rattle.re_check.proofs.StepMeaning.{all_pass, all_there, lower_clauses}
+use Rattle.re_check.specs.Clauses.{are_exchanged, meets, step_clauses, step_fault}
+use Rattle.re_check.specs.declared.clause.Clause.{Clause}
+use Rattle.re_check.specs.declared.clause.Clause.TheVariants.{Back, End, L1, L2, L3, L4, L5, U1, U2, U3, U4}
 use Rattle.re_check.proofs.Meaning.{neither, unmapped}
 use Rattle.re_check.specs.Verdicts.{bound_fault, end_fault, ends_well, fault_at, fault_or, goes_back, is_yes, meets_back, meets_end, steps_fault}
 use Rattle.re_check.specs.declared.verdict.ClauseFault.{ClauseFault}
-use Rattle.re_maps.specs.Verdicts.{renaming_verdict}
-use Rattle.re_maps.specs.declared.verdict.MapVerdict.{MapVerdict}
-use Rattle.re_maps.specs.declared.verdict.MapVerdict.TheVariants.{Yes}
-use Rattle.re_views.proofs.Preorder.{rising-count_from}
+use Rattle.re_problem.specs.Verdicts.{renaming_verdict}
+use Rattle.re_problem.specs.declared.verdict.MapVerdict.{MapVerdict}
+use Rattle.re_problem.specs.declared.verdict.MapVerdict.TheVariants.{Yes}
+use Rattle.re_laws.proofs.Preorder.{rising-count_from}
 use Rattle.re_why.proofs.Bounds.{fits_steps}
 use Rattle.re_why.proofs.Dispatch.{degrees-are, next-labels, rows-few}
 use Rattle.re_why.proofs.Giving.{at-held}

@@ -4,7 +4,7 @@ use Rattle.std.specs.Prelude.{◌&&◌, Contains, if◌then◌else◌}
 use Rattle.std.specs.Option.{option_map}
 use Rattle.std.specs.List.{AllByRecursion}
 use Rattle.std.proofs.lemmas.Bool.Decides.{nat_tests}
-use Rattle.re_config.specs.Configs.{image_at}
+use Rattle.re_labels.specs.Configs.{image_at}
 use Rattle.re_labels.proofs.Membership.{In-Contains, count_from_range}
 use Rattle.re_labels.proofs.Sets.{IsIn-has, has-IsIn}
 use Rattle.re_labels.proofs.Tests.{eqb-same}
@@ -12,9 +12,9 @@ use Rattle.re_labels.specs.Lists.{count_from}
 use Rattle.re_labels.specs.Sets.{has}
 use Rattle.re_labels.specs.declared.sides.Side.{Side}
 use Rattle.re_labels.specs.declared.sides.Side.TheVariants as side
-use Rattle.re_maps.specs.Verdicts.{first_lost, first_twice, first_violation, has_degrees, larger, renaming_verdict, unless}
-use Rattle.re_maps.specs.declared.verdict.MapVerdict.{MapVerdict}
-use Rattle.re_maps.specs.declared.verdict.MapVerdict.TheVariants as verdict
+use Rattle.re_problem.specs.Verdicts.{first_lost, first_twice, first_violation, has_degrees, larger, renaming_verdict, unless}
+use Rattle.re_problem.specs.declared.verdict.MapVerdict.{MapVerdict}
+use Rattle.re_problem.specs.declared.verdict.MapVerdict.TheVariants as verdict
 use Rattle.re_problem.specs.Problems.{Problem}
 use Rattle.re_table.proofs.Goodness.{Has-has_config}
 use Rattle.re_table.specs.Constraints.{Constraint, Has, has_config}

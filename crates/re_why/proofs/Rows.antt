@@ -14,22 +14,22 @@ use Rattle.re_labels.proofs.Sets.{has-IsIn, IsIn-has}
 use Rattle.re_labels.proofs.Tests.{and-true, true-and}
 use Rattle.re_labels.specs.Lists.{IsRising}
 use Rattle.re_labels.specs.Sets.{IsIn, IsLabelSet, has, number}
-use Rattle.re_config.proofs.ChoicesOfRows.{In-choices, In-choices_from}
-use Rattle.re_config.proofs.Rows.{RowBefore, same_sets}
-use Rattle.re_config.specs.Rows.{IsChoice, IsRow, choices, is_full, row_cmp, set_at}
-use Rattle.re_config.specs.declared.TheConstants.{MAX_ROWS}
+use Rattle.re_labels.proofs.ChoicesOfRows.{In-choices, In-choices_from}
+use Rattle.re_labels.proofs.Rows.{RowBefore, same_sets}
+use Rattle.re_labels.specs.Rows.{IsChoice, IsRow, choices, is_full, row_cmp, set_at}
+use Rattle.re_labels.specs.declared.TheConstants.{MAX_ROWS}
 use Rattle.re_boxes.proofs.Grown.{grown_is_maximal}
 use Rattle.re_boxes.specs.Grown.{IsGrown, added}
-use Rattle.re_strength.proofs.RowsOfSets.{AreSets-filled}
-use Rattle.re_strength.specs.Ordering.{is_row_before}
+use Rattle.re_boxes.proofs.RowsOfSets.{AreSets-filled}
+use Rattle.re_boxes.specs.Ordering.{is_row_before}
 use Rattle.re_table.proofs.Goodness.{Has-has_config, IsGood-is_good, filled-is_full, has_config-Has, is_good-IsGood}
 use Rattle.re_table.proofs.MaxRows.{IsMaximal-max_rows, max_rows-IsMaximal, rising-max_rows}
 use Rattle.re_table.specs.Constraints.{Constraint, Has, has_config}
 use Rattle.re_table.specs.GoodRows.{IsGood, IsMaximal, is_good, max_rows}
 use Rattle.re_problem.proofs.FedLines.{unnot_true}
-use Rattle.re_maps.specs.Verdicts.{first_label}
+use Rattle.re_problem.specs.Verdicts.{first_label}
 use Rattle.re_labels.specs.Lists.{count_from}
-use Rattle.re_maps.proofs.VerdictLaws.{label-none}
+use Rattle.re_problem.proofs.VerdictLaws.{label-none}
 use Rattle.re_why.proofs.Found.{found_passes, none_all}
 use Rattle.re_why.proofs.Giving.{from-none, from-some, gives-at_last, gives-or, held-at, map-none, map-some, unordered-rising, unordered-some}
 use Rattle.re_why.specs.BadChoice.{first_bad, is_bad}

@@ -8,18 +8,18 @@ use Rattle.re_labels.proofs.Membership.{AllByRecursion-contains, Contains-In, In
 use Rattle.re_labels.proofs.Rising.{same_members}
 use Rattle.re_labels.proofs.Tests.{eqb-same, eqb-true}
 use Rattle.re_labels.specs.Lists.{IsRising, count_from}
-use Rattle.re_config.specs.Configs.{IsConfig}
-use Rattle.re_config.specs.Rows.{set_at}
+use Rattle.re_labels.specs.Configs.{IsConfig}
+use Rattle.re_labels.specs.Rows.{set_at}
 use Rattle.re_table.proofs.Goodness.{IsAllowed-is_allowed, IsGood-is_good, is_allowed-IsAllowed, is_good-IsGood}
 use Rattle.re_table.specs.Constraints.{Constraint, Has, IsConstraint}
 use Rattle.re_table.specs.GoodRows.{IsAllowed, IsGood, is_allowed, is_good}
 use Rattle.re_problem.proofs.FedLines.{unnot_true}
 use Rattle.re_problem.specs.Steps.{SetEntry, entry_sets, set_for}
-use Rattle.re_entry_clauses.proofs.AllowedImages.{set_at-entry}
-use Rattle.re_entry_clauses.specs.StepClauses.{HasAllowedImages, HasGoodImages, HasNextLabels, entry_labels}
-use Rattle.re_maps.specs.Verdicts.{first_label, first_not_allowed, first_not_good}
-use Rattle.re_views.proofs.Preorder.{rising-count_from}
-use Rattle.re_maps.proofs.VerdictLaws.{label-none}
+use Rattle.re_check.proofs.AllowedImages.{set_at-entry}
+use Rattle.re_check.specs.StepClauses.{HasAllowedImages, HasGoodImages, HasNextLabels, entry_labels}
+use Rattle.re_problem.specs.Verdicts.{first_label, first_not_allowed, first_not_good}
+use Rattle.re_laws.proofs.Preorder.{rising-count_from}
+use Rattle.re_problem.proofs.VerdictLaws.{label-none}
 use Rattle.re_why.proofs.Found.{found_passes, none_all}
 use Rattle.re_why.proofs.Giving.{gives-at_last, gives-or, map-none, map-some, unordered-rising, unordered-some}
 use Rattle.re_why.proofs.Rows.{bad_shown, first_label-some, none_bad}

@@ -2,8 +2,8 @@
 use Rattle.std.proofs.Common.{◌≡◌, ℕ, suc, ◌+◌, ◌<◌, ◌≤◌, List, [], ◌∷◌, length, ◌⊎◌, inl, inr, arith, refl}
 use Rattle.re_problem.specs.NamedProblems.{NamedProblem}
 use Rattle.re_cert.specs.Bounds.{Bound, BoundStep}
-use Rattle.re_clauses.specs.declared.clause.Clause.{Clause}
-use Rattle.re_clauses.specs.declared.clause.Clause.TheVariants.{Back, End, L1, L2, L3, L4, L5, U1, U2, U3, U4}
+use Rattle.re_check.specs.declared.clause.Clause.{Clause}
+use Rattle.re_check.specs.declared.clause.Clause.TheVariants.{Back, End, L1, L2, L3, L4, L5, U1, U2, U3, U4}
 use Rattle.re_why.specs.Witnesses.{IsShown, ShowsInSteps}
 use Rattle.re_why.specs.declared.witness.Witness.{Witness}
 

@@ -1,7 +1,7 @@
 -- The first choice that is no configuration.
 use Rattle.std.specs.Prelude.{ℕ, Bool, not, List, ◌++◌, find, Option}
 use Rattle.std.specs.List.{list_any}
-use Rattle.re_config.specs.Rows.{choices}
+use Rattle.re_labels.specs.Rows.{choices}
 use Rattle.re_table.specs.Constraints.{Constraint, has_config}
 
 -- the labels are no configuration

@@ -6,29 +6,29 @@ use Rattle.std.specs.Ordering.{is_eq, is_lt, nat_cmp}
 use Rattle.re_labels.specs.Lists.{same_list}
 use Rattle.re_labels.specs.Sets.{has, number}
 use Rattle.re_labels.specs.declared.TheConstants.{MAX_LABELS}
-use Rattle.re_config.specs.Configs.{sorted, support_of}
-use Rattle.re_config.specs.Rows.{row_cmp, set_at}
-use Rattle.re_config.specs.declared.TheConstants.{MAX_ROWS}
+use Rattle.re_labels.specs.Configs.{sorted, support_of}
+use Rattle.re_labels.specs.Rows.{row_cmp, set_at}
+use Rattle.re_labels.specs.declared.TheConstants.{MAX_ROWS}
 use Rattle.re_table.specs.Constraints.{Constraint, has_config}
 use Rattle.re_table.specs.GoodRows.{is_good, max_rows}
 use Rattle.re_boxes.specs.Grown.{added}
-use Rattle.re_strength.specs.Ordering.{is_row_before}
+use Rattle.re_boxes.specs.Ordering.{is_row_before}
 use Rattle.re_problem.specs.NamedProblems.{NamedProblem, unnamed}
 use Rattle.re_problem.specs.Problems.{Problem}
 use Rattle.re_problem.specs.Steps.{LowerMap, SetEntry, entry_sets, label_of, set_for}
 use Rattle.re_problem.specs.Steps.LowerMap.{by_row, by_set}
 use Rattle.re_problem.specs.Zero.{zero_place}
-use Rattle.re_maps.specs.Verdicts.{first_label, first_not_allowed, first_not_good, renaming_verdict}
-use Rattle.re_maps.specs.declared.verdict.MapVerdict.{MapVerdict}
-use Rattle.re_maps.specs.declared.verdict.MapVerdict.TheVariants.{Yes}
+use Rattle.re_problem.specs.Verdicts.{first_label, first_not_allowed, first_not_good, renaming_verdict}
+use Rattle.re_problem.specs.declared.verdict.MapVerdict.{MapVerdict}
+use Rattle.re_problem.specs.declared.verdict.MapVerdict.TheVariants.{Yes}
 use Rattle.re_cert.specs.Bounds.{Bound, BoundStep, entries_in, is_lower, last_problem, problem_at}
 use Rattle.re_cert.specs.declared.certificate.Kind.{Kind}
-use Rattle.re_entry_clauses.specs.LabelsOver.{labels_over}
-use Rattle.re_entry_clauses.specs.RowEntries.{image_entries, row_entries}
-use Rattle.re_clauses.specs.declared.clause.Clause.{Clause}
-use Rattle.re_clauses.specs.declared.clause.Clause.TheVariants.{L1, L2, L3, L4, L5, U1, U2, U3, U4, End, Back}
+use Rattle.re_check.specs.LabelsOver.{labels_over}
+use Rattle.re_check.specs.RowEntries.{image_entries, row_entries}
+use Rattle.re_check.specs.declared.clause.Clause.{Clause}
+use Rattle.re_check.specs.declared.clause.Clause.TheVariants.{L1, L2, L3, L4, L5, U1, U2, U3, U4, End, Back}
 use Rattle.re_check.specs.Verdicts.{bound_fault, fault_at}
-use Rattle.re_clauses.specs.Clauses.{step_fault}
+use Rattle.re_check.specs.Clauses.{step_fault}
 use Rattle.re_check.specs.declared.verdict.ClauseFault.{ClauseFault}
 use Rattle.re_why.specs.BadChoice.{first_bad}
 use Rattle.re_why.specs.declared.finding.Refutation.{Refutation}

@@ -1,8 +1,8 @@
 -- Where a clause fails, something is found, and it shows that the clause fails.
 use Rattle.std.specs.Prelude.{◌≡◌, ◌<◌, ◌≤◌, ℕ, true, false, List, length, map, Contains, Option, None, Some}
 use Rattle.std.specs.List.{AllByRecursion}
-use Rattle.re_config.specs.Rows.{IsChoice, IsRow}
-use Rattle.re_config.specs.declared.TheConstants.{MAX_ROWS}
+use Rattle.re_labels.specs.Rows.{IsChoice, IsRow}
+use Rattle.re_labels.specs.declared.TheConstants.{MAX_ROWS}
 use Rattle.re_labels.specs.declared.TheConstants.{MAX_LABELS}
 use Rattle.re_table.specs.Constraints.{Constraint, Has, IsConstraint}
 use Rattle.re_table.specs.GoodRows.{max_rows}
@@ -11,11 +11,11 @@ use Rattle.re_problem.specs.Steps.{LowerMap, SetEntry}
 use Rattle.re_problem.specs.Steps.LowerMap.{by_row, by_set}
 use Rattle.re_cert.specs.Bounds.{Bound, is_bound, next_problems}
 use Rattle.re_check.specs.Verdicts.{bound_fault, ends_well, goes_back}
-use Rattle.re_clauses.specs.declared.clause.Clause.{Clause}
+use Rattle.re_check.specs.declared.clause.Clause.{Clause}
 use Rattle.re_why.specs.declared.witness.Witness.{Witness}
 use Rattle.re_cert.specs.declared.certificate.Kind.{Kind}
-use Rattle.re_entry_clauses.specs.LabelsOver.{labels_over}
-use Rattle.re_entry_clauses.specs.StepClauses.{HasAllowedImages, HasGoodImages, HasNextLabels, HasRowSets, KeepsImages, KeepsRows}
+use Rattle.re_check.specs.LabelsOver.{labels_over}
+use Rattle.re_check.specs.StepClauses.{HasAllowedImages, HasGoodImages, HasNextLabels, HasRowSets, KeepsImages, KeepsRows}
 use Rattle.re_why.specs.Finding.{back_witness, bad_witness, end_witness, image_witness, label_witness, lost_witness, map_entries, row_witness, set_witness, shut_witness}
 use Rattle.re_why.specs.Witnesses.{AreOtherDegrees, IsShown, ShowsBack, ShowsBad, ShowsChoice, ShowsEnd, ShowsImage, ShowsLabels, ShowsRows, ShowsSets, ShowsShut}
 

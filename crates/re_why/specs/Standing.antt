@@ -2,11 +2,11 @@
 use Rattle.std.specs.Prelude.{◌<◌, ◌-◌, ℕ, List, length}
 use Rattle.std.specs.List.{AllByRecursion}
 use Rattle.re_problem.specs.NamedProblems.{NamedProblem}
-use Rattle.re_maps.specs.declared.verdict.MapVerdict.{MapVerdict}
-use Rattle.re_maps.specs.declared.verdict.MapVerdict.TheVariants.{Active, Count, Degrees as OtherDegrees, Empty, Passive, Twice, Yes}
+use Rattle.re_problem.specs.declared.verdict.MapVerdict.{MapVerdict}
+use Rattle.re_problem.specs.declared.verdict.MapVerdict.TheVariants.{Active, Count, Degrees as OtherDegrees, Empty, Passive, Twice, Yes}
 use Rattle.re_cert.specs.Bounds.{Bound, last_problem, problem_at}
-use Rattle.re_clauses.specs.declared.clause.Clause.{Clause}
-use Rattle.re_clauses.specs.declared.clause.Clause.TheVariants.{End, Back}
+use Rattle.re_check.specs.declared.clause.Clause.{Clause}
+use Rattle.re_check.specs.declared.clause.Clause.TheVariants.{End, Back}
 use Rattle.re_why.specs.declared.witness.Witness.{Witness}
 use Rattle.re_why.specs.declared.witness.Witness.TheVariants.{Degrees, BadRow, Extends, RowOrder, ManyRows, MissingRow, SetOrder, MissingSet, ForeignSet, ImageCount, LostRow, LostChoice, LabelOrder, MissingLabel, EmptySet, BadSets, ShutSets, Fit, NoActive, NoFit, PairOrder, MissingPair, Renaming}
 

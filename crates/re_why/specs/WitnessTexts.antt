@@ -2,17 +2,17 @@
 use Rattle.std.specs.Prelude.{ℕ, ◌+◌, ◌-◌, Bool, nat_lt, List, [], ◌++◌, codes, if◌then◌else◌, length, Option, None, Some}
 use Rattle.std.specs.Fmt.{decimal}
 use Rattle.std.specs.List.{list_all}
-use Rattle.re_config.specs.Configs.{sorted}
-use Rattle.re_config.specs.Rows.{row_of}
+use Rattle.re_labels.specs.Configs.{sorted}
+use Rattle.re_labels.specs.Rows.{row_of}
 use Rattle.re_labels.specs.declared.TheConstants.{MAX_LABELS}
 use Rattle.re_labels.specs.declared.sides.Side.TheVariants.{Active as ActiveSide, Passive as PassiveSide}
 use Rattle.re_problem.specs.CanonicalTexts.{config_text}
 use Rattle.re_printing.specs.SetTexts.{named_text, row_text, set_text}
-use Rattle.re_maps.specs.declared.verdict.MapVerdict.{MapVerdict}
-use Rattle.re_maps.specs.declared.verdict.MapVerdict.TheVariants.{Active, Count, Degrees as OtherDegrees, Empty, Passive, Twice, Yes}
+use Rattle.re_problem.specs.declared.verdict.MapVerdict.{MapVerdict}
+use Rattle.re_problem.specs.declared.verdict.MapVerdict.TheVariants.{Active, Count, Degrees as OtherDegrees, Empty, Passive, Twice, Yes}
 use Rattle.re_cert.specs.Bounds.{Bound, last_problem, problem_at}
-use Rattle.re_clauses.specs.declared.clause.Clause.{Clause}
-use Rattle.re_clauses.specs.declared.clause.Clause.TheVariants.{End, Back}
+use Rattle.re_check.specs.declared.clause.Clause.{Clause}
+use Rattle.re_check.specs.declared.clause.Clause.TheVariants.{End, Back}
 use Rattle.re_why.specs.Standing.{Standing, standing}
 use Rattle.re_why.specs.declared.finding.Refutation.{Refutation}
 use Rattle.re_why.specs.declared.witness.Witness.{Witness}

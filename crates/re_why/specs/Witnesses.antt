@@ -5,9 +5,9 @@ use Rattle.std.specs.declared.cmp.Ordering.TheVariants.{Less}
 use Rattle.re_labels.specs.Sets.{IsIn, number}
 use Rattle.re_labels.specs.declared.TheConstants.{MAX_LABELS}
 use Rattle.re_labels.specs.declared.sides.Side.TheVariants as side
-use Rattle.re_config.specs.Configs.{image_at, sorted}
-use Rattle.re_config.specs.Rows.{IsChoice, IsRow, row_cmp, set_at}
-use Rattle.re_config.specs.declared.TheConstants.{MAX_ROWS}
+use Rattle.re_labels.specs.Configs.{image_at, sorted}
+use Rattle.re_labels.specs.Rows.{IsChoice, IsRow, row_cmp, set_at}
+use Rattle.re_labels.specs.declared.TheConstants.{MAX_ROWS}
 use Rattle.re_table.specs.Constraints.{Constraint, Has}
 use Rattle.re_table.specs.GoodRows.{IsAllowed, IsGood, IsMaximal, max_rows}
 use Rattle.re_boxes.specs.Grown.{added}
@@ -16,15 +16,15 @@ use Rattle.re_problem.specs.Problems.{Problem}
 use Rattle.re_problem.specs.Steps.{BecomesByRow, LowerMap, SetEntry, entry_sets, label_of, set_for}
 use Rattle.re_problem.specs.Steps.LowerMap.{by_row, by_set}
 use Rattle.re_problem.specs.Zero.{ShowsZero, Zero}
-use Rattle.re_maps.specs.Verdicts.{renaming_verdict}
-use Rattle.re_maps.specs.declared.verdict.MapVerdict.{MapVerdict}
-use Rattle.re_maps.specs.declared.verdict.MapVerdict.TheVariants as verdict
+use Rattle.re_problem.specs.Verdicts.{renaming_verdict}
+use Rattle.re_problem.specs.declared.verdict.MapVerdict.{MapVerdict}
+use Rattle.re_problem.specs.declared.verdict.MapVerdict.TheVariants as verdict
 use Rattle.re_cert.specs.Bounds.{Bound, BoundStep, entries_in, is_fixed, is_lower, last_problem, problem_at}
 use Rattle.re_cert.specs.declared.certificate.Kind.{Kind}
-use Rattle.re_entry_clauses.specs.StepClauses.{OccursInRows, entry_labels}
-use Rattle.re_clauses.specs.Clauses.{step_clauses}
-use Rattle.re_clauses.specs.declared.clause.Clause.{Clause}
-use Rattle.re_clauses.specs.declared.clause.Clause.TheVariants.{L1, L2, L3, L4, L5, U1, U2, U3, U4, End, Back}
+use Rattle.re_check.specs.StepClauses.{OccursInRows, entry_labels}
+use Rattle.re_check.specs.Clauses.{step_clauses}
+use Rattle.re_check.specs.declared.clause.Clause.{Clause}
+use Rattle.re_check.specs.declared.clause.Clause.TheVariants.{L1, L2, L3, L4, L5, U1, U2, U3, U4, End, Back}
 use Rattle.re_why.specs.Finding.{firsts, seconds}
 use Rattle.re_why.specs.declared.witness.Witness.{Witness}
 use Rattle.re_why.specs.declared.witness.Witness.TheVariants.{Degrees, BadRow, Extends, RowOrder, ManyRows, MissingRow, SetOrder, MissingSet, ForeignSet, ImageCount, LostRow, LostChoice, LabelOrder, MissingLabel, EmptySet, BadSets, ShutSets, Fit, NoActive, NoFit, PairOrder, MissingPair, Renaming}

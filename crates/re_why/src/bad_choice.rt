@@ -1,15 +1,14 @@
 //! The first choice of one label of each of some sets that is no configuration.
-ghost use Rattle.re_choice.specs.FirstChoice.{IsDrawn};
+ghost use Rattle.re_algo.specs.FirstChoice.{IsDrawn};
 ghost use Rattle.re_why.specs.BadChoice.{begins, first_bad, first_behind};
-ghost use Rattle.re_config.specs.Rows.{choices, singles};
+ghost use Rattle.re_labels.specs.Rows.{choices, singles};
 ghost use Rattle.re_labels.specs.Sets.{IsLabelSet};
 ghost use Rattle.std.specs.List.{AllByRecursion};
 ghost use Rattle.std.specs.Prelude.{◌++◌, ◌+◌, ◌<◌, ◌≡◌, ◌≤◌, ◌∷◌, length};
 
 use arrayvec::ArrayVec;
-use re_config::Row;
-use re_entry_clauses::is_good;
-use re_labels::{LabelSet, MAX_LABELS, PortLabels};
+use re_check::is_good;
+use re_labels::{LabelSet, MAX_LABELS, PortLabels, Row};
 use re_table::Constraint;
 
 // The sets of one label each, and behind them the others.

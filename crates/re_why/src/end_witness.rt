@@ -1,8 +1,8 @@
 //! What shows that the end of a certificate fails END or BACK.
 ghost use Rattle.re_cert.specs.Bounds.{is_lower, pair_fits};
-ghost use Rattle.re_config.specs.Configs.{support_of};
+ghost use Rattle.re_labels.specs.Configs.{support_of};
 ghost use Rattle.re_labels.specs.Lists.{count_from};
-ghost use Rattle.re_maps.specs.Verdicts.{first_label, renaming_verdict};
+ghost use Rattle.re_problem.specs.Verdicts.{first_label, renaming_verdict};
 ghost use Rattle.re_problem.specs.NamedProblems.{unnamed};
 ghost use Rattle.re_problem.specs.Zero.{shows_zero};
 ghost use Rattle.re_why.specs.Finding.{back_witness, end_witness, first_unordered, fit_at, fit_witness, names_first, no_fit_witness, ordered_back_witness, pairs_ascend, renaming_witness, seconds};
@@ -13,12 +13,9 @@ use crate::bad_choice::first_bad_choice;
 use crate::witness::Witness;
 use arrayvec::ArrayVec;
 use re_cert::Kind;
-use re_config::Config;
-use re_labels::LabelSet;
-use re_maps::{MapVerdict, renames};
-use re_problem::{LabelMap, Problem};
+use re_labels::{Config, LabelSet};
+use re_problem::{LabelMap, MapVerdict, Problem, renames, zero_round};
 use re_table::Constraint;
-use re_zero::zero_round;
 
 // The configuration at this place.
 fn fit_at(active: &Constraint, place: usize) -> Witness

@@ -1,9 +1,9 @@
 //! The witness of the first clause that a certificate fails.
 ghost use Rattle.re_cert.specs.Bounds.{entries_in, last_problem, map_of, problem_at, row_fits, step_fits, steps_fit};
-ghost use Rattle.re_config.specs.Rows.{IsRow};
+ghost use Rattle.re_labels.specs.Rows.{IsRow};
 ghost use Rattle.re_check.specs.Verdicts.{bound_fault};
-ghost use Rattle.re_clauses.specs.Clauses.{step_fault};
-ghost use Rattle.re_entry_clauses.specs.StepClauses.{HasNextLabels, HasRowSets};
+ghost use Rattle.re_check.specs.Clauses.{step_fault};
+ghost use Rattle.re_check.specs.StepClauses.{HasNextLabels, HasRowSets};
 ghost use Rattle.re_problem.specs.Steps.LowerMap.{by_set};
 ghost use Rattle.re_why.specs.Finding.{AreBelow, back_witness, bad_witness, bound_refutation, fault_named, image_witness, lost_witness, refutation_at, refuted, row_witness, shut_witness, step_refutation, step_witness, steps_refutation};
 ghost use Rattle.re_why.specs.Standing.{IsNamed, standing};
@@ -19,8 +19,7 @@ use crate::upper_witness::{bad_witness, label_witness, shut_witness};
 use crate::witness::Witness;
 use re_cert::{Certificate, Kind, LowerMap, MAX_STEPS, SetEntry, Step, StepParts};
 use re_check::{Clause, Verdict, check, step_clause};
-use re_config::{MAX_ROWS, Row};
-use re_labels::{MAX_LABELS, NoMemory};
+use re_labels::{MAX_LABELS, MAX_ROWS, NoMemory, Row};
 use re_problem::Problem;
 use std::alloc::Global;
 

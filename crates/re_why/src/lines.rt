@@ -7,10 +7,9 @@ use crate::pieces::{
     push_set_of, push_sets,
 };
 use crate::witness::{PortSets, Witness};
-use re_config::{Config, Row};
 use re_frame::push_words;
-use re_labels::{LabelSet, Names, NoMemory, PortLabels, Side};
-use re_maps::MapVerdict;
+use re_labels::{Config, LabelSet, Names, NoMemory, PortLabels, Row, Side};
+use re_problem::MapVerdict;
 
 // Two of these, one behind the other, that don't ascend.
 fn push_order(text: &mut Vec<u8>, words: &str, place: usize) -> Result<(), NoMemory>

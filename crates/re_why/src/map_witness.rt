@@ -1,10 +1,10 @@
 //! What shows that a map of a lower step fails a clause.
-ghost use Rattle.re_config.specs.Configs.{sorted};
-ghost use Rattle.re_config.specs.Rows.{set_at};
+ghost use Rattle.re_labels.specs.Configs.{sorted};
+ghost use Rattle.re_labels.specs.Rows.{set_at};
 ghost use Rattle.re_cert.specs.Bounds.{map_of};
-ghost use Rattle.re_entry_clauses.specs.LabelsOver.{labels_over};
-ghost use Rattle.re_entry_clauses.specs.RowEntries.{image_entries, row_entries};
-ghost use Rattle.re_entry_clauses.specs.StepClauses.{HasRowSets};
+ghost use Rattle.re_check.specs.LabelsOver.{labels_over};
+ghost use Rattle.re_check.specs.RowEntries.{image_entries, row_entries};
+ghost use Rattle.re_check.specs.StepClauses.{HasRowSets};
 ghost use Rattle.re_labels.specs.Lists.{IsRising, count_from, same_list};
 ghost use Rattle.re_labels.specs.Sets.{IsLabelSet, number as number_of};
 ghost use Rattle.re_problem.specs.Steps.LowerMap.{by_row, by_set};
@@ -17,11 +17,8 @@ use crate::bad_choice::first_bad_choice;
 use crate::witness::{PortSets, Witness};
 use arrayvec::ArrayVec;
 use re_cert::{LowerMap, RowImage, SetEntry};
-use re_config::{Config, Row};
-use re_entry_clauses::{
-    all_labels_over, all_labels_over_by_row, occurs, place_for, row_image, sets_at,
-};
-use re_labels::{LabelSet, MAX_LABELS, PortLabels};
+use re_check::{all_labels_over, all_labels_over_by_row, occurs, place_for, row_image, sets_at};
+use re_labels::{Config, LabelSet, MAX_LABELS, PortLabels, Row};
 use re_table::Constraint;
 
 // ---- the sets

@@ -4,9 +4,8 @@ ghost use Rattle.std.specs.Fmt.{decimal};
 ghost use Rattle.std.specs.Prelude.{◌≡◌, ◌≤◌, ◌+◌, ◌++◌, IfOk, OnOk, length, string_bytes};
 
 use re_cert::set_fits;
-use re_config::{Config, Row};
 use re_frame::push_words;
-use re_labels::{LabelSet, Names, NoMemory};
+use re_labels::{Config, LabelSet, Names, NoMemory, Row};
 use re_printing::{push_config, push_row, push_set};
 use re_problem::push_label;
 use std::alloc::{AllocError, Global};

@@ -1,6 +1,6 @@
 //! What shows that an upper step fails a clause.
 ghost use Rattle.re_labels.specs.Lists.{count_from};
-ghost use Rattle.re_maps.specs.Verdicts.{first_label};
+ghost use Rattle.re_problem.specs.Verdicts.{first_label};
 ghost use Rattle.re_problem.specs.Steps.{SetEntry, entry_sets, set_for};
 ghost use Rattle.re_why.specs.Finding.{bad_witness, empty_set, first_unordered, is_empty, label_witness, labels_ascend, names_label, shut_witness};
 ghost use Rattle.std.specs.List.{AllByRecursion};
@@ -10,10 +10,9 @@ use crate::bad_choice::first_bad_choice;
 use crate::witness::{PortSets, Witness};
 use arrayvec::ArrayVec;
 use re_cert::SetEntry;
-use re_config::Config;
-use re_entry_clauses::sets_of;
-use re_labels::LabelSet;
-use re_maps::{first_not_allowed, first_not_good};
+use re_check::sets_of;
+use re_labels::{Config, LabelSet};
+use re_problem::{first_not_allowed, first_not_good};
 use re_table::Constraint;
 
 // Whether the label of the entry is below that of the next one.

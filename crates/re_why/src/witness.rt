@@ -2,9 +2,8 @@
 ghost use Rattle.std.specs.Prelude.{◌≡◌, ◌≤◌, length};
 
 use arrayvec::ArrayVec;
-use re_config::{Config, Row};
-use re_labels::{LabelSet, PortLabels};
-use re_maps::MapVerdict;
+use re_labels::{Config, LabelSet, PortLabels, Row};
+use re_problem::MapVerdict;
 use std::marker::Model;
 
 /// Up to 6 sets of labels, in an order of their own. Contracts see the list of them.

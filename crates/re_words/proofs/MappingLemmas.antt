@@ -2,17 +2,17 @@
 use Rattle.std.proofs.Common.{◌≡◌, ℕ, zero, suc, ◌<◌, ◌≤◌, ◌+◌, Bool, true, false, cond, List, [], ◌∷◌, length, Option, None, Some, Ok, refl, sym, ap, ◌∙◌, subst, arith}
 use Rattle.std.specs.List.{AllByRecursion, find}
 use Rattle.std.specs.Prelude.{option_map}
-use Rattle.re_config.specs.Configs.{IsConfig}
-use Rattle.re_config.specs.Rows.{singles}
+use Rattle.re_labels.specs.Configs.{IsConfig}
+use Rattle.re_labels.specs.Rows.{singles}
 use Rattle.re_labels.proofs.Membership.{AllByRecursion-weaker}
 use Rattle.re_labels.specs.Lists.{count_from}
 use Rattle.re_labels.specs.declared.sides.Side.{Side}
-use Rattle.re_map_texts.specs.MapTexts.{map_text}
-use Rattle.re_map_texts.specs.declared.entries.MapKind.TheVariants.{Labels}
+use Rattle.re_texts.specs.MapTexts.{map_text}
+use Rattle.re_texts.specs.declared.entries.MapKind.TheVariants.{Labels}
 use Rattle.re_labels.specs.declared.sides.Side.TheVariants.{Active as ActiveSide, Passive as PassiveSide}
-use Rattle.re_maps.specs.Verdicts.{first_empty, first_lost, first_not_allowed, first_not_good, first_twice, first_violation, has_degrees, larger, relaxation_verdict, renaming_verdict, restriction_verdict, unless}
-use Rattle.re_maps.specs.declared.verdict.MapVerdict.{MapVerdict}
-use Rattle.re_maps.specs.declared.verdict.MapVerdict.TheVariants.{Active, Count, Degrees, Empty, Passive, Twice}
+use Rattle.re_problem.specs.Verdicts.{first_empty, first_lost, first_not_allowed, first_not_good, first_twice, first_violation, has_degrees, larger, relaxation_verdict, renaming_verdict, restriction_verdict, unless}
+use Rattle.re_problem.specs.declared.verdict.MapVerdict.{MapVerdict}
+use Rattle.re_problem.specs.declared.verdict.MapVerdict.TheVariants.{Active, Count, Degrees, Empty, Passive, Twice}
 use Rattle.re_problem.specs.NamedProblems.{IsNamedProblem, NamedProblem, unnamed}
 use Rattle.re_table.specs.Constraints.{Constraint, IsConstraint}
 use Rattle.re_words.specs.Mapping.{IsNamedVerdict, labels_in, map_outcome, mapped, mapping_outcome}

@@ -18,7 +18,7 @@ use Rattle.re_check.specs.Verdicts.{Means, bound_fault, verdict_of, verdict_with
 use Rattle.re_check.specs.declared.verdict.ClauseFault.{ClauseFault}
 use Rattle.re_check.specs.declared.verdict.Verdict.{Verdict}
 use Rattle.re_check.specs.declared.verdict.Verdict.TheVariants.{Accepted}
-use Rattle.re_clauses.specs.declared.clause.Clause.{Clause}
+use Rattle.re_check.specs.declared.clause.Clause.{Clause}
 use Rattle.re_io.specs.LineReading.{LineText}
 use Rattle.re_labels.proofs.Tests.{and-true}
 use Rattle.re_io.specs.declared.read.TheConstants.{MAX_BYTES}

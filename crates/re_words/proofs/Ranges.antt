@@ -8,7 +8,7 @@ use Rattle.re_cert.specs.declared.certificate.Kind.{Kind}
 use Rattle.re_families.specs.Families.{is_degree, number_fits, out_of_range, passive_fits}
 use Rattle.re_families.specs.declared.types.Family.{Family}
 use Rattle.re_families.specs.declared.types.Family.TheVariants.{Colouring, Matching, Mis, Orientation}
-use Rattle.re_items.specs.Numerals.{number_of}
+use Rattle.re_problem.specs.Numerals.{number_of}
 use Rattle.re_labels.proofs.Tests.{and-true}
 use Rattle.re_words.specs.Command.{IsMaking, IsReading, command_among, command_of, command_of_five, command_of_three, command_of_two, diagrams, family_named, family_with, is_family, is_made, is_search, kind_named, least_steps, one_word, rounds_up_to, search_with, step_from, steps_of, word_of}
 use Rattle.re_words.specs.declared.command.Command.{Command}

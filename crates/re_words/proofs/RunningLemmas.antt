@@ -5,7 +5,7 @@ use Rattle.std.specs.Prelude.{IfSome, flat_map}
 use Rattle.std.proofs.lemmas.List.{length-map}
 use Rattle.re_cert.specs.Bounds.{Bound}
 use Rattle.re_cert.specs.Stages.{stages_of}
-use Rattle.re_config.specs.Configs.{IsConfig, inserted, sorted}
+use Rattle.re_labels.specs.Configs.{IsConfig, inserted, sorted}
 use Rattle.re_labels.proofs.Membership.{AllByRecursion-contains}
 use Rattle.re_labels.specs.Lists.{count_from}
 use Rattle.re_labels.specs.Sides.{degree_of, opposite}
@@ -18,14 +18,14 @@ use Rattle.re_net.specs.FiniteTrees.{FiniteTree, IsFiniteTree, IsNumbered, most_
 use Rattle.re_net.specs.declared.messages.Message.{Message}
 use Rattle.re_problem.specs.NamedProblems.{unnamed}
 use Rattle.re_problem.specs.Problems.{IsProblem, Problem}
-use Rattle.re_runs.proofs.RunSteps.{outputs, passive_gets}
-use Rattle.re_runs.specs.RunTexts.{RunText, degrees_of}
-use Rattle.re_runs.specs.Runs.{Comes, has_output, messages_of, standing_of, standings_of}
-use Rattle.re_runs.specs.declared.reading.Delivery.{Delivery}
-use Rattle.re_runs.specs.declared.runs.Run.{Run}
-use Rattle.re_runs.specs.declared.runs.Standing.{Standing}
+use Rattle.re_net.proofs.RunSteps.{outputs, passive_gets}
+use Rattle.re_net.specs.RunTexts.{RunText, degrees_of}
+use Rattle.re_net.specs.Runs.{Comes, has_output, messages_of, standing_of, standings_of}
+use Rattle.re_net.specs.declared.reading.Delivery.{Delivery}
+use Rattle.re_net.specs.declared.runs.Run.{Run}
+use Rattle.re_net.specs.declared.runs.Standing.{Standing}
 use Rattle.re_table.specs.Constraints.{Constraint, Has, IsConstraint}
-use Rattle.re_views.specs.Trees.{IsView}
+use Rattle.re_laws.specs.Trees.{IsView}
 use Rattle.re_words.specs.Running.{AreNamed, PassiveNodesGet, algorithm_of, node_line, nodes_from, nodes_text}
 
 -- ---- the labels that are output are labels of the problem

@@ -5,21 +5,21 @@ use Rattle.re_check.specs.Verdicts.{verdict_of}
 use Rattle.re_cert.specs.declared.certificate.Kind.TheVariants.{Lower, Upper, Fixed}
 use Rattle.re_check.specs.declared.verdict.Verdict.{Verdict}
 use Rattle.re_check.specs.declared.verdict.Verdict.TheVariants.{Accepted, Refused}
-use Rattle.re_config.specs.declared.TheConstants.{MAX_ROWS}
+use Rattle.re_labels.specs.declared.TheConstants.{MAX_ROWS}
 use Rattle.re_families.specs.Families.{family_of}
 use Rattle.re_families.specs.declared.types.Family.TheVariants.{Colouring}
 use Rattle.re_labels.specs.declared.sides.Side.TheVariants as side
-use Rattle.re_map_texts.specs.Entries.{source}
-use Rattle.re_map_texts.specs.MapTexts.{MapText, map_text}
-use Rattle.re_maps.specs.declared.verdict.MapVerdict.{MapVerdict}
-use Rattle.re_maps.specs.declared.verdict.MapVerdict.TheVariants as verdict
+use Rattle.re_texts.specs.Entries.{source}
+use Rattle.re_texts.specs.MapTexts.{MapText, map_text}
+use Rattle.re_problem.specs.declared.verdict.MapVerdict.{MapVerdict}
+use Rattle.re_problem.specs.declared.verdict.MapVerdict.TheVariants as verdict
 use Rattle.re_printing.specs.SetTexts.{rows_text}
 use Rattle.re_problem.specs.NamedProblems.{NamedProblem, unnamed}
 use Rattle.re_problem.specs.ProblemTexts.{first_fault, lines_of, problem_of}
 use Rattle.re_problem.specs.Zero.{zero_place}
 use Rattle.re_problem.specs.declared.fault.InputFault.{InputFault}
-use Rattle.re_runs.specs.RunTexts.{RunText, run_text}
-use Rattle.re_runs.specs.Runs.{first_illegal}
+use Rattle.re_net.specs.RunTexts.{RunText, run_text}
+use Rattle.re_net.specs.Runs.{first_illegal}
 use Rattle.re_search.specs.Counting.{rounds_of}
 use Rattle.re_search.specs.OneStep.{one_step_bound}
 use Rattle.re_search.specs.Searches.{search_of}
@@ -46,7 +46,7 @@ use Rattle.re_algo.specs.Constructions.{faster_table, slower_table}
 use Rattle.re_algo.specs.Verdicts.{table_verdict}
 use Rattle.re_algo.specs.declared.solving.TableVerdict.{TableVerdict}
 use Rattle.re_algo.specs.declared.solving.TableVerdict.TheVariants as table
-use Rattle.re_places.specs.Counting.{view_count}
+use Rattle.re_algo.specs.Counting.{view_count}
 use Rattle.re_table_texts.specs.PrintedTables.{table_text}
 use Rattle.re_table_texts.specs.TableTexts.{TableText, table_input}
 use Rattle.re_table_texts.specs.declared.table_texts.TableForm.{TableForm}

@@ -4,8 +4,8 @@ use Rattle.std.specs.List.{AllByRecursion}
 use Rattle.re_labels.proofs.Membership.{AllByRecursion-contains, AllByRecursion-from_contains, Contains-filter_cases, Contains-flat_map_cases, Contains-map_cases, count_from_range, length-map'}
 use Rattle.re_labels.specs.Lists.{count_from}
 use Rattle.re_labels.specs.Sets.{IsLabelSet}
-use Rattle.re_diagram.specs.Classes.{are_equal, class_of, is_next, least_labels}
-use Rattle.re_diagram.specs.Diagrams.{classes_of, edges_by, edges_from, edges_of}
+use Rattle.re_changes.specs.Classes.{are_equal, class_of, is_next, least_labels}
+use Rattle.re_changes.specs.Diagrams.{classes_of, edges_by, edges_from, edges_of}
 use Rattle.re_printing.specs.SetTexts.{least_at}
 use Rattle.re_table.proofs.MaxSets.{max_sets-from, maximal}
 use Rattle.re_table.specs.Constraints.{Constraint}

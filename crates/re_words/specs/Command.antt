@@ -7,7 +7,7 @@ use Rattle.re_cert.specs.declared.certificate.TheConstants.{MAX_STEPS}
 use Rattle.re_families.specs.Families.{is_degree, number_fits, out_of_range, passive_fits}
 use Rattle.re_families.specs.declared.types.Family.{Family}
 use Rattle.re_families.specs.declared.types.Family.TheVariants.{Colouring, Matching, Mis, Orientation}
-use Rattle.re_items.specs.Numerals.{number_of}
+use Rattle.re_problem.specs.Numerals.{number_of}
 use Rattle.re_labels.specs.declared.sides.Side.TheVariants.{Active, Passive}
 use Rattle.re_words.specs.declared.command.Streaming.TheVariants.{Check}
 use Rattle.re_words.specs.declared.command.Reading.{Reading}

@@ -8,7 +8,7 @@ use Rattle.re_cert.specs.declared.certificate.Kind.TheVariants.{Upper}
 use Rattle.re_check.specs.Verdicts.{verdict_of}
 use Rattle.re_check.specs.declared.verdict.Verdict.{Verdict}
 use Rattle.re_check.specs.declared.verdict.Verdict.TheVariants.{Accepted, Refused}
-use Rattle.re_places.specs.declared.counting.TheConstants.{MAX_VIEWS}
+use Rattle.re_algo.specs.declared.counting.TheConstants.{MAX_VIEWS}
 use Rattle.re_algo.specs.Tables.{AnswerTable}
 use Rattle.re_table_texts.specs.PrintedTables.{table_text}
 use Rattle.re_upper_tables.specs.UpperTables.{listed_table}

@@ -2,13 +2,13 @@
 use Rattle.std.specs.Prelude.{ℕ, ◌<◌, List, ◌++◌, codes, map, slice_index_or, Result, Ok, Err}
 use Rattle.std.specs.List.{AllByRecursion}
 use Rattle.re_labels.specs.declared.sides.Side.TheVariants.{Active as ActiveSide, Passive as PassiveSide}
-use Rattle.re_map_texts.specs.Entries.{source}
-use Rattle.re_map_texts.specs.MapTexts.{MapText, map_text}
-use Rattle.re_map_texts.specs.declared.entries.MapKind.{MapKind}
-use Rattle.re_map_texts.specs.declared.entries.MapKind.TheVariants.{Labels, Sets}
-use Rattle.re_maps.specs.Verdicts.{relaxation_verdict, renaming_verdict, restriction_verdict}
-use Rattle.re_maps.specs.declared.verdict.MapVerdict.{MapVerdict}
-use Rattle.re_maps.specs.declared.verdict.MapVerdict.TheVariants.{Active, Count, Degrees, Empty, Passive, Twice, Yes}
+use Rattle.re_texts.specs.Entries.{source}
+use Rattle.re_texts.specs.MapTexts.{MapText, map_text}
+use Rattle.re_texts.specs.declared.entries.MapKind.{MapKind}
+use Rattle.re_texts.specs.declared.entries.MapKind.TheVariants.{Labels, Sets}
+use Rattle.re_problem.specs.Verdicts.{relaxation_verdict, renaming_verdict, restriction_verdict}
+use Rattle.re_problem.specs.declared.verdict.MapVerdict.{MapVerdict}
+use Rattle.re_problem.specs.declared.verdict.MapVerdict.TheVariants.{Active, Count, Degrees, Empty, Passive, Twice, Yes}
 use Rattle.re_printing.specs.SetTexts.{named_text}
 use Rattle.re_problem.specs.CanonicalTexts.{config_text}
 use Rattle.re_problem.specs.NamedProblems.{unnamed}

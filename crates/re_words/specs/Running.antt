@@ -19,9 +19,9 @@ use Rattle.re_printing.specs.SetTexts.{named_text}
 use Rattle.re_problem.specs.CanonicalTexts.{spaced}
 use Rattle.re_problem.specs.NamedProblems.{unnamed}
 use Rattle.re_problem.specs.declared.fault.InputFault.{InputFault}
-use Rattle.re_runs.specs.RunTexts.{RunText, run_text}
-use Rattle.re_runs.specs.Runs.{first_illegal, has_output, labels_around, messages_of, standing_of}
-use Rattle.re_runs.specs.declared.runs.Standing.{Standing}
+use Rattle.re_net.specs.RunTexts.{RunText, run_text}
+use Rattle.re_net.specs.Runs.{first_illegal, has_output, labels_around, messages_of, standing_of}
+use Rattle.re_net.specs.declared.runs.Standing.{Standing}
 use Rattle.re_table.specs.Constraints.{Has}
 use Rattle.re_frame.specs.Check.{verdict_outcome}
 use Rattle.re_frame.specs.Outcomes.{Outcome, done, refused}

@@ -1,7 +1,7 @@
 -- The commands that search for a certificate: `lower`, `upper` and `fixed`.
 use Rattle.std.specs.Prelude.{ℕ, codes, Result, Ok, Err}
 use Rattle.re_cert.specs.declared.certificate.Kind.{Kind}
-use Rattle.re_cert_text.specs.PrintedCertificates.{certificate_text}
+use Rattle.re_texts.specs.PrintedCertificates.{certificate_text}
 use Rattle.re_problem.specs.NamedProblems.{NamedProblem}
 use Rattle.re_search.specs.Searches.{search_of}
 use Rattle.re_search.specs.declared.types.FindFault.{FindFault}

@@ -7,8 +7,8 @@ use Rattle.re_algo.specs.Verdicts.{table_verdict}
 use Rattle.re_algo.specs.declared.solving.TableVerdict.{TableVerdict}
 use Rattle.re_algo.specs.declared.solving.TableVerdict.TheVariants.{Active, Passive, Yes}
 use Rattle.re_labels.specs.Lists.{same_list}
-use Rattle.re_places.specs.Counting.{view_count}
-use Rattle.re_places.specs.declared.counting.TheConstants.{MAX_VIEWS}
+use Rattle.re_algo.specs.Counting.{view_count}
+use Rattle.re_algo.specs.declared.counting.TheConstants.{MAX_VIEWS}
 use Rattle.re_problem.specs.NamedProblems.{NamedProblem, unnamed}
 use Rattle.re_problem.specs.declared.fault.InputFault.{InputFault}
 use Rattle.re_step.specs.Derivations.{named_derived, step_limit}

@@ -1,9 +1,9 @@
 -- What the commands answer that work on a problem.
 use Rattle.std.specs.Prelude.{ℕ, zero, suc, ◌+◌, ◌-◌, nat_lt, List, ◌++◌, length, codes, if◌then◌else◌}
-use Rattle.re_config.specs.declared.TheConstants.{MAX_ROWS}
-use Rattle.re_diagram.specs.Diagrams.{classes_of, edges_of}
-use Rattle.re_diagram.specs.Merging.{merged_of}
-use Rattle.re_diagram.specs.Trimming.{trimmed_of}
+use Rattle.re_labels.specs.declared.TheConstants.{MAX_ROWS}
+use Rattle.re_changes.specs.Diagrams.{classes_of, edges_of}
+use Rattle.re_changes.specs.Merging.{merged_of}
+use Rattle.re_changes.specs.Trimming.{trimmed_of}
 use Rattle.re_labels.specs.declared.sides.Side.{Side}
 use Rattle.re_labels.specs.declared.sides.Side.TheVariants.{Active, Passive}
 use Rattle.re_printing.specs.SetTexts.{diagram_text, meanings_text, rows_text}

@@ -6,8 +6,8 @@ ghost use Rattle.re_families.specs.Families.{is_degree};
 
 use re_cert::{Kind, MAX_STEPS};
 use re_families::Family;
-use re_items::read_number;
 use re_labels::Side;
+use re_problem::read_number;
 use re_table_texts::TableForm;
 
 /// A command that goes through its input piece by piece.

@@ -8,6 +8,7 @@ ghost use Rattle.re_upper_tables.specs.UpperTables.{listed_table};
 ghost use Rattle.std.specs.Prelude.{◌≡◌, ◌≤◌, ℕ, List, [], codes, length, IfOk, IsErrOf, true};
 
 use crate::command::Command;
+use re_algo::MAX_VIEWS;
 use re_cert::{Certificate, read_certificate};
 use re_check::{Kind, Verdict, check, upper_steps};
 use re_extract::Extractor;
@@ -16,7 +17,6 @@ use re_frame::{
 };
 use re_io::MAX_BYTES;
 use re_labels::NoMemory;
-use re_places::MAX_VIEWS;
 use re_problem::TextFault;
 use re_table_texts::{TableForm, print_table};
 use re_upper_tables::upper_table;

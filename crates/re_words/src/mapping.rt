@@ -8,14 +8,12 @@ ghost use Rattle.std.specs.List.{AllByRecursion};
 ghost use Rattle.std.specs.Prelude.{◌≡◌, ◌≤◌, ◌<◌, ◌++◌, ℕ, List, [], Some, codes, length, IfOk, IsErrOf, true};
 
 use crate::command::{Command, Mapping};
-use re_config::Config;
 use re_frame::{Answer, Answering, Output, begun, fault_output, refused};
 use re_io::MAX_BYTES;
-use re_labels::{Names, NoMemory, Side};
-use re_map_texts::{read_label_map, read_set_map};
-use re_maps::{MapVerdict, relaxes, renames, restricts};
+use re_labels::{Config, Names, NoMemory, Side};
 use re_printing::push_config;
-use re_problem::{TextFault, push_label};
+use re_problem::{MapVerdict, TextFault, push_label, relaxes, renames, restricts};
+use re_texts::{read_label_map, read_set_map};
 use std::alloc::Global;
 
 // The refusal that names a label.

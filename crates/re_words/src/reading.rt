@@ -15,8 +15,7 @@ use crate::working::{diagram_output, merge_output, steps_output, trim_output, un
 use re_frame::{Answer, Answering, Output, fault_output};
 use re_io::MAX_BYTES;
 use re_labels::NoMemory;
-use re_problem::{Problem, TextFault, print_active, print_problem, read_problem};
-use re_zero::zero_round;
+use re_problem::{Problem, TextFault, print_active, print_problem, read_problem, zero_round};
 use std::alloc::Global;
 
 // The answer `yes` with the active configuration at this place.

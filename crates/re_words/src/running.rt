@@ -7,11 +7,11 @@ ghost use Rattle.re_frame.specs.Outcomes.{done as finished, outcome_of, refused 
 ghost use Rattle.re_words.specs.Running.{AreNamed, PassiveNodesGet, delivered, node_line, nodes_from, running_outcome, verified};
 ghost use Rattle.re_printing.specs.SetTexts.{named_text};
 ghost use Rattle.re_problem.specs.CanonicalTexts.{spaced};
-ghost use Rattle.re_runs.specs.RunReading.{AreMessages};
+ghost use Rattle.re_net.specs.RunReading.{AreMessages};
 ghost use Rattle.re_net.specs.FiniteTrees.{IsNumbered};
-ghost use Rattle.re_runs.specs.RunReading.{text_of};
-ghost use Rattle.re_runs.specs.RunTexts.{degrees_of};
-ghost use Rattle.re_runs.specs.Runs.{first_illegal};
+ghost use Rattle.re_net.specs.RunReading.{text_of};
+ghost use Rattle.re_net.specs.RunTexts.{degrees_of};
+ghost use Rattle.re_net.specs.Runs.{first_illegal};
 ghost use Rattle.std.specs.Fmt.{decimal};
 ghost use Rattle.std.specs.List.{AllByRecursion};
 ghost use Rattle.std.specs.Prelude.{◌≡◌, ◌≤◌, ◌<◌, ◌+◌, ◌++◌, ◌^◌, ℕ, List, [], Some, codes, length, map, IfOk, IfSome, IsErrOf, OnOk, true};
@@ -24,8 +24,8 @@ use re_frame::{
 };
 use re_io::MAX_BYTES;
 use re_labels::{Names, NoMemory};
+use re_net::{Run, RunInput, Standing, read_run, run_net};
 use re_problem::{TextFault, push_label};
-use re_runs::{Run, RunInput, Standing, read_run, run_net};
 use std::alloc::Global;
 
 // Appends the labels, with a space between.
@@ -131,7 +131,7 @@ fn upper_output(alloc: Global, input: RunInput) -> Result<Output, NoMemory>
 
 /// What `run` means for passive nodes, where the certificate of an input is accepted as an upper bound: one with as many edges as its
 /// side allows, all of whose neighbours output, gets a configuration that is passive in the first problem. The input is one that
-/// `re_runs::read_run` gives. It goes once over the steps, and takes no memory.
+/// `re_net::read_run` gives. It goes once over the steps, and takes no memory.
 pub fn passive_nodes(input: &RunInput)
     requires degrees { input.now.tree.degrees ≡ degrees_of input.now.certificate.first }
     requires numbered { IsNumbered input.now.tree }

@@ -9,11 +9,11 @@ ghost use Rattle.re_search.specs.Searches.{Answers, FindsSteps, FindsValid};
 ghost use Rattle.std.specs.Prelude.{◌≡◌, ◌≤◌, IfOk};
 
 use re_cert::Kind;
-use re_cert_text::print_certificate;
 use re_frame::{Answer, Output, done, limit_of, not_found_output};
 use re_labels::NoMemory;
 use re_problem::Problem;
 use re_search::{FindFault, MAX_NODES, Search, find_fixed, find_lower, find_upper};
+use re_texts::print_certificate;
 use std::alloc::Global;
 
 // What the search for a bound of this kind comes to.

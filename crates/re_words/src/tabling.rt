@@ -14,11 +14,10 @@ ghost use Rattle.re_table_texts.specs.TableTexts.{may_stand};
 ghost use Rattle.std.specs.Prelude.{◌≡◌, ◌≢◌, ◌≤◌, ◌↔◌, ℕ, List, [], Some, None, length, string_bytes, true, IfOk, IsErrOf, IsSome};
 
 use crate::command::Command;
-use re_algo::{SlowerFault, Table, TableVerdict, faster, slower, solves};
+use re_algo::{MAX_VIEWS, SlowerFault, Table, TableVerdict, faster, slower, solves};
 use re_frame::{Answering, Output, begun, done, fault_output, limit_of, limit_output, refused};
 use re_io::MAX_BYTES;
 use re_labels::{Names, NoMemory};
-use re_places::MAX_VIEWS;
 use re_problem::{Problem, TextFault};
 use re_step::{Derived, StepFault, step};
 use re_table::Constraint;

@@ -5,15 +5,13 @@ ghost use Rattle.re_problem.specs.NamedProblems.{unnamed};
 ghost use Rattle.re_step.specs.Derivations.{derivation};
 ghost use Rattle.std.specs.Prelude.{◌≡◌, ◌≤◌, ◌+◌, ◌++◌, IfOk};
 
-use re_config::MAX_ROWS;
-use re_diagram::{diagram, merge, trim};
+use re_changes::{diagram, merge, trim};
 use re_frame::{Output, done, limit_of, limit_output};
-use re_labels::{NoMemory, Side};
+use re_labels::{MAX_ROWS, NoMemory, Side};
 use re_printing::{print_diagram, print_meanings, print_rows};
 use re_problem::{Problem, print_problem, push_problem};
-use re_step::{Derived, StepFault, step};
+use re_step::{Derived, RowsFault, StepFault, maximal_rows, step};
 use re_table::Constraint;
-use re_universal::{RowsFault, maximal_rows};
 use std::alloc::Global;
 
 fn constraint_at(problem: &Problem, side: Side) -> &Constraint

@@ -1,4 +1,4 @@
-use Rattle.re_config.specs.Rows.{set_at}
+use Rattle.re_labels.specs.Rows.{set_at}
 use Rattle.re_given.proofs.UpClosed.{fit_from}
 use Rattle.re_given.proofs.fit_law.Goals as goal
 

@@ -1,6 +1,6 @@
 use Rattle.std.proofs.Common.{arith, suc}
 use Rattle.re_given.proofs.Fitting.{FitsAround-shift}
-use Rattle.re_views.proofs.ViewLaws.{child_of}
+use Rattle.re_laws.proofs.ViewLaws.{child_of}
 use Rattle.re_given.proofs.shift_fits_law.Goals as goal
 
 pub returns : goal.returns

@@ -1,10 +1,10 @@
 use Rattle.std.proofs.Common.{◌≡◌, length, arith, refl}
 use Rattle.re_laws.proofs.JoinCode.{AreEnds-two, IsEnd-shift}
 use Rattle.re_laws.specs.Joining.{shown_end}
-use Rattle.re_views.proofs.ShiftCode.{child_at-children, shown}
-use Rattle.re_views.proofs.ShownLemmas.{children-tree}
-use Rattle.re_views.specs.Shown.{tree_of_children}
-use Rattle.re_views.specs.Trees.{IsView, cut}
+use Rattle.re_laws.proofs.ShiftCode.{child_at-children, shown}
+use Rattle.re_laws.proofs.ShownLemmas.{children-tree}
+use Rattle.re_laws.specs.Shown.{tree_of_children}
+use Rattle.re_laws.specs.Trees.{IsView, cut}
 use Rattle.certificate_rows.proofs.joined_views.joined_again.Goals as goal
 
 pub branchwise-requires : goal.branchwise-requires

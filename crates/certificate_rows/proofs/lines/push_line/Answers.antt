@@ -3,7 +3,7 @@ use Rattle.std.proofs.Common.{◌≡◌, ℕ, ◌<◌, ◌≤◌, eqb, List, [],
 use Rattle.std.specs.Cmp.Lexicographic.{pointwise}
 use Rattle.std.specs.List.{AllByRecursion}
 use Rattle.std.proofs.lemmas.Bool.{false≢true}
-use Rattle.re_config.proofs.Rows.{AreSets}
+use Rattle.re_labels.proofs.Rows.{AreSets}
 use Rattle.re_labels.proofs.Membership.{AllByRecursion-weaker}
 use Rattle.re_labels.proofs.Numbers.{number_apart}
 use Rattle.re_labels.proofs.Tests.{and-true, eqb-true}

@@ -1,6 +1,6 @@
 use Rattle.std.proofs.Common.{◌<◌}
 use Rattle.std.specs.List.{AllByRecursion}
-use Rattle.re_config.specs.Configs.{IsConfig}
+use Rattle.re_labels.specs.Configs.{IsConfig}
 use Rattle.re_labels.proofs.Membership.{AllByRecursion-weaker}
 use Rattle.problem_rows.proofs.constraints.has_one_image.Goals as goal
 

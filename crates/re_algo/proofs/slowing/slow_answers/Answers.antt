@@ -1,6 +1,6 @@
 use Rattle.std.proofs.Common.{map, sym}
 use Rattle.re_labels.proofs.Membership.{AllByRecursion-contains, Contains-map}
-use Rattle.re_views.specs.Shown.{tree_of_view}
+use Rattle.re_laws.specs.Shown.{tree_of_view}
 use Rattle.re_algo.specs.Choosing.{HasChoice}
 use Rattle.re_algo.proofs.slowing.slow_answers.Goals as goal
 

@@ -2,10 +2,10 @@ use Rattle.std.proofs.Common.{◌∙◌, ap, sym}
 use Rattle.std.specs.Prelude.{find}
 use Rattle.re_algo.proofs.SlowCode.{some_of}
 use Rattle.re_algo.specs.Choosing.{sets_around}
-use Rattle.re_choice.proofs.Beginning.{some_found}
-use Rattle.re_config.specs.Rows.{choices}
+use Rattle.re_algo.proofs.Beginning.{some_found}
+use Rattle.re_labels.specs.Rows.{choices}
 use Rattle.re_table.specs.Constraints.{has_config}
-use Rattle.re_views.specs.Shown.{tree_of_view}
+use Rattle.re_laws.specs.Shown.{tree_of_view}
 use Rattle.re_algo.proofs.slowing.slow_labels.Goals as goal
 
 pub unreachable-requires : goal.unreachable-requires

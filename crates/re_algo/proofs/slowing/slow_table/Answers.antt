@@ -1,8 +1,8 @@
 use Rattle.std.proofs.Common.{map, sym, ◌∙◌, ap}
 use Rattle.re_problem.specs.NamedProblems.{unnamed}
 use Rattle.re_labels.specs.declared.sides.Degrees.{Degrees}
-use Rattle.re_views.specs.AllViews.{all_views}
-use Rattle.re_views.specs.Shown.{tree_of_view}
+use Rattle.re_laws.specs.AllViews.{all_views}
+use Rattle.re_laws.specs.Shown.{tree_of_view}
 use Rattle.re_algo.specs.Constructions.{slower_table}
 use Rattle.re_algo.proofs.FasterCode.{same_table}
 use Rattle.re_algo.proofs.SlowerCode.{all_choose, slower_built, slower_solved}

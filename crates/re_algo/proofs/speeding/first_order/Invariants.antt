@@ -1,7 +1,7 @@
 use Rattle.std.proofs.Common.{◌≡◌, length}
 use Rattle.std.specs.Prelude.{find}
-use Rattle.re_config.specs.Orders.{placements}
-use Rattle.re_config.specs.Rows.{covers, placed}
+use Rattle.re_labels.specs.Orders.{placements}
+use Rattle.re_labels.specs.Rows.{covers, placed}
 use Rattle.re_algo.proofs.speeding.first_order.Given as goal
 
 abbrev pub invariant-loop-placement : goal.invariant-loop-placement

@@ -1,4 +1,4 @@
-use Rattle.re_clauses.proofs.StepTests.{by_row-test}
+use Rattle.re_check.proofs.StepTests.{by_row-test}
 use Rattle.re_bridge.proofs.by_row.keep_allowed_by_row.Goals as goal
 
 pub returns : goal.returns

@@ -1,5 +1,5 @@
 use Rattle.std.proofs.Common.{◌≡◌, take}
-use Rattle.re_entry_clauses.specs.RowEntries.{row_entries}
+use Rattle.re_check.specs.RowEntries.{row_entries}
 use Rattle.re_bridge.proofs.by_set.entries_for.Given as goal
 
 abbrev pub invariant-loop-place : goal.invariant-loop-place

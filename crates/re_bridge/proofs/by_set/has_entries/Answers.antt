@@ -1,6 +1,6 @@
 use Rattle.std.proofs.Common.{true, false}
 use Rattle.re_bridge.proofs.SetTests.{entries-test}
-use Rattle.re_entry_clauses.proofs.RowSets.{place-absent, place-held, row-done, row-fails, row-more}
+use Rattle.re_check.proofs.RowSets.{place-absent, place-held, row-done, row-fails, row-more}
 use Rattle.re_bridge.proofs.by_set.has_entries.Goals as goal
 
 pub returns-then-is_none : goal.returns-then-is_none

@@ -1,4 +1,4 @@
-use Rattle.re_clauses.proofs.StepTests.{allowed-test}
+use Rattle.re_check.proofs.StepTests.{allowed-test}
 use Rattle.re_bridge.proofs.by_set.keeps_sets.Goals as goal
 
 pub returns : goal.returns

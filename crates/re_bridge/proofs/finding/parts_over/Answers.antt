@@ -1,6 +1,6 @@
 use Rattle.std.proofs.Common.{◌≡◌, ◌≤◌, ℕ, List, length, cond, ap, subst, ◌∙◌, true}
 use Rattle.std.specs.Prelude.{MatchOption}
-use Rattle.re_config.specs.declared.TheConstants.{MAX_ROWS}
+use Rattle.re_labels.specs.declared.TheConstants.{MAX_ROWS}
 use Rattle.re_cert.specs.Bounds.{BoundStep, map_of}
 use Rattle.re_bridge.specs.Bridges.{missing, over, set_bridge, walk_by_set}
 use Rattle.re_bridge.proofs.finding.parts_over.Goals as goal

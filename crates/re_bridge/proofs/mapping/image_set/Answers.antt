@@ -1,7 +1,7 @@
 use Rattle.std.proofs.Common.{get_or, sym, ap, ◌∙◌, take}
 use Rattle.std.proofs.lemmas.List.{take_more}
-use Rattle.re_config.proofs.Replacing.{support_of-push}
-use Rattle.re_config.specs.Configs.{support_of}
+use Rattle.re_labels.proofs.Replacing.{support_of-push}
+use Rattle.re_labels.specs.Configs.{support_of}
 use Rattle.re_labels.specs.Sets.{with_label}
 use Rattle.re_bridge.proofs.mapping.image_set.Goals as goal
 

@@ -4,7 +4,7 @@ use Rattle.re_bridge_words.specs.BridgeWords.{IsBridgedText, sound_outcome}
 use Rattle.re_cert.specs.Bounds.{Bound}
 use Rattle.re_cert.specs.declared.certificate.Kind.{Kind}
 use Rattle.re_cert.specs.declared.certificate.Kind.TheVariants.{Fixed, Lower, Upper}
-use Rattle.re_chain_parts.specs.Chains.{chain_kind}
+use Rattle.re_chains.specs.Chains.{chain_kind}
 use Rattle.re_frame.specs.Outcomes.{outcome_of}
 use Rattle.re_frame.specs.declared.status.Status.TheVariants.{Done}
 use Rattle.re_bridge_words.proofs.answering.bound_output.Goals as goal

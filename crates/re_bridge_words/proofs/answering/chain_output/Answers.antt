@@ -1,8 +1,8 @@
 use Rattle.std.proofs.Common.{◌≡◌, ap, subst, sym, ◌∙◌}
 use Rattle.std.proofs.lemmas.Result.{IfOk-weaker}
 use Rattle.re_bridge_words.specs.BridgeWords.{IsBridgedText, IsLongerText, kind_outcome}
-use Rattle.re_chain_parts.specs.HeldBounds.{held_bound}
-use Rattle.re_chain_parts.specs.declared.chains.Chain.{Chain}
+use Rattle.re_chains.specs.HeldBounds.{held_bound}
+use Rattle.re_chains.specs.declared.chains.Chain.{Chain}
 use Rattle.re_frame.specs.Outcomes.{outcome_of}
 use Rattle.re_frame.specs.declared.status.Status.TheVariants.{Done}
 use Rattle.re_bridge_words.proofs.answering.chain_output.Goals as goal

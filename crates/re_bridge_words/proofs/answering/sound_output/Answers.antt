@@ -2,7 +2,7 @@ use Rattle.std.proofs.Common.{◌≡◌, ap, subst, sym, ◌∙◌}
 use Rattle.std.proofs.lemmas.Result.{IfOk-weaker}
 use Rattle.re_bridge_words.specs.BridgeWords.{IsBridgedText, kind_outcome}
 use Rattle.re_cert.specs.Bounds.{Bound}
-use Rattle.re_chain_texts.specs.OverChains.{or_refusal}
+use Rattle.re_chains.specs.OverChains.{or_refusal}
 use Rattle.re_frame.specs.Outcomes.{outcome_of}
 use Rattle.re_frame.specs.declared.status.Status.TheVariants.{Done}
 use Rattle.re_bridge_words.proofs.answering.sound_output.Goals as goal

@@ -1,10 +1,10 @@
 use Rattle.std.proofs.Common.{◌≡◌, codes, subst}
 use Rattle.std.proofs.lemmas.Result.{IfOk-weaker}
 use Rattle.re_bridge_words.specs.BridgeWords.{BridgeWorth, IsBridgedText}
-use Rattle.re_chain_parts.specs.Chains.{chain_of}
+use Rattle.re_chains.specs.Chains.{chain_of}
 use Rattle.re_frame.specs.Outcomes.{outcome_of}
 use Rattle.re_frame.specs.declared.status.Status.TheVariants.{Done}
-use Rattle.re_two_texts.specs.TwoTexts.{back_problem}
+use Rattle.re_chains.specs.TwoTexts.{back_problem}
 use Rattle.re_bridge_words.proofs.answering.text_output.Goals as goal
 
 pub returns-in-Ok-clause-text : goal.returns-in-Ok-clause-text

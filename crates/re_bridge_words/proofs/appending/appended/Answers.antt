@@ -1,6 +1,6 @@
 use Rattle.std.proofs.Common.{◌≡◌, ◌∷◌, ◌++◌, [], None, Some, ap, sym, subst, ◌∙◌}
 use Rattle.re_cert.specs.Bounds.{Bound}
-use Rattle.re_chain_parts.specs.Chains.{IsSound, chain_with}
+use Rattle.re_chains.specs.Chains.{IsSound, chain_with}
 use Rattle.re_bridge_words.proofs.MoreSteps.{held-more, more-bound, more-sound, surely-built}
 use Rattle.re_bridge_words.proofs.appending.appended.Goals as goal
 

@@ -1,7 +1,7 @@
 use Rattle.std.proofs.Common.{ap, sym, ◌∙◌}
 use Rattle.std.proofs.lemmas.Result.{IfOk-weaker}
 use Rattle.re_bridge_words.proofs.GivenReductions.{product_text, refusal_undone}
-use Rattle.re_chain_texts.proofs.WordsGiven.{both_ok}
+use Rattle.re_chains.proofs.WordsGiven.{both_ok}
 use Rattle.re_bridge_words.specs.ReduceWords.{reduced_outcome, reduced_product}
 use Rattle.re_bridge_words.specs.declared.answering.TheConstants.{MAX_TRIES}
 use Rattle.re_bridge.specs.Reductions.{reduced_of}

@@ -1,5 +1,5 @@
 use Rattle.std.proofs.Common.{◌≡◌, map}
-use Rattle.re_config.specs.Rows.{set_at}
+use Rattle.re_labels.specs.Rows.{set_at}
 use Rattle.re_labels.specs.Lists.{count_from}
 use Rattle.re_bridge_words.proofs.upper.entries_of.Given as goal
 

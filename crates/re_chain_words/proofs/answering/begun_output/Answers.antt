@@ -1,7 +1,7 @@
 use Rattle.std.proofs.Common.{[], refl, subst, sym}
 use Rattle.std.proofs.lemmas.Result.{IfOk-weaker}
-use Rattle.re_chain_parts.specs.Chains.{IsSound, IsSoundChain, chain_with}
-use Rattle.re_chain_texts.proofs.WordsGiven.{sound_given}
+use Rattle.re_chains.specs.Chains.{IsSound, IsSoundChain, chain_with}
+use Rattle.re_chains.proofs.WordsGiven.{sound_given}
 use Rattle.re_frame.specs.Outcomes.{outcome_of}
 use Rattle.re_chain_words.proofs.answering.begun_output.Goals as goal
 

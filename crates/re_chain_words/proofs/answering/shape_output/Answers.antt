@@ -1,6 +1,6 @@
 use Rattle.std.proofs.Common.{subst, ◌∙◌}
 use Rattle.std.proofs.lemmas.Result.{IfOk-weaker}
-use Rattle.re_chain_texts.specs.OverChains.{GivesSound, ReadsSound}
+use Rattle.re_chains.specs.OverChains.{GivesSound, ReadsSound}
 use Rattle.re_chain_words.specs.Answers.{shaped}
 use Rattle.re_frame.specs.Outcomes.{outcome_of}
 use Rattle.re_chain_words.proofs.answering.shape_output.Goals as goal

@@ -1,7 +1,7 @@
 use Rattle.std.proofs.Common.{ap, subst, ◌∙◌}
 use Rattle.std.proofs.lemmas.Result.{IfOk-weaker}
-use Rattle.re_chain.specs.Tidied.{tidied}
-use Rattle.re_chain_texts.specs.OverChains.{GivesText}
+use Rattle.re_shaping.specs.Tidied.{tidied}
+use Rattle.re_chains.specs.OverChains.{GivesText}
 use Rattle.re_frame.specs.Outcomes.{outcome_of}
 use Rattle.re_chain_words.proofs.answering.tidy_output.Goals as goal
 

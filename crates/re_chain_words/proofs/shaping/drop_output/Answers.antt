@@ -1,6 +1,6 @@
 use Rattle.std.proofs.lemmas.Result.{IfOk-weaker}
-use Rattle.re_chain.specs.Dropping.{dropped}
-use Rattle.re_chain_texts.proofs.WordsGiven.{sound_given}
+use Rattle.re_shaping.specs.Dropping.{dropped}
+use Rattle.re_chains.proofs.WordsGiven.{sound_given}
 use Rattle.re_frame.specs.Outcomes.{outcome_of}
 use Rattle.re_chain_words.proofs.shaping.drop_output.Goals as goal
 

@@ -1,8 +1,8 @@
 use Rattle.std.proofs.Common.{◌≡◌, Err, rules, ◌∙◌}
 use Rattle.std.proofs.lemmas.Result.{IfOk-weaker}
-use Rattle.re_chain.specs.Merging.{merged}
-use Rattle.re_chain.specs.declared.refusal.MergeFault.TheVariants.{Limit}
-use Rattle.re_chain_texts.proofs.WordsGiven.{sound_given}
+use Rattle.re_shaping.specs.Merging.{merged}
+use Rattle.re_shaping.specs.declared.refusal.MergeFault.TheVariants.{Limit}
+use Rattle.re_chains.proofs.WordsGiven.{sound_given}
 use Rattle.re_chain_words.proofs.MergesGiven.{merge_given, merge_limited}
 use Rattle.re_frame.specs.Outcomes.{outcome_of}
 use Rattle.re_chain_words.proofs.shaping.merge_output.Goals as goal

@@ -1,7 +1,7 @@
 use Rattle.std.proofs.Common.{◌∙◌}
 use Rattle.std.proofs.lemmas.Result.{IfOk-weaker}
-use Rattle.re_chain.specs.Naming.{named}
-use Rattle.re_chain_texts.proofs.WordsGiven.{sound_given}
+use Rattle.re_shaping.specs.Naming.{named}
+use Rattle.re_chains.proofs.WordsGiven.{sound_given}
 use Rattle.re_chain_words.proofs.NamesGiven.{name_given}
 use Rattle.re_frame.specs.Outcomes.{outcome_of}
 use Rattle.re_chain_words.proofs.shaping.name_output.Goals as goal

@@ -2,8 +2,8 @@ use Rattle.std.proofs.Common.{◌≡◌, ◌<◌, ◌+◌, ℕ, List, [], Err, a
 use Rattle.std.specs.Prelude.{Contains}
 use Rattle.std.specs.List.{AllByRecursion}
 use Rattle.std.proofs.lemmas.List.Elements.{Contains-get_or}
-use Rattle.re_config.proofs.Sorting.{length-sorted}
-use Rattle.re_config.specs.Configs.{IsConfig, image_at}
+use Rattle.re_labels.proofs.Sorting.{length-sorted}
+use Rattle.re_labels.specs.Configs.{IsConfig, image_at}
 use Rattle.re_labels.proofs.Membership.{AllByRecursion-contains, length-map'}
 use Rattle.re_labels.specs.ListSets.{with_list}
 use Rattle.re_labels.specs.Sets.{has}

@@ -1,6 +1,6 @@
 use Rattle.std.proofs.Common.{◌≡◌, ◌≤◌, ℕ, drop, length, map, not, take}
 use Rattle.std.specs.Prelude.{filter}
-use Rattle.re_config.specs.Configs.{image_of}
+use Rattle.re_labels.specs.Configs.{image_of}
 use Rattle.re_labels.specs.ListSets.{list_set}
 use Rattle.re_labels.specs.Sets.{has}
 use Rattle.re_changes.proofs.without.image_without.Given as goal

@@ -1,7 +1,7 @@
 use Rattle.std.proofs.Common.{◌≡◌, ◌+◌, ap, arith, length, refl, rules, subst, suc, sym, Err, ◌∙◌}
 use Rattle.std.proofs.lemmas.Result.{IfOk-weaker}
 use Rattle.re_cert.specs.Bounds.{last_problem}
-use Rattle.re_chain_texts.proofs.WordsGiven.{both_ok}
+use Rattle.re_chains.proofs.WordsGiven.{both_ok}
 use Rattle.re_closure.proofs.Within.{found_within, limit_within, next_within, place_within, positive, stop_within}
 use Rattle.re_closure.specs.Closures.{Answers, AreNamed}
 use Rattle.re_closure.specs.ClosureWords.{stop_outcome}

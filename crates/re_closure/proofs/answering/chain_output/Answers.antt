@@ -1,6 +1,6 @@
 use Rattle.std.proofs.Common.{◌∙◌, None, Ok, ap, subst}
 use Rattle.std.proofs.lemmas.Result.{IfOk-weaker}
-use Rattle.re_chain_texts.specs.OverChains.{IsJudged}
+use Rattle.re_chains.specs.OverChains.{IsJudged}
 use Rattle.re_closure.proofs.Judged.{lower_may, refused_may, upper_may}
 use Rattle.re_frame.specs.Outcomes.{outcome_of}
 use Rattle.re_closure.proofs.answering.chain_output.Goals as goal

@@ -1,7 +1,7 @@
 use Rattle.std.proofs.Common.{◌≡◌, ◌∙◌, Some, length, subst, sym}
 use Rattle.std.proofs.lemmas.Result.{IfOk-weaker}
 use Rattle.re_cert.specs.Bounds.{Bound, last_problem}
-use Rattle.re_chain_texts.specs.OverChains.{steps_refusal}
+use Rattle.re_chains.specs.OverChains.{steps_refusal}
 use Rattle.re_closure.proofs.Judged.{judged_edges}
 use Rattle.re_closure.specs.ClosureWords.{MayGiveRead, MayGiveSound}
 use Rattle.re_closure.specs.DiagramTexts.{AreEdges, diagram_edges, front_chain}

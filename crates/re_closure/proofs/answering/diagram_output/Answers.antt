@@ -2,8 +2,8 @@ use Rattle.std.proofs.Common.{◌∙◌, Ok, Some, ap, length, subst}
 use Rattle.std.proofs.lemmas.Result.{IfOk-weaker}
 use Rattle.std.specs.Prelude.{IfOk}
 use Rattle.re_cert.specs.Bounds.{last_problem}
-use Rattle.re_chain_parts.specs.HeldBounds.{held_bound}
-use Rattle.re_chain_texts.specs.OverChains.{IsJudged}
+use Rattle.re_chains.specs.HeldBounds.{held_bound}
+use Rattle.re_chains.specs.OverChains.{IsJudged}
 use Rattle.re_closure.proofs.Judged.{lower_may, refused_may, upper_may}
 use Rattle.re_closure.specs.DiagramTexts.{AreEdges}
 use Rattle.re_frame.specs.Outcomes.{outcome_of}

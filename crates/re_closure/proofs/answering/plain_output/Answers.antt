@@ -1,8 +1,8 @@
 use Rattle.std.proofs.Common.{None, subst, sym}
 use Rattle.std.proofs.lemmas.Result.{IfOk-weaker}
 use Rattle.re_cert.specs.Bounds.{Bound}
-use Rattle.re_chain_texts.specs.ChainTexts.{text_chain}
-use Rattle.re_chain_texts.specs.OverChains.{steps_refusal}
+use Rattle.re_chains.specs.ChainTexts.{text_chain}
+use Rattle.re_chains.specs.OverChains.{steps_refusal}
 use Rattle.re_closure.specs.ClosureWords.{MayGiveRead, MayGiveSound}
 use Rattle.re_frame.specs.Outcomes.{outcome_of}
 use Rattle.re_closure.proofs.answering.plain_output.Goals as goal

@@ -3,7 +3,7 @@ use Rattle.std.specs.Prelude.{not}
 use Rattle.std.proofs.lemmas.Result.{IfOk-weaker}
 use Rattle.re_frame.specs.Outcomes.{outcome_of}
 use Rattle.re_labels.proofs.Tests.{and-true}
-use Rattle.re_two_texts.specs.TwoTexts.{has_line}
+use Rattle.re_chains.specs.TwoTexts.{has_line}
 use Rattle.re_closure.specs.DiagramTexts.{has_diagram}
 use Rattle.re_closure.specs.GivenClosures.{MayGiveText, MayGiveTextBy}
 use Rattle.re_closure.proofs.answering.text_output.Goals as goal

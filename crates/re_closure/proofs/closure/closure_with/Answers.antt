@@ -2,7 +2,7 @@ use Rattle.std.proofs.Common.{◌≡◌, Err, length, map, refl, rules, sym, ap,
 use Rattle.re_closure_laws.proofs.Generated.{closure_families_law}
 use Rattle.re_closure_laws.specs.Lines.{AreApart, IsFamily, others}
 use Rattle.re_problem.specs.NamedProblems.{unnamed}
-use Rattle.re_closure_lines.specs.ProblemFamilies.{active_family, passive_family}
+use Rattle.re_closure.specs.ProblemFamilies.{active_family, passive_family}
 use Rattle.re_closure.specs.Closed.{IsSide, SidePasses}
 use Rattle.re_closure.specs.Sides.{family_of}
 use Rattle.re_closure.proofs.Computed.{active_passes, between_named, closed_named, computed, err_is, passive_passes}

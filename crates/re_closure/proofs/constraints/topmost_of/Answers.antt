@@ -1,6 +1,6 @@
 use Rattle.std.proofs.Common.{◌≤◌, List, ℕ, length, map, sym, ap, ◌∙◌, arith}
-use Rattle.re_config.proofs.Sorting.{take_all}
-use Rattle.re_config.specs.Configs.{sorted}
+use Rattle.re_labels.proofs.Sorting.{take_all}
+use Rattle.re_labels.specs.Configs.{sorted}
 use Rattle.re_labels.proofs.Membership.{length-map'}
 use Rattle.re_labels.specs.Lists.{place_of}
 use Rattle.re_labels.specs.ListSets.{list_set}

@@ -1,5 +1,5 @@
 use Rattle.std.proofs.Common.{◌≡◌, ◌≤◌, length, map, take}
-use Rattle.re_config.specs.Configs.{sorted}
+use Rattle.re_labels.specs.Configs.{sorted}
 use Rattle.re_labels.specs.Lists.{place_of}
 use Rattle.re_labels.specs.ListSets.{list_set}
 use Rattle.re_closure.proofs.constraints.topmost_of.Given as goal

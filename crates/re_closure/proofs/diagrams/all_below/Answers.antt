@@ -1,7 +1,7 @@
 use Rattle.std.proofs.Common.{◌≡◌, ◌+◌, ◌-◌, ◌<◌, ◌∷◌, ap, arith, drop, get_or, length, map, sym, ℕ, ◌∙◌}
 use Rattle.std.proofs.lemmas.List.{drop_all, drop_more}
 use Rattle.std.proofs.lemmas.List.Elements.{Contains-get_or}
-use Rattle.re_config.specs.Rows.{set_at}
+use Rattle.re_labels.specs.Rows.{set_at}
 use Rattle.re_labels.proofs.Membership.{AllByRecursion-contains}
 use Rattle.re_closure.proofs.DiagramOrders.{all_alone, all_below-at, all_below-count, all_with_edge}
 use Rattle.re_closure.specs.Diagrams.{all_below, with_lower}

@@ -1,7 +1,7 @@
 use Rattle.std.proofs.Common.{◌≡◌, ◌≤◌, length, sym, ap, ◌∙◌, subst}
 use Rattle.std.proofs.lemmas.Result.{IfOk-weaker}
 use Rattle.re_cert.specs.Bounds.{has_row_maps, is_bound, last_problem}
-use Rattle.re_config.specs.declared.TheConstants.{MAX_ROWS}
+use Rattle.re_labels.specs.declared.TheConstants.{MAX_ROWS}
 use Rattle.re_labels.specs.Lists.{place_of}
 use Rattle.re_problem.specs.NamedProblems.{NamedProblem, unnamed}
 use Rattle.re_table.specs.GoodRows.{max_rows}

@@ -1,5 +1,5 @@
 use Rattle.std.proofs.Common.{◌≡◌, take}
-use Rattle.re_config.specs.Rows.{placed}
+use Rattle.re_labels.specs.Rows.{placed}
 use Rattle.re_closure.proofs.finding.fit_at.Given as goal
 
 abbrev pub invariant-loop-label : goal.invariant-loop-label

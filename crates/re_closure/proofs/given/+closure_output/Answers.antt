@@ -1,6 +1,6 @@
 use Rattle.std.proofs.Common.{◌≡◌, ◌+◌, ap, arith, length, refl, subst, suc, ◌∙◌}
 use Rattle.std.proofs.lemmas.Result.{IfOk-weaker}
-use Rattle.re_chain_texts.proofs.WordsGiven.{both_ok}
+use Rattle.re_chains.proofs.WordsGiven.{both_ok}
 use Rattle.re_closure.proofs.GivenWithin.{closed_within, next_given, open_within, stop_given}
 use Rattle.re_closure.proofs.Within.{positive}
 use Rattle.re_closure.specs.ClosureWords.{stop_outcome}

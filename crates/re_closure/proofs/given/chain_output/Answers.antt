@@ -1,6 +1,6 @@
 use Rattle.std.proofs.Common.{◌∙◌, Ok, ap, subst}
 use Rattle.std.proofs.lemmas.Result.{IfOk-weaker}
-use Rattle.re_chain_texts.specs.OverChains.{IsJudged}
+use Rattle.re_chains.specs.OverChains.{IsJudged}
 use Rattle.re_closure.proofs.Judged.{lower_given, refused_given, upper_given}
 use Rattle.re_frame.specs.Outcomes.{outcome_of}
 use Rattle.re_closure.proofs.given.chain_output.Goals as goal

@@ -4,7 +4,7 @@ use Rattle.re_fit.specs.InputProblems.{input_fault}
 use Rattle.re_frame.specs.Outcomes.{outcome_of}
 use Rattle.re_frame.specs.TextFaults.{fault_outcome}
 use Rattle.re_problem.specs.NamedProblems.{NamedProblem}
-use Rattle.re_two_texts.specs.TwoTexts.{ReadRefuses}
+use Rattle.re_chains.specs.TwoTexts.{ReadRefuses}
 use Rattle.re_closure.proofs.GivenWithin.{given_read, given_wrong}
 use Rattle.re_closure.specs.GivenClosures.{MayGiveGivenInput}
 use Rattle.re_closure.proofs.given.given_output.Goals as goal

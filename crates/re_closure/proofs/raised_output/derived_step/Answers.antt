@@ -1,8 +1,8 @@
 use Rattle.std.proofs.Common.{◌≡◌, Some, ap, arith, length, subst, rules, sym, ◌∙◌}
 use Rattle.std.specs.Prelude.{option_map}
-use Rattle.re_chain.specs.Relaxing.{relaxed_limit, relaxed_step}
-use Rattle.re_chain_steps.specs.declared.stepping.ChainStepFault.TheVariants as why
-use Rattle.re_config.specs.Configs.{image_at}
+use Rattle.re_shaping.specs.Relaxing.{relaxed_limit, relaxed_step}
+use Rattle.re_shaping.specs.declared.stepping.ChainStepFault.TheVariants as why
+use Rattle.re_labels.specs.Configs.{image_at}
 use Rattle.re_labels.proofs.Membership.{length-count_from}
 use Rattle.re_labels.specs.Lists.{count_from}
 use Rattle.re_problem.specs.NamedProblems.{NamedProblem, unnamed}

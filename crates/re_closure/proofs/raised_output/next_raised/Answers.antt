@@ -2,9 +2,9 @@ use Rattle.std.proofs.Common.{◌≡◌, ◌++◌, ◌∷◌, [], Err, Some, ap,
 use Rattle.std.specs.Prelude.{option_map}
 use Rattle.re_cert.specs.Bounds.{is_bound, last_problem}
 use Rattle.re_cert.specs.declared.certificate.Kind.TheVariants.{Lower}
-use Rattle.re_chain.specs.Relaxing.{relaxed_limit}
-use Rattle.re_chain_parts.specs.Chains.{IsSound, chain_with}
-use Rattle.re_chain_steps.specs.declared.stepping.ChainStepFault.TheVariants as why
+use Rattle.re_shaping.specs.Relaxing.{relaxed_limit}
+use Rattle.re_chains.specs.Chains.{IsSound, chain_with}
+use Rattle.re_shaping.specs.declared.stepping.ChainStepFault.TheVariants as why
 use Rattle.re_problem.specs.NamedProblems.{NamedProblem}
 use Rattle.re_closure.proofs.RaisedWithin.{raised_chain-bound, raised_chain-sound}
 use Rattle.re_closure.specs.Diagrams.{raised}

@@ -1,9 +1,9 @@
 use Rattle.std.proofs.Common.{◌≡◌, ap, rules}
 use Rattle.std.specs.Ordering.{is_lt}
 use Rattle.std.proofs.lemmas.List.Sorted.{answers_always}
-use Rattle.re_config.specs.Rows.{row_cmp}
+use Rattle.re_labels.specs.Rows.{row_cmp}
 use Rattle.re_closure.proofs.RowLemmas.{rows_ranked}
-use Rattle.re_strength.specs.Ordering.{is_row_before}
+use Rattle.re_boxes.specs.Ordering.{is_row_before}
 use Rattle.re_closure.proofs.rows.in_order.Goals as goal
 
 pub returns-clause-order : goal.returns-clause-order

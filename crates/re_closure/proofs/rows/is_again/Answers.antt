@@ -1,7 +1,7 @@
 use Rattle.std.proofs.Common.{◌≡◌, ◌<◌, ◌-◌, [], sym, ◌∙◌, arith}
 use Rattle.std.proofs.lemmas.List.{get_or_default}
 use Rattle.re_labels.specs.declared.TheConstants.{MAX_LABELS}
-use Rattle.re_strength.proofs.EqualRows.{equal_rows, equal_when}
+use Rattle.re_boxes.proofs.EqualRows.{equal_rows, equal_when}
 use Rattle.re_closure.proofs.rows.is_again.Goals as goal
 
 pub returns-clause-again : goal.returns-clause-again

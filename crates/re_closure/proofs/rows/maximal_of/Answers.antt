@@ -2,7 +2,7 @@ use Rattle.std.proofs.Common.{◌≤◌, List, ℕ, length, subst}
 use Rattle.std.specs.Prelude.{Contains, ◌↔◌}
 use Rattle.re_step.proofs.SetLemmas.{if_ok_two}
 use Rattle.std.proofs.lemmas.Result.{IfOk-weaker}
-use Rattle.re_config.specs.declared.TheConstants.{MAX_ROWS}
+use Rattle.re_labels.specs.declared.TheConstants.{MAX_ROWS}
 use Rattle.re_closure.proofs.RowLemmas.{are_maximal, as_few}
 use Rattle.re_closure.specs.Sides.{family_of}
 use Rattle.re_closure.proofs.rows.maximal_of.Goals as goal

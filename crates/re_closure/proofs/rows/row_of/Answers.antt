@@ -1,6 +1,6 @@
 use Rattle.std.proofs.Common.{◌≡◌, None, Some, map, sym, ap, ◌∙◌}
-use Rattle.re_config.proofs.Sorting.{take_all}
-use Rattle.re_config.specs.Rows.{row_of}
+use Rattle.re_labels.proofs.Sorting.{take_all}
+use Rattle.re_labels.specs.Rows.{row_of}
 use Rattle.re_labels.specs.declared.TheConstants.{MAX_LABELS}
 use Rattle.re_closure_laws.specs.Lines.{labels_within, row_within}
 use Rattle.re_closure.proofs.RowLemmas.{row_is}

@@ -1,5 +1,5 @@
 use Rattle.std.proofs.Common.{◌≡◌, ◌<◌, ◌∙◌, ap, arith, length, get_or, [], subst, sym}
-use Rattle.re_config.specs.Rows.{singles}
+use Rattle.re_labels.specs.Rows.{singles}
 use Rattle.re_labels.specs.declared.TheConstants.{MAX_LABELS}
 use Rattle.re_describe.proofs.Covering.{as_long, spelled_there}
 use Rattle.re_describe.proofs.Grouping.{TakenFirst, all_taken, none_taken, taken_further}

@@ -1,4 +1,4 @@
-use Rattle.re_strength.specs.Held.{ups_in}
+use Rattle.re_boxes.specs.HeldStrength.{ups_in}
 use Rattle.re_describe.proofs.Thinning.{apart_on, least_on}
 use Rattle.re_describe.proofs.meanings.+thinned.Goals as goal
 

@@ -1,7 +1,7 @@
 use Rattle.std.proofs.Common.{◌∙◌, ap, sym}
 use Rattle.re_labels.proofs.Sets.{has-IsIn}
 use Rattle.re_labels.specs.Sets.{has}
-use Rattle.re_strength.specs.Held.{ups_in}
+use Rattle.re_boxes.specs.HeldStrength.{ups_in}
 use Rattle.re_describe.proofs.Thinning.{has_told}
 use Rattle.re_describe.proofs.meanings.goes_up.Goals as goal
 

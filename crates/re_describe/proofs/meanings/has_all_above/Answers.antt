@@ -1,7 +1,7 @@
 use Rattle.std.proofs.Common.{◌∙◌, ap, sym}
 use Rattle.re_labels.proofs.Sets.{has-IsIn}
 use Rattle.re_labels.specs.Sets.{within}
-use Rattle.re_strength.specs.Held.{ups_in}
+use Rattle.re_boxes.specs.HeldStrength.{ups_in}
 use Rattle.re_describe.proofs.Thinning.{within_told}
 use Rattle.re_describe.proofs.meanings.has_all_above.Goals as goal
 

@@ -1,6 +1,6 @@
 use Rattle.std.proofs.Common.{ℕ, ◌<◌}
 use Rattle.re_labels.specs.Sets.{IsIn}
-use Rattle.re_strength.specs.Held.{ups_in}
+use Rattle.re_boxes.specs.HeldStrength.{ups_in}
 use Rattle.re_describe.proofs.meanings.is_above.Given as goal
 
 abbrev pub invariant-loop-other : goal.invariant-loop-other

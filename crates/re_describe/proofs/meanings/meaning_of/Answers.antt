@@ -1,4 +1,4 @@
-use Rattle.re_strength.specs.Held.{ups_in}
+use Rattle.re_boxes.specs.HeldStrength.{ups_in}
 use Rattle.re_describe.proofs.Thinning.{weakest_tell}
 use Rattle.re_describe.proofs.meanings.meaning_of.Goals as goal
 

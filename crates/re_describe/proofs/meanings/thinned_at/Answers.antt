@@ -2,7 +2,7 @@ use Rattle.std.proofs.Common.{refl, sym, subst, not, eqb}
 use Rattle.re_labels.proofs.Numbers.{IsLabelSet-filter}
 use Rattle.re_labels.proofs.Tests.{not_told}
 use Rattle.re_labels.specs.Sets.{IsIn, IsLabelSet}
-use Rattle.re_strength.specs.Held.{ups_in}
+use Rattle.re_boxes.specs.HeldStrength.{ups_in}
 use Rattle.re_describe.specs.Meanings.{IsAbove}
 use Rattle.re_describe.proofs.Thinning.{alone_below, of_rest, rest_stays, stays_above}
 use Rattle.re_describe.proofs.meanings.thinned_at.Goals as goal

@@ -4,7 +4,7 @@ use Rattle.std.proofs.lemmas.List.{take_all, take_more}
 use Rattle.std.proofs.lemmas.Result.{IfOk-weaker}
 use Rattle.re_cert.specs.Bounds.{entries_in}
 use Rattle.re_cert.specs.Stages.{stages_of}
-use Rattle.re_config.proofs.Patterns.{others-are, parted}
+use Rattle.re_labels.proofs.Patterns.{others-are, parted}
 use Rattle.re_extract.proofs.Levels.{Level, chosen_as, labels_as, level_labels, level_more, level_none, level_some, looking_more, looking_none}
 use Rattle.re_extract.proofs.Opening.{Opened, length-backs, opened, some_choices, view_at}
 use Rattle.re_extract.specs.Seen.{labels_over}
@@ -14,7 +14,7 @@ use Rattle.re_laws.specs.Extracted.{extracted}
 use Rattle.re_pool.specs.Pools.{tree_at}
 use Rattle.re_problem.specs.NamedProblems.{NamedProblem, unnamed}
 use Rattle.re_problem.specs.Steps.{set_for}
-use Rattle.re_views.specs.Trees.{IsView, backs, shift}
+use Rattle.re_laws.specs.Trees.{IsView, backs, shift}
 use Rattle.re_extract.proofs.extracting.+labels_of.Goals as goal
 
 pub loop-view-init : goal.loop-view-init

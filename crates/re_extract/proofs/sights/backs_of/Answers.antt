@@ -3,7 +3,7 @@ use Rattle.re_extract.proofs.Found.{backs-links}
 use Rattle.re_pool.proofs.Reading.{shown_leaf, shown_node}
 use Rattle.re_pool.specs.Pools.{trees}
 use Rattle.re_pool.specs.declared.shape.Link.{Link}
-use Rattle.re_views.specs.Trees.{backs}
+use Rattle.re_laws.specs.Trees.{backs}
 use Rattle.re_extract.proofs.sights.backs_of.Goals as goal
 
 pub returns-in-Leaf-clause-backs : goal.returns-in-Leaf-clause-backs

@@ -1,7 +1,7 @@
 use Rattle.std.proofs.Common.{◌+◌, map, take}
 use Rattle.re_extract.proofs.Placed.{placed_more, shown_more, view_held}
 use Rattle.re_pool.specs.Narrow.{IsNarrow}
-use Rattle.re_views.specs.Shown.{tree_of_view}
+use Rattle.re_laws.specs.Shown.{tree_of_view}
 use Rattle.re_extract.proofs.views.placed.Goals as goal
 
 pub place-requires : goal.place-requires

@@ -1,6 +1,6 @@
 use Rattle.std.proofs.Common.{map, take}
 use Rattle.re_extract.proofs.Placed.{Placed}
-use Rattle.re_views.specs.Shown.{tree_of_view}
+use Rattle.re_laws.specs.Shown.{tree_of_view}
 use Rattle.re_extract.proofs.views.placed.Given as goal
 
 abbrev pub invariant-loop-view : goal.invariant-loop-view

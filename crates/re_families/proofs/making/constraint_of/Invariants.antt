@@ -1,5 +1,5 @@
 use Rattle.std.proofs.Common.{◌≡◌, ℕ, ◌++◌, filter}
-use Rattle.re_config.specs.Orders.{multisets}
+use Rattle.re_labels.specs.Orders.{multisets}
 use Rattle.re_families.specs.Families.{rule, rules_of}
 use Rattle.re_labels.specs.ListSets.{list_set}
 use Rattle.re_families.proofs.making.constraint_of.Given as goal

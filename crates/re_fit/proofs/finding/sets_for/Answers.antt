@@ -2,8 +2,8 @@ use Rattle.std.proofs.Common.{◌<◌, ◌∙◌, arith, sym, subst}
 use Rattle.std.specs.List.{AllByRecursion}
 use Rattle.re_bridge.proofs.SetTests.{entries-low}
 use Rattle.re_changes.proofs.Counted.{pushed}
-use Rattle.re_entry_clauses.specs.LabelsOver.{labels_over}
-use Rattle.re_entry_clauses.specs.RowEntries.{row_entries}
+use Rattle.re_check.specs.LabelsOver.{labels_over}
+use Rattle.re_check.specs.RowEntries.{row_entries}
 use Rattle.re_fit.proofs.Answering.{filled-with, over-at}
 use Rattle.re_labels.specs.declared.TheConstants.{MAX_LABELS}
 use Rattle.re_problem.specs.Steps.{SetEntry}

@@ -1,7 +1,7 @@
 use Rattle.std.proofs.Common.{◌≡◌, map}
 use Rattle.re_labels.specs.Lists.{count_from}
-use Rattle.re_entry_clauses.specs.LabelsOver.{labels_over}
-use Rattle.re_entry_clauses.specs.RowEntries.{row_entries}
+use Rattle.re_check.specs.LabelsOver.{labels_over}
+use Rattle.re_check.specs.RowEntries.{row_entries}
 use Rattle.re_fit.proofs.finding.sets_for.Given as goal
 
 abbrev pub invariant-loop-label : goal.invariant-loop-label

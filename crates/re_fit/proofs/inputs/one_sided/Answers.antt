@@ -1,5 +1,5 @@
 use Rattle.std.proofs.Common.{◌∙◌, sym, ap, arith, length}
-use Rattle.re_maps.proofs.FirstFound.{label-here, label-none}
+use Rattle.re_problem.proofs.FirstFound.{label-here, label-none}
 use Rattle.re_fit.proofs.Judged.{occurs-is, sided-test}
 use Rattle.re_fit.specs.InputProblems.{is_one_sided}
 use Rattle.re_fit.proofs.inputs.one_sided.Goals as goal

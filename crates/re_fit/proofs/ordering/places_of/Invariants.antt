@@ -1,5 +1,5 @@
 use Rattle.std.proofs.Common.{◌≡◌, take}
-use Rattle.re_config.specs.Rows.{singles}
+use Rattle.re_labels.specs.Rows.{singles}
 use Rattle.re_fit.specs.Fits.{joined}
 use Rattle.re_fit.proofs.ordering.places_of.Given as goal
 

@@ -1,5 +1,5 @@
 use Rattle.std.proofs.Common.{◌≡◌, ◌++◌, take}
-use Rattle.re_config.specs.Rows.{singles}
+use Rattle.re_labels.specs.Rows.{singles}
 use Rattle.re_fit.proofs.ordering.push_labels.Given as goal
 
 abbrev pub invariant-loop-label : goal.invariant-loop-label

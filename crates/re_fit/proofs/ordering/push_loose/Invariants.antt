@@ -1,5 +1,5 @@
 use Rattle.std.proofs.Common.{◌≡◌, ◌++◌}
-use Rattle.re_config.specs.Rows.{singles}
+use Rattle.re_labels.specs.Rows.{singles}
 use Rattle.re_fit.specs.Fits.{loose}
 use Rattle.re_fit.proofs.ordering.push_loose.Given as goal
 

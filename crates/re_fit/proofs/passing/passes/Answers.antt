@@ -1,9 +1,9 @@
 use Rattle.std.proofs.Common.{◌≡◌, ◌<◌, ◌∙◌, ◌&&◌, true, List, ap, length, sym, subst}
 use Rattle.std.specs.List.{AllByRecursion}
 use Rattle.re_bridge.proofs.SetTests.{entries-low}
-use Rattle.re_clauses.proofs.StepTests.{allowed-test}
-use Rattle.re_clauses.specs.Clauses.{keep_allowed}
-use Rattle.re_entry_clauses.specs.RowEntries.{row_entries}
+use Rattle.re_check.proofs.StepTests.{allowed-test}
+use Rattle.re_check.specs.Clauses.{keep_allowed}
+use Rattle.re_check.specs.RowEntries.{row_entries}
 use Rattle.re_labels.specs.declared.TheConstants.{MAX_LABELS}
 use Rattle.re_problem.specs.Steps.{SetEntry}
 use Rattle.re_fit.specs.Fits.{are_images}

@@ -1,5 +1,5 @@
 use Rattle.std.proofs.Common.{◌-◌, arith, subst}
-use Rattle.re_ahead.specs.Ahead.{IsTold}
+use Rattle.re_given_words.specs.Ahead.{IsTold}
 use Rattle.re_problem.specs.NamedProblems.{unnamed}
 use Rattle.re_given_words.proofs.AheadCounts.{told-all, told-exactly, told-stopped}
 use Rattle.re_given_words.proofs.counting.count_ahead.Goals as goal

@@ -1,5 +1,5 @@
 use Rattle.std.proofs.Common.{subst, sym}
-use Rattle.re_chain_texts.proofs.WordsGiven.{none_fails}
+use Rattle.re_chains.proofs.WordsGiven.{none_fails}
 use Rattle.re_given.specs.Inputs.{IsInput}
 use Rattle.re_given_bounds.specs.GivenBounds.{IsOver}
 use Rattle.re_problem.specs.NamedProblems.{NamedProblem, unnamed}

@@ -1,7 +1,7 @@
 use Rattle.std.proofs.Common.{◌∙◌, ap, codes, subst}
 use Rattle.re_frame.specs.Outcomes.{outcome_of}
 use Rattle.re_frame.specs.TextFaults.{fault_outcome}
-use Rattle.re_two_texts.specs.TwoTexts.{ReadRefuses}
+use Rattle.re_chains.specs.TwoTexts.{ReadRefuses}
 use Rattle.re_given_words.proofs.GivenMeans.{judged_fault, judged_texts}
 use Rattle.re_given_words.proofs.RoundsAnswers.{both_ok}
 use Rattle.re_given_words.proofs.judging.bound_output.Goals as goal

@@ -1,8 +1,8 @@
 use Rattle.std.proofs.Common.{◌∙◌, ap, length, sym}
 use Rattle.std.proofs.lemmas.Result.{IfOk-weaker}
-use Rattle.re_chain_texts.proofs.WordsGiven.{none_fails}
+use Rattle.re_chains.proofs.WordsGiven.{none_fails}
 use Rattle.re_check.specs.declared.verdict.Verdict.TheVariants.{Refused}
-use Rattle.re_clauses.specs.declared.clause.Clause.TheVariants.{Back}
+use Rattle.re_check.specs.declared.clause.Clause.TheVariants.{Back}
 use Rattle.re_frame.specs.Check.{verdict_outcome}
 use Rattle.re_given_bounds.specs.GivenBounds.{IsOver}
 use Rattle.re_given_words.proofs.Held.{accepted_back, refused_back}

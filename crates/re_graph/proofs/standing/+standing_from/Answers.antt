@@ -1,5 +1,5 @@
 use Rattle.std.proofs.Common.{drop, refl}
-use Rattle.re_config.proofs.Patterns.{others-are, parted}
+use Rattle.re_labels.proofs.Patterns.{others-are, parted}
 use Rattle.re_graph.proofs.EndSearch.{found-here, found-later}
 use Rattle.re_graph.proofs.standing.+standing_from.Goals as goal
 

@@ -1,5 +1,5 @@
 use Rattle.std.proofs.Common.{length}
-use Rattle.re_sections.specs.SectionLines.{words_of}
+use Rattle.re_problem.specs.SectionLines.{words_of}
 use Rattle.re_graph_words.proofs.ends.+line_from.Given as goal
 
 abbrev pub decreases-line_from : goal.decreases-line_from

@@ -1,5 +1,5 @@
 use Rattle.std.proofs.Common.{◌+◌, ◌∷◌, ◌∙◌, [], ap, refl, sym}
-use Rattle.re_sections.specs.SectionLines.{words_of}
+use Rattle.re_problem.specs.SectionLines.{words_of}
 use Rattle.re_graph_words.specs.GraphLines.{graph_from, line_from}
 use Rattle.re_graph_words.proofs.LineSteps.{line-empty, line-fault, line-on, line-section}
 use Rattle.re_graph_words.proofs.lines.add_line.Goals as goal

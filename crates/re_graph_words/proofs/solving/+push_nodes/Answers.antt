@@ -2,7 +2,7 @@ use Rattle.std.proofs.Common.{◌<◌, ◌-◌, ◌++◌, ◌∙◌, ap, arith, 
 use Rattle.std.proofs.lemmas.Result.{on_ok_weaker}
 use Rattle.std.specs.List.{AllByRecursion}
 use Rattle.std.specs.Prelude.{codes}
-use Rattle.re_cert_text.specs.CertificateLines.{image_text}
+use Rattle.re_texts.specs.CertificateLines.{image_text}
 use Rattle.re_graph.specs.Solving.{labels_of}
 use Rattle.re_walks.proofs.ConfigBeginnings.{low-drop, low-take}
 use Rattle.re_graph_words.specs.Solutions.{node_lines}

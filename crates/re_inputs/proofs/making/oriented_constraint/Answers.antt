@@ -1,6 +1,6 @@
 use Rattle.std.proofs.Common.{◌≡◌, ◌∙◌, ◌<◌, ap, sym, subst, arith, [], length}
 use Rattle.std.specs.List.{AllByRecursion}
-use Rattle.re_config.specs.Orders.{multisets}
+use Rattle.re_labels.specs.Orders.{multisets}
 use Rattle.re_inputs.specs.NamedInputs.{may_stand}
 use Rattle.re_labels.proofs.Membership.{AllByRecursion-weaker}
 use Rattle.re_families.proofs.Listing.{all_kept, config_is, is_config, kept, left, passed, room}

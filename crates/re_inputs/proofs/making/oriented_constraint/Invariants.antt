@@ -1,5 +1,5 @@
 use Rattle.std.proofs.Common.{◌≡◌, ◌++◌, filter}
-use Rattle.re_config.specs.Orders.{multisets}
+use Rattle.re_labels.specs.Orders.{multisets}
 use Rattle.re_inputs.specs.NamedInputs.{may_stand}
 use Rattle.re_labels.specs.ListSets.{list_set}
 use Rattle.re_inputs.proofs.making.oriented_constraint.Given as goal

@@ -1,6 +1,6 @@
 use Rattle.std.proofs.Common.{◌<◌, ◌∙◌, subst, sym}
 use Rattle.std.specs.List.{AllByRecursion}
-use Rattle.re_config.proofs.Replacing.{AllByRecursion-image_at}
+use Rattle.re_labels.proofs.Replacing.{AllByRecursion-image_at}
 use Rattle.re_inputs.proofs.pairing.paired.Goals as goal
 
 pub push_pairs-requires-clause-ys : goal.push_pairs-requires-clause-ys

@@ -1,5 +1,5 @@
 use Rattle.std.proofs.Common.{◌≡◌, length, map, take}
-use Rattle.re_config.specs.Configs.{image_at}
+use Rattle.re_labels.specs.Configs.{image_at}
 use Rattle.re_inputs.proofs.pairing.placed.Given as goal
 
 abbrev pub invariant-loop-place : goal.invariant-loop-place

@@ -1,5 +1,5 @@
 use Rattle.std.proofs.Common.{◌≡◌, ◌∙◌, ◌++◌, ◌∷◌, [], Err, ap, refl, subst, sym}
-use Rattle.re_config.specs.Configs.{IsConfig}
+use Rattle.re_labels.specs.Configs.{IsConfig}
 use Rattle.re_families.proofs.Listing.{passed}
 use Rattle.re_inputs.proofs.PairingLemmas.{at_end, at_start, come_to, one_more, too_many}
 use Rattle.re_inputs.specs.Pairings.{pairings_with}

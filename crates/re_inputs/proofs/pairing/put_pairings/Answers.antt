@@ -1,7 +1,7 @@
 use Rattle.std.proofs.Common.{◌≡◌, ◌<◌, ◌∙◌, ◌∷◌, ◌++◌, [], Err, List, ℕ, ap, length, refl, subst, sym}
 use Rattle.std.specs.List.{AllByRecursion}
-use Rattle.re_config.specs.Configs.{sorted}
-use Rattle.re_config.specs.Orders.{placements}
+use Rattle.re_labels.specs.Configs.{sorted}
+use Rattle.re_labels.specs.Orders.{placements}
 use Rattle.re_families.proofs.Listing.{passed}
 use Rattle.re_inputs.proofs.PairingLemmas.{at_end, at_start, come_to, map-listed, one_more, order_count, order_low, order_places, too_many}
 use Rattle.re_inputs.specs.Pairings.{beside_in}

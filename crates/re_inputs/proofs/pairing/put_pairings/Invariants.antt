@@ -1,7 +1,7 @@
 use Rattle.std.proofs.Common.{◌≡◌, ◌∷◌, ◌++◌, [], length}
 use Rattle.std.specs.List.{flat_map}
-use Rattle.re_config.specs.Configs.{sorted}
-use Rattle.re_config.specs.Orders.{placements}
+use Rattle.re_labels.specs.Configs.{sorted}
+use Rattle.re_labels.specs.Orders.{placements}
 use Rattle.re_inputs.specs.Pairings.{beside_in}
 use Rattle.re_labels.specs.ListSets.{list_set}
 use Rattle.re_inputs.proofs.pairing.put_pairings.Given as goal

@@ -1,7 +1,7 @@
 use Rattle.std.proofs.Common.{ap, arith, length, sym}
 use Rattle.re_inputs.proofs.ProductNames.{few_names, not_own}
 use Rattle.re_inputs.specs.NamedProducts.{is_nameless, pair_count}
-use Rattle.re_maps.proofs.FirstFound.{label-here, label-none}
+use Rattle.re_problem.proofs.FirstFound.{label-here, label-none}
 use Rattle.re_inputs.proofs.products.put_names.Goals as goal
 
 pub put_name-requires-clause-few : goal.put_name-requires-clause-few

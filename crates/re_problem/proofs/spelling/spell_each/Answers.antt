@@ -1,6 +1,6 @@
 use Rattle.std.proofs.Common.{◌≡◌, ◌<◌, ◌∙◌, ◌++◌, [], Err, ap, arith, length, subst}
-use Rattle.re_config.proofs.Rearranging.{length-Rearranged}
-use Rattle.re_config.proofs.Sorting.{AllByRecursion-Rearranged}
+use Rattle.re_labels.proofs.Rearranging.{length-Rearranged}
+use Rattle.re_labels.proofs.Sorting.{AllByRecursion-Rearranged}
 use Rattle.re_labels.specs.ListSets.{list_set}
 use Rattle.re_labels.specs.Sets.{IsLabelSet}
 use Rattle.re_problem.specs.Walks.{spelled_from}

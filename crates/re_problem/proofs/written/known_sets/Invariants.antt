@@ -1,5 +1,5 @@
 use Rattle.std.proofs.Common.{length, List, ◌-◌, ◌≤◌}
-use Rattle.re_items.specs.Items.{ItemText}
+use Rattle.re_problem.specs.Items.{ItemText}
 use Rattle.re_problem.proofs.WrittenLines.{KnownItems}
 use Rattle.re_problem.proofs.written.known_sets.Given as goal
 

@@ -1,8 +1,8 @@
 use Rattle.std.proofs.Common.{subst, sym}
 use Rattle.std.proofs.lemmas.Result.{IfOk-weaker}
 use Rattle.re_cert.specs.declared.certificate.TheConstants.{MAX_STEPS}
-use Rattle.re_chain_parts.specs.HeldBounds.{held_bound}
-use Rattle.re_chain_parts.specs.declared.chains.Chain.{Chain}
+use Rattle.re_chains.specs.HeldBounds.{held_bound}
+use Rattle.re_chains.specs.declared.chains.Chain.{Chain}
 use Rattle.re_frame.specs.Outcomes.{outcome_of}
 use Rattle.re_search_words.specs.MayGive.{MayGiveAt}
 use Rattle.re_search_words.specs.declared.words.SearchWord.TheVariants.{Cycle}

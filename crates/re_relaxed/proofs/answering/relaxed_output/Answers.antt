@@ -1,6 +1,6 @@
 use Rattle.std.proofs.Common.{inl, subst, sym}
 use Rattle.re_cert.specs.declared.certificate.TheConstants.{MAX_STEPS}
-use Rattle.re_chain_texts.proofs.WordsGiven.{both_ok}
+use Rattle.re_chains.proofs.WordsGiven.{both_ok}
 use Rattle.re_frame.specs.Outcomes.{outcome_of}
 use Rattle.re_relaxed.specs.Answers.{Answers}
 use Rattle.re_search_words.specs.MayGive.{MayFindBehind}

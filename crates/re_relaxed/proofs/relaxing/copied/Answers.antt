@@ -1,6 +1,6 @@
 use Rattle.std.proofs.Common.{ap, subst, sym, ◌∙◌}
 use Rattle.re_cert.specs.Bounds.{Bound}
-use Rattle.re_chain_parts.specs.Chains.{IsSound, chain_kind}
+use Rattle.re_chains.specs.Chains.{IsSound, chain_kind}
 use Rattle.re_relaxed.proofs.relaxing.copied.Goals as goal
 
 pub new-requires-clause-lower : goal.new-requires-clause-lower

@@ -1,7 +1,7 @@
 use Rattle.std.proofs.Common.{length, subst}
 use Rattle.std.specs.Prelude.{IfSome}
 use Rattle.re_cert.specs.declared.certificate.Kind.TheVariants.{Lower}
-use Rattle.re_extend.specs.Extensions.{GoesOn}
+use Rattle.re_shaping.specs.Extensions.{GoesOn}
 use Rattle.re_labels.specs.declared.TheConstants.{MAX_LABELS}
 use Rattle.re_relaxed.proofs.Accepted.{accepted_sound}
 use Rattle.re_relaxed.proofs.relaxing.relaxed_chain.Goals as goal

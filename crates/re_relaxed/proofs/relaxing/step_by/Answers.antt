@@ -1,5 +1,5 @@
 use Rattle.std.proofs.Common.{◌<◌, [], ◌∷◌, length, arith}
-use Rattle.re_config.proofs.Replacing.{AllByRecursion-image_at}
+use Rattle.re_labels.proofs.Replacing.{AllByRecursion-image_at}
 use Rattle.re_relaxed.proofs.relaxing.step_by.Goals as goal
 
 pub relaxed_step-requires-clause-below : goal.relaxed_step-requires-clause-below

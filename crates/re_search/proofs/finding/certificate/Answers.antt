@@ -1,7 +1,7 @@
 use Rattle.std.proofs.Common.{None, length, ap, arith}
 use Rattle.std.specs.Prelude.{if◌then◌else◌}
 use Rattle.re_cert.specs.Bounds.{is_fixed}
-use Rattle.re_tree.specs.Nodes.{way_back}
+use Rattle.re_search.specs.Nodes.{way_back}
 use Rattle.re_search.proofs.WaysBack.{bound-short}
 use Rattle.re_search.specs.Walking.{node_at}
 use Rattle.re_search.proofs.finding.certificate.Goals as goal

@@ -1,6 +1,6 @@
 use Rattle.std.proofs.Common.{◌≡◌, ℕ, ◌+◌, ◌<◌, ◌≤◌, ◌++◌, ◌∷◌, [], List, zero, suc, length, take, get_or, refl, sym, ap, ◌∙◌, arith}
 use Rattle.std.proofs.lemmas.List.{take_more}
-use Rattle.re_tree.specs.Paths.{pairs_of}
+use Rattle.re_search.specs.Paths.{pairs_of}
 use Rattle.re_search.proofs.finding.pairs_of.Goals as goal
 
 pairs-more : (label : ℕ) (images : List ℕ) (image : ℕ) → pairs_of label (images ++ image ∷ []) ≡ pairs_of label images ++ (label + length images, image) ∷ []

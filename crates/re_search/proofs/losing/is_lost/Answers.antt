@@ -1,5 +1,5 @@
 use Rattle.std.proofs.Common.{not, ◌&&◌, map, sym, ap, ◌∙◌}
-use Rattle.re_config.specs.Configs.{image_at}
+use Rattle.re_labels.specs.Configs.{image_at}
 use Rattle.re_table.proofs.SaidChoices.{found-is}
 use Rattle.re_table.specs.Constraints.{has_config}
 use Rattle.re_search.proofs.Losses.{mapped-below}

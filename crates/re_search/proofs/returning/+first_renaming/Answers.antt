@@ -1,9 +1,9 @@
 use Rattle.std.proofs.Common.{◌∙◌, eqb, length, ap, sym}
 use Rattle.std.proofs.lemmas.Bool.{false≢true}
 use Rattle.re_check.specs.Verdicts.{is_yes}
-use Rattle.re_maps.specs.Verdicts.{renaming_verdict}
+use Rattle.re_problem.specs.Verdicts.{renaming_verdict}
 use Rattle.re_problem.specs.NamedProblems.{unnamed}
-use Rattle.re_config.specs.Orders.{orders}
+use Rattle.re_labels.specs.Orders.{orders}
 use Rattle.re_search.proofs.Losses.{lost-becomes, none-of}
 use Rattle.re_search.proofs.Renamings.{none-at_all, none-more, rest-size, some-here}
 use Rattle.re_search.proofs.returning.+first_renaming.Goals as goal

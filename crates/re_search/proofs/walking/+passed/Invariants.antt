@@ -3,7 +3,7 @@ use Rattle.re_cert.specs.Bounds.{BoundStep}
 use Rattle.re_cert.specs.declared.certificate.Kind.TheVariants.{Fixed}
 use Rattle.re_changes.specs.Changes.{Changed, changed_by, changed_times}
 use Rattle.re_problem.specs.NamedProblems.{NamedProblem}
-use Rattle.re_tree.specs.Nodes.{behind}
+use Rattle.re_search.specs.Nodes.{behind}
 use Rattle.re_search.specs.Walking.{Walks, below_made, node_at}
 use Rattle.re_search.specs.declared.walking.Walked.TheVariants.{Passed}
 use Rattle.re_search.proofs.walking.+passed.Given as goal

@@ -1,4 +1,4 @@
-use Rattle.re_tree.proofs.Paths.{going-left}
+use Rattle.re_search.proofs.Paths.{going-left}
 use Rattle.std.proofs.Common.{◌≡◌, ℕ, ◌+◌, ◌-◌, ◌<◌, ◌≤◌, ◌++◌, ◌∷◌, [], Ok, Err, suc, flat_map, take, length, get_or, refl, sym, ap, ◌∙◌, subst, arith, rules, length-append}
 use Rattle.re_labels.proofs.Membership.{length-count_from, length-map'}
 use Rattle.re_labels.specs.Lists.{count_from}
@@ -9,7 +9,7 @@ use Rattle.re_changes.specs.declared.change.Change.TheVariants.{Merge}
 use Rattle.re_search.proofs.PassedOver.{passed-are}
 use Rattle.re_search.proofs.PathSteps.{truncated}
 use Rattle.re_search.proofs.Walks.{all_of_changes, all_of_counts, child-found, child-passed, child-refused, counted-at, is-change, level-along, loop-done, loop-found, loop-passed, loop-refused, of_change, of_count, one_change, one_count, same-at, start_at, start-images, step-is, visit-cut, visit-inner, visit-leaf, visit-success, visited, walks-cut, walks-nodes}
-use Rattle.re_tree.specs.Nodes.{behind, preorder}
+use Rattle.re_search.specs.Nodes.{behind, preorder}
 use Rattle.re_step.specs.Derivations.{Derivation}
 use Rattle.re_search.specs.Walking.{Walks, node_at}
 use Rattle.re_search.specs.declared.walking.Visited.TheVariants.{Cut, Inner, Leaf, Success}

@@ -1,5 +1,5 @@
 use Rattle.std.proofs.Common.{◌≡◌, ◌<◌, ℕ, length}
-use Rattle.re_tree.specs.Nodes.{behind}
+use Rattle.re_search.specs.Nodes.{behind}
 use Rattle.re_search.proofs.walking.may_return.Given as goal
 
 abbrev pub invariant-loop-number : goal.invariant-loop-number

@@ -1,6 +1,6 @@
 use Rattle.std.proofs.Common.{not, sym, ap, arith, ◌∙◌}
 use Rattle.std.specs.Prelude.{◌&&◌, is_some}
-use Rattle.re_tree.specs.Nodes.{succeeds, way_back}
+use Rattle.re_search.specs.Nodes.{succeeds, way_back}
 use Rattle.re_search.proofs.Walks.{way-found}
 use Rattle.re_search.specs.Walking.{node_at}
 use Rattle.re_search.proofs.walking.succeeds.Goals as goal

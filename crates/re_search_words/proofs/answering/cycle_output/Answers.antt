@@ -1,5 +1,5 @@
 use Rattle.std.proofs.Common.{inl, subst, sym}
-use Rattle.re_chain_texts.proofs.WordsGiven.{both_ok}
+use Rattle.re_chains.proofs.WordsGiven.{both_ok}
 use Rattle.re_frame.specs.Outcomes.{outcome_of}
 use Rattle.re_cycle.specs.Answers.{Answers}
 use Rattle.re_search_words.specs.MayGive.{MayFindBehind}

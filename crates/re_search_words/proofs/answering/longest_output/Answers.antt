@@ -2,7 +2,7 @@ use Rattle.std.proofs.Common.{◌≡◌, None, rules, subst}
 use Rattle.std.specs.Prelude.{IfSome}
 use Rattle.re_cert.specs.Bounds.{last_problem}
 use Rattle.re_cert.specs.declared.certificate.Kind.TheVariants.{Lower}
-use Rattle.re_chain_texts.proofs.WordsGiven.{both_ok}
+use Rattle.re_chains.proofs.WordsGiven.{both_ok}
 use Rattle.re_frame.specs.Outcomes.{outcome_of, status_of}
 use Rattle.re_frame.specs.declared.status.Status.TheVariants.{Done}
 use Rattle.re_problem.specs.NamedProblems.{unnamed}

@@ -2,7 +2,7 @@ use Rattle.std.proofs.Common.{◌∙◌, ap, codes, subst}
 use Rattle.std.proofs.lemmas.Result.{IfOk-weaker}
 use Rattle.re_frame.specs.Outcomes.{outcome_of}
 use Rattle.re_frame.specs.TextFaults.{fault_outcome}
-use Rattle.re_two_texts.specs.TwoTexts.{ReadRefuses}
+use Rattle.re_chains.specs.TwoTexts.{ReadRefuses}
 use Rattle.re_search_words.proofs.FoundGiven.{given_read, given_wrong}
 use Rattle.re_search_words.proofs.given.given_output.Goals as goal
 

@@ -1,5 +1,5 @@
 use Rattle.std.proofs.Common.{refl}
-use Rattle.re_chain_texts.proofs.WordsGiven.{both_ok}
+use Rattle.re_chains.proofs.WordsGiven.{both_ok}
 use Rattle.re_frame.specs.Outcomes.{outcome_of}
 use Rattle.re_search_words.proofs.FoundGiven.{itself, text_on}
 use Rattle.re_search_words.proofs.given.repeated_output.Goals as goal

@@ -1,5 +1,5 @@
 use Rattle.std.proofs.Common.{inl, subst}
-use Rattle.re_chain_texts.proofs.WordsGiven.{both_ok}
+use Rattle.re_chains.proofs.WordsGiven.{both_ok}
 use Rattle.re_cert.specs.declared.certificate.Kind.TheVariants.{Upper}
 use Rattle.re_frame.specs.Outcomes.{outcome_of}
 use Rattle.re_shortest.specs.Answers.{AnswersGiven}

@@ -1,7 +1,7 @@
 use Rattle.std.proofs.Common.{◌∙◌, [], ap, subst}
 use Rattle.re_cert.specs.Bounds.{last_problem}
 use Rattle.re_cert.specs.declared.certificate.Kind.TheVariants.{Upper}
-use Rattle.re_chain_parts.specs.Chains.{chain_with}
+use Rattle.re_chains.specs.Chains.{chain_with}
 use Rattle.re_shortest.specs.Answers.{AnswersAt}
 use Rattle.re_problem.specs.NamedProblems.{NamedProblem, unnamed}
 use Rattle.re_problem.specs.Zero.{zero_place}

@@ -1,7 +1,7 @@
 use Rattle.std.proofs.Common.{[], ap, subst, sym, ◌∙◌}
 use Rattle.re_cert.specs.Bounds.{Bound}
 use Rattle.re_cert.specs.declared.certificate.Kind.TheVariants.{Upper}
-use Rattle.re_chain_parts.specs.Chains.{chain_with}
+use Rattle.re_chains.specs.Chains.{chain_with}
 use Rattle.re_given.specs.Inputs.{IsInput}
 use Rattle.re_shortest.specs.Answers.{AnswersGiven}
 use Rattle.re_problem.specs.NamedProblems.{NamedProblem, unnamed}

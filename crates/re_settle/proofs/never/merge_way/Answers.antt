@@ -1,5 +1,5 @@
 use Rattle.std.proofs.Common.{ap, sym, ◌∙◌}
-use Rattle.re_chain.specs.Merging.{merge_limit, merge_refusal, merged}
+use Rattle.re_shaping.specs.Merging.{merge_limit, merge_refusal, merged}
 use Rattle.re_settle.proofs.never.merge_way.Goals as goal
 
 pub closed_way-requires-clause-relaxed : goal.closed_way-requires-clause-relaxed

@@ -6,7 +6,7 @@ use Rattle.re_frame.specs.declared.status.Answer.{Answer}
 use Rattle.re_frame.specs.declared.status.Answer.TheVariants as answers
 use Rattle.re_frame.specs.declared.status.Status.TheVariants as status
 use Rattle.re_io.specs.declared.read.TheConstants.{MAX_BYTES}
-use Rattle.re_two_texts.specs.GivenTexts.{IsGivenText, given_text}
+use Rattle.re_chains.specs.GivenTexts.{IsGivenText, given_text}
 use Rattle.re_settle.proofs.texts.has_given_text.Goals as goal
 
 -- what is Done is the text

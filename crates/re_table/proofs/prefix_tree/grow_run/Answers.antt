@@ -1,7 +1,7 @@
 use Rattle.std.proofs.Common.{◌≡◌, ◌≤◌, ◌++◌, ◌∷◌, [], ◌∙◌, ap, append_assoc, arith, length, refl, subst, sym}
 use Rattle.std.specs.List.{AllByRecursion}
-use Rattle.re_config.proofs.LeastLabels.{first-is}
-use Rattle.re_config.proofs.Sorting.{sorted_again}
+use Rattle.re_labels.proofs.LeastLabels.{first-is}
+use Rattle.re_labels.proofs.Sorting.{sorted_again}
 use Rattle.re_labels.specs.declared.TheConstants.{MAX_LABELS}
 use Rattle.re_labels.specs.Lists.{IsRising}
 use Rattle.re_labels.specs.Sets.{IsLabelSet, without_label}

@@ -1,6 +1,6 @@
 use Rattle.std.proofs.Common.{◌<◌, ◌∙◌, ◌∷◌, ◌++◌, [], ap, sym, length, List, ℕ}
 use Rattle.std.specs.List.{AllByRecursion}
-use Rattle.re_config.specs.Configs.{image_of}
+use Rattle.re_labels.specs.Configs.{image_of}
 use Rattle.re_labels.proofs.Membership.{AllByRecursion-In}
 use Rattle.re_table.proofs.TreeLeaves.{leaf-In}
 use Rattle.re_table.proofs.TreeSteps.{images-more, images-same}

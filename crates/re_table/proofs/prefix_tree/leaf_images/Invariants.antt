@@ -1,5 +1,5 @@
 use Rattle.std.proofs.Common.{◌≡◌, map, take}
-use Rattle.re_config.specs.Configs.{image_of}
+use Rattle.re_labels.specs.Configs.{image_of}
 use Rattle.re_table.specs.PrefixTrees.{leaf_configs}
 use Rattle.re_table.proofs.prefix_tree.leaf_images.Given as goal
 

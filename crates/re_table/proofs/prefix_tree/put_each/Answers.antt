@@ -1,6 +1,6 @@
 use Rattle.std.proofs.Common.{◌≡◌, ◌≤◌, ◌<◌, ◌++◌, ◌∷◌, [], ◌∙◌, ap, append_assoc, arith, length, refl, subst, sym, rules}
 use Rattle.std.specs.List.{AllByRecursion}
-use Rattle.re_config.proofs.LeastLabels.{first-is}
+use Rattle.re_labels.proofs.LeastLabels.{first-is}
 use Rattle.re_labels.specs.declared.TheConstants.{MAX_LABELS}
 use Rattle.re_labels.specs.Lists.{IsRising}
 use Rattle.re_labels.specs.ListSets.{list_set}

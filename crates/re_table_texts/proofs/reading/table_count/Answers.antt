@@ -2,7 +2,7 @@ use Rattle.std.proofs.Common.{ap, sym, ◌∙◌}
 use Rattle.re_labels.specs.Sides.{degree_of}
 use Rattle.re_labels.specs.declared.sides.Degrees.{Degrees}
 use Rattle.re_labels.specs.declared.sides.Side.TheVariants.{Active, Passive}
-use Rattle.re_places.specs.Counting.{view_count}
+use Rattle.re_algo.specs.Counting.{view_count}
 use Rattle.re_table_texts.proofs.reading.table_count.Goals as goal
 
 pub returns-in-Some : goal.returns-in-Some

@@ -1,5 +1,5 @@
 use Rattle.std.proofs.Common.{◌∷◌, cond, sym, ap, ◌∙◌}
-use Rattle.re_sections.specs.SectionLines.{words_of}
+use Rattle.re_problem.specs.SectionLines.{words_of}
 use Rattle.re_table_texts.specs.SectionLines.{section_in, section_named, section_of}
 use Rattle.re_table_texts.specs.declared.sections.Section.TheVariants.{Other}
 use Rattle.re_table_texts.proofs.sections.read_section.Goals as goal

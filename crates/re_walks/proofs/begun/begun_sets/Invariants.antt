@@ -1,6 +1,6 @@
 use Rattle.std.proofs.Common.{◌≡◌, ◌++◌, ◌-◌, length, take}
 use Rattle.std.specs.Prelude.{replicate}
-use Rattle.re_config.specs.Rows.{singles}
+use Rattle.re_labels.specs.Rows.{singles}
 use Rattle.re_walks.proofs.begun.begun_sets.Given as goal
 
 abbrev pub invariant-loop-label : goal.invariant-loop-label

@@ -2,9 +2,9 @@ use Rattle.std.proofs.Common.{◌≡◌, ◌<◌, ◌+◌, ◌∷◌, ap, sym, r
 use Rattle.std.specs.List.{AllByRecursion}
 use Rattle.re_why.proofs.Beginning.{begun_found, not_begun}
 use Rattle.re_why.proofs.Drawing.{drawn_here, drawn_later}
-use Rattle.re_choice.specs.FirstChoice.{IsDrawn}
+use Rattle.re_algo.specs.FirstChoice.{IsDrawn}
 use Rattle.re_why.specs.BadChoice.{begins, first_behind}
-use Rattle.re_config.proofs.Patterns.{others-are, parted}
+use Rattle.re_labels.proofs.Patterns.{others-are, parted}
 use Rattle.re_labels.proofs.Numbers.{IsLabelSet-filter}
 use Rattle.re_labels.specs.Sets.{IsLabelSet}
 use Rattle.re_table.proofs.SaidChoices.{popped-is, rest-lighter}

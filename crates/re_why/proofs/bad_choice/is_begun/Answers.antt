@@ -1,6 +1,6 @@
 use Rattle.std.proofs.Common.{not, ◌≡◌, ◌+◌, [], ◌∷◌, ◌++◌, ◌∙◌, sym, ap, arith, length, length-append}
 use Rattle.re_why.proofs.Beginning.{asked_length, asked_none, asked_some}
-use Rattle.re_config.specs.Rows.{singles}
+use Rattle.re_labels.specs.Rows.{singles}
 use Rattle.re_labels.proofs.Membership.{length-map'}
 use Rattle.re_why.proofs.bad_choice.is_begun.Goals as goal
 

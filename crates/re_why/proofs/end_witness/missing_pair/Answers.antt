@@ -1,5 +1,5 @@
 use Rattle.std.proofs.Common.{◌∙◌, ap, arith, below_more, not, sym}
-use Rattle.re_maps.proofs.FirstFound.{label-here, label-none}
+use Rattle.re_problem.proofs.FirstFound.{label-here, label-none}
 use Rattle.re_why.specs.Finding.{names_first}
 use Rattle.re_why.proofs.end_witness.missing_pair.Goals as goal
 

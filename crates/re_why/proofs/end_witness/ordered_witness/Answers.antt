@@ -1,6 +1,6 @@
 use Rattle.std.proofs.Common.{◌≡◌, ◌∙◌, ap, length, map, not, subst, sym, ℕ, None}
 use Rattle.re_labels.proofs.Membership.{length-count_from, length-map'}
-use Rattle.re_maps.specs.Verdicts.{first_label}
+use Rattle.re_problem.specs.Verdicts.{first_label}
 use Rattle.re_why.proofs.Ends.{in_order}
 use Rattle.re_why.proofs.Holding.{first_below}
 use Rattle.re_why.specs.Finding.{firsts, names_first}

@@ -1,6 +1,6 @@
 use Rattle.std.proofs.Common.{◌≡◌, arith, length}
-use Rattle.re_entry_clauses.proofs.NextLabels.{next-count}
-use Rattle.re_clauses.proofs.StepTests.{known}
+use Rattle.re_check.proofs.NextLabels.{next-count}
+use Rattle.re_check.proofs.StepTests.{known}
 use Rattle.re_why.proofs.finding.shut_images.Goals as goal
 
 pub shut_witness-requires-clause-few : goal.shut_witness-requires-clause-few

@@ -1,8 +1,8 @@
 use Rattle.std.proofs.Common.{◌≡◌, ◌∙◌, ap, arith, below_more, length, map, sym, [], get_or, None, Some}
 use Rattle.re_cert.specs.Bounds.{map_of}
 use Rattle.re_why.proofs.Holding.{config-count}
-use Rattle.re_entry_clauses.proofs.AllowedImages.{over-there}
-use Rattle.re_entry_clauses.specs.LabelsOver.{labels_over}
+use Rattle.re_check.proofs.AllowedImages.{over-there}
+use Rattle.re_check.specs.LabelsOver.{labels_over}
 use Rattle.re_labels.proofs.Membership.{length-map'}
 use Rattle.re_why.proofs.Loops.{none-of, some_none, some_at}
 use Rattle.re_why.specs.Finding.{lost_choice, map_entries}

@@ -1,5 +1,5 @@
 use Rattle.std.proofs.Common.{◌∙◌, arith, below_more, sym}
-use Rattle.re_maps.proofs.FirstFound.{label-here, label-none}
+use Rattle.re_problem.proofs.FirstFound.{label-here, label-none}
 use Rattle.re_why.specs.Finding.{can_add}
 use Rattle.re_why.proofs.row_witness.added_label.Goals as goal
 

@@ -1,8 +1,8 @@
 use Rattle.std.proofs.Common.{◌≡◌, ◌∙◌, ap, sym, arith, Some, None, [], length}
 use Rattle.std.specs.Prelude.{slice_set}
 use Rattle.re_boxes.specs.Grown.{added}
-use Rattle.re_config.proofs.RowCalls.{read_within}
-use Rattle.re_config.specs.Rows.{in_order, row_of, set_at}
+use Rattle.re_labels.proofs.RowCalls.{read_within}
+use Rattle.re_labels.specs.Rows.{in_order, row_of, set_at}
 use Rattle.re_labels.specs.Sets.{with_label}
 use Rattle.re_labels.specs.declared.TheConstants.{MAX_LABELS}
 use Rattle.re_why.proofs.Added.{more_good, more_length, more_row}

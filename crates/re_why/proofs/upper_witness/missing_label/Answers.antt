@@ -1,5 +1,5 @@
 use Rattle.std.proofs.Common.{◌∙◌, ap, arith, below_more, not, sym}
-use Rattle.re_maps.proofs.FirstFound.{label-here, label-none}
+use Rattle.re_problem.proofs.FirstFound.{label-here, label-none}
 use Rattle.re_why.specs.Finding.{names_label}
 use Rattle.re_why.proofs.upper_witness.missing_label.Goals as goal
 

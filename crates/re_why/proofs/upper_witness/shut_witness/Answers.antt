@@ -1,6 +1,6 @@
 use Rattle.std.proofs.Common.{◌<◌, ◌∙◌, ap, length, map, not, sym}
 use Rattle.std.specs.List.{AllByRecursion}
-use Rattle.re_config.specs.Rows.{set_at}
+use Rattle.re_labels.specs.Rows.{set_at}
 use Rattle.re_labels.proofs.Membership.{length-map'}
 use Rattle.re_problem.specs.Steps.{set_for}
 use Rattle.re_table.specs.GoodRows.{is_allowed}

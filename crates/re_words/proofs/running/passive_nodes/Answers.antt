@@ -1,4 +1,4 @@
-use Rattle.re_runs.specs.RunReading.{text_of}
+use Rattle.re_net.specs.RunReading.{text_of}
 use Rattle.re_words.proofs.RunningLemmas.{passive_nodes_get}
 use Rattle.re_words.proofs.running.passive_nodes.Goals as goal
 

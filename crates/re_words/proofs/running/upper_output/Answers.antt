@@ -1,10 +1,10 @@
 use Rattle.std.proofs.Common.{◌∙◌, List, ap, length, refl, subst, sym, ℕ}
 use Rattle.std.proofs.lemmas.Result.{IfOk-weaker}
 use Rattle.re_problem.specs.NamedProblems.{NamedProblem}
-use Rattle.re_runs.specs.RunReading.{text_of}
-use Rattle.re_runs.specs.Runs.{Comes, messages_of, standings_of}
-use Rattle.re_runs.specs.declared.runs.Run.{Run}
-use Rattle.re_runs.specs.declared.runs.Standing.{Standing}
+use Rattle.re_net.specs.RunReading.{text_of}
+use Rattle.re_net.specs.Runs.{Comes, messages_of, standings_of}
+use Rattle.re_net.specs.declared.runs.Run.{Run}
+use Rattle.re_net.specs.declared.runs.Standing.{Standing}
 use Rattle.re_words.specs.Running.{AreNamed, algorithm_of, delivered, nodes_from}
 use Rattle.re_frame.specs.Outcomes.{done}
 use Rattle.re_words.proofs.RunningLemmas.{run_lines, run_named, run_told}

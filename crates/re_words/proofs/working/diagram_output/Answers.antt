@@ -1,5 +1,5 @@
 use Rattle.re_words.proofs.WorkingLemmas.{classes_below, strong_in, strong_named, weak_in, weak_named}
-use Rattle.re_diagram.specs.Diagrams.{Diagram}
+use Rattle.re_changes.specs.Diagrams.{Diagram}
 use Rattle.std.proofs.Common.{ap, ◌∙◌}
 use Rattle.re_words.proofs.working.diagram_output.Goals as goal
 

@@ -1,6 +1,6 @@
 use Rattle.std.proofs.Common.{subst}
 use Rattle.std.proofs.lemmas.Result.{IfOk-weaker}
-use Rattle.re_chain_texts.proofs.WordsGiven.{both_ok}
+use Rattle.re_chains.proofs.WordsGiven.{both_ok}
 use Rattle.re_frame.proofs.Said.{said}
 use Rattle.re_frame.specs.Outcomes.{outcome_of}
 use Rattle.re_bridge_words.specs.Answers.{MayGive}

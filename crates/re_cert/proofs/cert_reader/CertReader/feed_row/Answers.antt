@@ -1,6 +1,6 @@
 use Rattle.std.proofs.Common.{◌≡◌, ◌∙◌, Some, ap, refl, subst, sym, true}
 use Rattle.std.specs.Option.{option_and_then}
-use Rattle.re_config.specs.Rows.{row_of}
+use Rattle.re_labels.specs.Rows.{row_of}
 use Rattle.re_cert.specs.Bounds.{last_problem}
 use Rattle.re_cert.specs.CertificateReading.{Answers, has_first}
 use Rattle.re_cert.specs.CertificateTexts.{past, takes_row}

@@ -10,8 +10,8 @@ use Rattle.re_laws.specs.Extracted.{extracted}
 use Rattle.re_pool.specs.Narrow.{IsNarrow}
 use Rattle.re_pool.specs.Pools.{tree_at}
 use Rattle.re_problem.specs.NamedProblems.{NamedProblem, unnamed}
-use Rattle.re_views.specs.AllViews.{all_views}
-use Rattle.re_views.specs.Shown.{tree_of_view}
+use Rattle.re_laws.specs.AllViews.{all_views}
+use Rattle.re_laws.specs.Shown.{tree_of_view}
 use Rattle.re_extract.proofs.extractor.Extractor.answers.Goals as goal
 
 pub placed-requires : goal.placed-requires

@@ -1,7 +1,7 @@
 use Rattle.std.proofs.Common.{◌<◌, ◌∙◌, ◌++◌, Err, ap, arith, length, map, refl, subst, sym}
 use Rattle.std.specs.List.{AllByRecursion}
-use Rattle.re_config.specs.Configs.{sorted}
-use Rattle.re_config.specs.Rows.{choices}
+use Rattle.re_labels.specs.Configs.{sorted}
+use Rattle.re_labels.specs.Rows.{choices}
 use Rattle.re_labels.specs.ListSets.{list_set}
 use Rattle.re_labels.specs.Sets.{IsLabelSet}
 use Rattle.re_problem.specs.declared.fault.InputFault.TheVariants.{TooManyConfigurations as TooManyInBlock}

@@ -1,5 +1,0 @@
-use Rattle.std.proofs.Common.{length}
-use Rattle.re_ahead.proofs.drawing.+add.Given as goal
-
-abbrev pub decreases-add : goal.decreases-add
-decreases-add l = length l.ports.now

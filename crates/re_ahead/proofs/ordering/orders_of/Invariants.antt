@@ -1,6 +1,0 @@
-use Rattle.std.proofs.Common.{◌≡◌, take}
-use Rattle.re_ahead.specs.Searching.{all_orders}
-use Rattle.re_ahead.proofs.ordering.orders_of.Given as goal
-
-abbrev pub invariant-loop-row : goal.invariant-loop-row
-invariant-loop-row l = l.all.items ≡ all_orders (take l.row-index l.rows)

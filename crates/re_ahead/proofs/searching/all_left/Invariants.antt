@@ -1,6 +1,0 @@
-use Rattle.std.proofs.Common.{take}
-use Rattle.re_ahead.specs.Searching.{AreLeft}
-use Rattle.re_ahead.proofs.searching.all_left.Given as goal
-
-abbrev pub invariant-loop-before : goal.invariant-loop-before
-invariant-loop-before l = AreLeft l.active l.standing (take l.before-index l.opens) l.left.items

@@ -1,7 +1,0 @@
-use Rattle.std.proofs.Common.{subst, sym}
-use Rattle.re_config.specs.Rearranging.{Rearranged}
-use Rattle.re_ahead.proofs.Serving.{inserted-at}
-use Rattle.re_ahead.proofs.searching.put.Goals as goal
-
-pub returns : goal.returns
-returns c = subst (Rearranged _) (sym c.in_ok-insert.ensures.items) (inserted-at c.args.more c.args.opens.now.items c.place_of-place.result)

@@ -1,4 +1,0 @@
-pub mod Ahead
-pub mod Laws
-pub mod RowTests
-pub mod Searching

@@ -1,4 +1,0 @@
-use Rattle.re_box_search.proofs.walking.+cover_before.Given as goal
-
-abbrev pub decreases-cover_before : goal.decreases-cover_before
-decreases-cover_before g l = l.place

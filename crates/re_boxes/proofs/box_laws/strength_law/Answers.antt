@@ -1,0 +1,5 @@
+use Rattle.re_boxes.proofs.Strength.{strength_law as law}
+use Rattle.re_boxes.proofs.box_laws.strength_law.Goals as goal
+
+pub returns : goal.returns
+returns c = law

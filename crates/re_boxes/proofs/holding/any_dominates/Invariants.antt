@@ -1,0 +1,6 @@
+use Rattle.std.proofs.Common.{◌≡◌, false, take}
+use Rattle.re_table.specs.GoodRows.{is_dominated}
+use Rattle.re_boxes.proofs.holding.any_dominates.Given as goal
+
+abbrev pub invariant-loop-top : goal.invariant-loop-top
+invariant-loop-top l = is_dominated (take l.top-index l.rows) l.row ≡ false

@@ -1,5 +1,0 @@
-use Rattle.re_boxes.proofs.Grown.{lacks_law as law}
-use Rattle.re_boxes.proofs.lacks_law.Goals as goal
-
-pub returns : goal.returns
-returns c = law

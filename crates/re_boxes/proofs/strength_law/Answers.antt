@@ -1,5 +1,0 @@
-use Rattle.re_boxes.proofs.Strength.{strength_law as law}
-use Rattle.re_boxes.proofs.strength_law.Goals as goal
-
-pub returns : goal.returns
-returns c = law

@@ -1,6 +1,0 @@
--- The law is shown by its lemmas.
-use Rattle.re_cert_text.proofs.EntryLines.{entry_line_law}
-use Rattle.re_cert_text.proofs.entry_line_law.Goals as goal
-
-pub returns : goal.returns
-returns c = entry_line_law

@@ -1,9 +1,0 @@
-pub mod Chains
-pub mod Merging
-pub mod Dropping
-pub mod Naming
-pub mod Laws
-pub mod Ordered
-pub mod Orders
-pub mod Relaxing
-pub mod Tidied

@@ -1,3 +1,0 @@
-pub mod MoreSteps
-pub mod OwnEntries
-pub mod RowForms

@@ -1,2 +1,0 @@
-pub mod ChainTexts
-pub mod OverChains

@@ -1,0 +1,7 @@
+use Rattle.std.proofs.Common.{ℕ, ◌<◌}
+use Rattle.re_labels.specs.Sets.{IsIn, IsWithin}
+use Rattle.re_boxes.specs.HeldStrength.{ups_in}
+use Rattle.re_check.proofs.judging.is_up.Given as goal
+
+abbrev pub invariant-loop-label : goal.invariant-loop-label
+invariant-loop-label l = (x : ℕ) → x < l.label → IsIn x l.set → IsWithin (ups_in l.strength.ups.items x) l.set

@@ -1,0 +1,5 @@
+use Rattle.re_check.proofs.StepTests.{allowed-test}
+use Rattle.re_check.proofs.step.keep_allowed.Goals as goal
+
+pub returns : goal.returns
+returns c = allowed-test c.args.before.now c.args.passive.now c.args.entries.now c.keeps_allowed.result c.keeps_allowed.ensures

@@ -1,6 +1,0 @@
-mod Places
-mod Dominations
-mod Combinations
-mod Counting
-mod Keeping
-mod NeededSets

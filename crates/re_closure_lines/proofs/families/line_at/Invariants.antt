@@ -1,6 +1,0 @@
-use Rattle.std.proofs.Common.{◌≡◌, take}
-use Rattle.re_config.specs.Rows.{placed}
-use Rattle.re_closure_lines.proofs.families.line_at.Given as goal
-
-abbrev pub invariant-loop-label : goal.invariant-loop-label
-invariant-loop-label l = l.held.items ≡ placed l.sets (take l.label-index l.config)

@@ -1,3 +1,0 @@
-pub mod Combining
-pub mod Kept
-pub mod ProblemFamilies

@@ -1,6 +1,0 @@
-use Rattle.std.proofs.Common.{sym, take}
-use Rattle.re_config.proofs.configuration.of_ascending.Goals as goal
-use Rattle.re_config.proofs.Sorting.{sorted_again}
-
-pub returns : goal.returns
-returns c = sym (sorted_again (take c.args.count c.args.held) c.requires.rises)

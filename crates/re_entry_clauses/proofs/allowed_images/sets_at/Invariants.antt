@@ -1,6 +1,0 @@
-use Rattle.std.proofs.Common.{◌≡◌, map, take}
-use Rattle.re_config.specs.Rows.{set_at}
-use Rattle.re_entry_clauses.proofs.allowed_images.sets_at.Given as goal
-
-abbrev pub invariant-loop-label : goal.invariant-loop-label
-invariant-loop-label l = l.there.items ≡ map (set_at l.sets) (take l.label-index l.label-items)

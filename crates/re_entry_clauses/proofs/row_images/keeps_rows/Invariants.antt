@@ -1,7 +1,0 @@
-use Rattle.std.proofs.Common.{ℕ, ◌<◌, [], map, get_or}
-use Rattle.re_problem.specs.Steps.{label_of}
-use Rattle.re_table.specs.Constraints.{Has}
-use Rattle.re_entry_clauses.proofs.row_images.keeps_rows.Given as goal
-
-abbrev pub invariant-loop-row : goal.invariant-loop-row
-invariant-loop-row l = (k : ℕ) → k < l.row-index → Has l.to (map (label_of l.entries) (get_or l.rows k []))

@@ -1,5 +1,0 @@
-use Rattle.std.proofs.Common.{[]}
-use Rattle.re_entry_clauses.proofs.row_maps.labels_over.Goals as goal
-
-pub returns : goal.returns
-returns c = c.over_rows.ensures [] c.empty.ensures

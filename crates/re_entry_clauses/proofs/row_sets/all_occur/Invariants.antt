@@ -1,7 +1,0 @@
-use Rattle.std.proofs.Common.{ℕ, ◌<◌, [], get_or}
-use Rattle.re_entry_clauses.specs.StepClauses.{OccursInRows}
-use Rattle.re_problem.specs.Steps.{entry_sets}
-use Rattle.re_entry_clauses.proofs.row_sets.all_occur.Given as goal
-
-abbrev pub invariant-loop-entry : goal.invariant-loop-entry
-invariant-loop-entry l = (k : ℕ) → k < l.entry-index → OccursInRows l.rows (get_or (entry_sets l.entries) k [])

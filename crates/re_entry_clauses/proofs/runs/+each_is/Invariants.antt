@@ -1,6 +1,0 @@
-use Rattle.std.proofs.Common.{◌∷◌}
-use Rattle.re_table.proofs.SaidChoices.{weight}
-use Rattle.re_entry_clauses.proofs.runs.+each_is.Given as goal
-
-abbrev pub decreases-each_is : goal.decreases-each_is
-decreases-each_is l = weight (l.left ∷ l.others.now)

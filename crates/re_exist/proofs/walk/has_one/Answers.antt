@@ -1,6 +1,0 @@
-use Rattle.re_exist.proofs.WalkLemmas.{shares_one}
-use Rattle.re_exist.proofs.walk.has_one.Goals as goal
-use Rattle.std.proofs.Common.{rules}
-
-pub returns : goal.returns
-returns c = shares_one c.args.labels c.args.set _ (search rules)

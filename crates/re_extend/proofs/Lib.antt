@@ -1,3 +1,0 @@
-pub mod Continued
-mod PathSteps
-mod RouteSteps

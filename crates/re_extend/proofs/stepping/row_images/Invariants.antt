@@ -1,6 +1,0 @@
-use Rattle.std.proofs.Common.{◌≡◌, map, take}
-use Rattle.re_extend.specs.Along.{label_left}
-use Rattle.re_extend.proofs.stepping.row_images.Given as goal
-
-abbrev pub invariant-loop-row : goal.invariant-loop-row
-invariant-loop-row l = l.all.items ≡ map (map (label_left l.sets l.images)) (take l.row-index l.rows)

@@ -1,3 +1,0 @@
-pub mod Extensions
-pub mod Along
-pub mod Routes

@@ -1,5 +1,0 @@
-use Rattle.re_forest.proofs.OnExtensions.{trimmed_on_forests}
-use Rattle.re_forest.proofs.trimmed_on_forests_law.Goals as goal
-
-pub returns : goal.returns
-returns c = trimmed_on_forests

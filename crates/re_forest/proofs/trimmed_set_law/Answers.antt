@@ -1,5 +1,0 @@
-use Rattle.re_forest.proofs.Trimming.{trimmed_set_law}
-use Rattle.re_forest.proofs.trimmed_set_law.Goals as goal
-
-pub returns : goal.returns
-returns c = trimmed_set_law

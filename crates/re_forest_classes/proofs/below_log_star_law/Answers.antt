@@ -1,5 +1,0 @@
-use Rattle.re_forest_classes.proofs.BoundsAbove.{below_log_star}
-use Rattle.re_forest_classes.proofs.below_log_star_law.Goals as goal
-
-pub returns : goal.returns
-returns c = below_log_star

@@ -1,5 +1,0 @@
-use Rattle.re_forest_upper.proofs.FewOnForests.{few_colours_on_forests}
-use Rattle.re_forest_upper.proofs.few_colours_on_forests_law.Goals as goal
-
-pub returns : goal.returns
-returns c = few_colours_on_forests

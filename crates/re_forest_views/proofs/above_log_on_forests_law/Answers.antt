@@ -1,5 +1,0 @@
-use Rattle.re_forest_views.proofs.Consequences.{above_log}
-use Rattle.re_forest_views.proofs.above_log_on_forests_law.Goals as goal
-
-pub returns : goal.returns
-returns c = above_log

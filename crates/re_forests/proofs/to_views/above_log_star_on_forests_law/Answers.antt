@@ -1,0 +1,5 @@
+use Rattle.re_forests.proofs.Consequences.{above_log_star}
+use Rattle.re_forests.proofs.to_views.above_log_star_on_forests_law.Goals as goal
+
+pub returns : goal.returns
+returns c = above_log_star

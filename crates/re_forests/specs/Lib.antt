@@ -1,0 +1,13 @@
+pub mod ClassLaws
+pub mod Classes
+pub mod Colours
+pub mod Flexible
+pub mod FromViews
+pub mod LabelLaws
+pub mod OnForests
+pub mod ToViews
+pub mod Trimmed
+pub mod TrimmedSets
+pub mod TrimmedWithPorts
+pub mod TwoColours
+pub mod WorkedProblems

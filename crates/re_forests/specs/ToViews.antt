@@ -1,0 +1,43 @@
+-- The laws that carry over what is proved of local algorithms on views to those on finite forests.
+use Rattle.std.specs.Prelude.{ℕ, ◌+◌, ◌*◌, ◌^◌, ◌≤◌}
+use Rattle.re_classes.specs.Classes.{IsAboveLog, IsAboveLogStar, IsMoreThanConstant}
+use Rattle.re_forests.specs.OnForests.{SolvableOnForests}
+use Rattle.re_local.specs.LocalAlgorithms.{SolvableLocal}
+use Rattle.re_local.specs.Towers.{tower}
+use Rattle.re_problem.specs.Problems.{IsProblem, Problem}
+
+-- what a local algorithm solves in T rounds on forests, whose nodes all have identifiers, is solved in T + 1 rounds where only active nodes have
+-- one, if forests have a + 1 identifiers for each of these
+abbrev pub LinkLaw : Type 0
+LinkLaw = (problem : Problem) (N T : ℕ) → IsProblem problem →
+    SolvableOnForests problem ((1 + problem.active.degree) * N) T → SolvableLocal problem N (T + 1)
+
+-- more identifiers make it no easier
+abbrev pub FewerOnForestsLaw : Type 0
+FewerOnForestsLaw = (problem : Problem) (N more T : ℕ) → N ≤ more → SolvableOnForests problem more T → SolvableOnForests problem N T
+
+-- from some number N of identifiers on, no local algorithm of T rounds solves the problem on forests
+abbrev pub IsBeyondForests : Problem → ℕ → Type 0
+IsBeyondForests problem T = (N : ℕ) × ((more : ℕ) → N ≤ more → SolvableOnForests problem more T → ⊥)
+
+-- on forests it takes more than any constant number of rounds, with enough identifiers
+abbrev pub IsMoreThanConstantOnForests : Problem → Type 0
+IsMoreThanConstantOnForests problem = (T : ℕ) → IsBeyondForests problem T
+
+-- on forests it takes at least log* N - c rounds with N identifiers, for some constant c
+abbrev pub IsAboveLogStarOnForests : Problem → Type 0
+IsAboveLogStarOnForests problem = (c : ℕ) × ((T N : ℕ) → tower (T + c) ≤ N → SolvableOnForests problem N T → ⊥)
+
+-- on forests it takes more than log N / log C - 1 rounds with N identifiers, for some constant C
+abbrev pub IsAboveLogOnForests : Problem → Type 0
+IsAboveLogOnForests problem = (C : ℕ) × ((T N : ℕ) → C ^ (T + 1) ≤ N → SolvableOnForests problem N T → ⊥)
+
+-- bounds below carry over
+abbrev pub MoreThanConstantOnForestsLaw : Type 0
+MoreThanConstantOnForestsLaw = (problem : Problem) → IsProblem problem → IsMoreThanConstant problem → IsMoreThanConstantOnForests problem
+
+abbrev pub AboveLogOnForestsLaw : Type 0
+AboveLogOnForestsLaw = (problem : Problem) → IsProblem problem → IsAboveLog problem → IsAboveLogOnForests problem
+
+abbrev pub AboveLogStarOnForestsLaw : Type 0
+AboveLogStarOnForestsLaw = (problem : Problem) → IsProblem problem → IsAboveLogStar problem → IsAboveLogStarOnForests problem

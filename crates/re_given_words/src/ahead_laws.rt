@@ -1,0 +1,15 @@
+//! Whether a problem is solvable in one or two rounds, told from its own labels, without its derived problem.
+
+ghost use Rattle.re_given_words.specs.Laws.{OneRoundLaw, TwoRoundsLaw};
+
+/// A problem is solvable in one round exactly where some row of sets of its labels, good for passive nodes, shows it: each multiset of
+/// its sets, drawn with repetition, has an active choice.
+pub fn one_round_law()
+    ensures { OneRoundLaw }
+{}
+
+/// A problem is solvable in two rounds exactly where some sets of its labels at the ports of an active node show it: each multiset of
+/// ports has a choice of sets that is good for passive nodes, and each choice of a set at each port has an active choice.
+pub fn two_rounds_law()
+    ensures { TwoRoundsLaw }
+{}

@@ -1,0 +1,69 @@
+//! What is told of the rounds of a problem without its derived problem.
+ghost use Rattle.re_given_words.specs.Ahead.{IsTold};
+ghost use Rattle.re_laws.specs.Algorithms.{Solvable};
+ghost use Rattle.re_problem.specs.NamedProblems.{unnamed};
+ghost use Rattle.re_table.specs.GoodRows.{max_rows};
+ghost use Rattle.std.specs.Prelude.{◌≡◌, ◌≤◌, IfOk, length, ℕ};
+
+use crate::one::find_row;
+use crate::two::{Told, find_rows};
+use re_labels::{NoMemory, Row};
+use re_problem::Problem;
+use re_step::{RowsFault, maximal_rows};
+use std::alloc::Global;
+
+/// What is told of the rounds of a problem, from 1 on.
+#[derive(Clone, Copy, Debug, PartialEq, Eq)]
+pub enum Ahead {
+    /// So many are enough, and fewer, from 1 on, aren't.
+    Exactly(u8),
+    /// So many and fewer, from 1 on, aren't.
+    MoreThan(u8),
+}
+
+// What is told by two rounds, where one is too few.
+fn look_on(alloc: Global, problem: &Problem, rows: &[Row]) -> Result<Ahead, NoMemory>
+    requires rows { rows.now ≡ max_rows problem.now.passive (length problem.now.names) }
+    requires few { Solvable (unnamed problem.now) 1 → ⊥ }
+    ensures { (most : ℕ) → 2 ≤ most → IfOk result (IsTold (unnamed problem.now) most) }
+{
+    match find_rows(alloc, problem, rows)? {
+        Told::Enough => Ok(Ahead::Exactly(2)),
+        Told::TooFew => Ok(Ahead::MoreThan(2)),
+        Told::Untold => Ok(Ahead::MoreThan(1)),
+    }
+}
+
+// The same, with the maximal rows.
+fn look_with(alloc: Global, problem: &Problem, rows: &[Row], most: u8) -> Result<Ahead, NoMemory>
+    requires rows { rows.now ≡ max_rows problem.now.passive (length problem.now.names) }
+    requires most { 1 ≤ most }
+    ensures { IfOk result (IsTold (unnamed problem.now) most) }
+{
+    match find_row(alloc, problem, rows)? {
+        Some(_) => Ok(Ahead::Exactly(1)),
+        None => {
+            if most == 1 {
+                return Ok(Ahead::MoreThan(1));
+            }
+            look_on(alloc, problem, rows)
+        }
+    }
+}
+
+/// What is told of the rounds from 1 to the most without a derived problem: one round and two, by the maximal rows of the passive side.
+/// Nothing is told where there are more than `re_labels::MAX_ROWS`, and nothing of two rounds where `find_rows` tells nothing. It costs
+/// what `re_step::maximal_rows`, `find_row` and `find_rows` cost.
+pub fn look_ahead(alloc: Global, problem: &Problem, most: u8) -> Result<Ahead, NoMemory>
+    ensures { IfOk result (IsTold (unnamed problem.now) most) }
+{
+    if most == 0 {
+        return Ok(Ahead::MoreThan(0));
+    }
+    let labels = problem.names().len() as u8;
+    match maximal_rows(alloc, problem.passive(), labels) {
+        Ok(rows) => look_with(alloc, problem, rows.as_slice(), most),
+        Err(RowsFault::TooManyRows) => Ok(Ahead::MoreThan(0)),
+        Err(RowsFault::NoMemory) => Err(NoMemory),
+    }
+}

@@ -1,7 +1,0 @@
-use Rattle.std.proofs.Common.{suc}
-use Rattle.re_input_laws.proofs.FewEdgeColours.{few_edge_colours}
-use Rattle.re_input_laws.proofs.few_edge_colours_law.Goals as goal
-use Rattle.re_few_colours.proofs.FewColours.{last_hops}
-
-pub returns : goal.returns
-returns c = λ a p a_low a_high p_low p_high. (suc (last_hops p a), few_edge_colours a p a_low a_high p_low p_high)

@@ -1,4 +1,0 @@
-pub mod EdgeBounds
-pub mod EdgeClasses
-pub mod Laws
-pub mod Telling

@@ -1,5 +1,0 @@
-use Rattle.re_laws.proofs.Renaming.{Solvable-renamed}
-use Rattle.re_laws.proofs.renaming_rounds_law.Goals as goal
-
-pub returns : goal.returns
-returns c = Solvable-renamed

@@ -1,5 +1,0 @@
-use Rattle.re_laws.proofs.Tables.{Solvable-by}
-use Rattle.re_laws.proofs.table_law.Goals as goal
-
-pub returns : goal.returns
-returns c = Solvable-by

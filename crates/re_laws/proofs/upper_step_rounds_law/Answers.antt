@@ -1,5 +1,0 @@
-use Rattle.re_laws.proofs.ChainRounds.{Solvable-before}
-use Rattle.re_laws.proofs.upper_step_rounds_law.Goals as goal
-
-pub returns : goal.returns
-returns c = Solvable-before

@@ -1,0 +1,7 @@
+use Rattle.std.proofs.Common.{◌≡◌, ℕ, ◌<◌, [], false, get_or, map, not}
+use Rattle.re_labels.specs.Rows.{set_at}
+use Rattle.re_table.specs.GoodRows.{is_good}
+use Rattle.re_problem.proofs.images.first_not_good.Given as goal
+
+abbrev pub invariant-loop-place : goal.invariant-loop-place
+invariant-loop-place l = (k : ℕ) → k < l.place → not (is_good l.from (map (set_at l.sets) (get_or l.to.configs k []))) ≡ false

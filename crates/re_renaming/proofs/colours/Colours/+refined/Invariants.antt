@@ -1,4 +1,0 @@
-use Rattle.re_renaming.proofs.colours.Colours.+refined.Given as goal
-
-abbrev pub decreases-refined : goal.decreases-refined
-decreases-refined l = l.times

@@ -1,6 +1,0 @@
-use Rattle.std.proofs.Common.{◌≡◌, ◌+◌, ◌%◌, ◌^◌, take}
-use Rattle.re_renaming.specs.Colours.{times_in}
-use Rattle.re_renaming.proofs.marks.moved_mark.Given as goal
-
-abbrev pub invariant-loop-other : goal.invariant-loop-other
-invariant-loop-other l = l.moved ≡ (l.mark + times_in (take l.other-index l.other-items) l.label l.change) % 2 ^ 64

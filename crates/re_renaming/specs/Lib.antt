@@ -1,6 +1,0 @@
-pub mod Colours
-pub mod Renamings
-pub mod Tries
-pub mod Answers
-pub mod Mixing
-pub mod Marks

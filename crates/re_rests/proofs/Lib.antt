@@ -1,4 +1,0 @@
-pub mod Rests
-pub mod Fitting
-pub mod NextLabels
-pub mod Visits

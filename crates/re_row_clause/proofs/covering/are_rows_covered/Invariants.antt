@@ -1,7 +1,0 @@
-use Rattle.std.proofs.Common.{ℕ, ◌<◌, get_or, []}
-use Rattle.re_strength.specs.Boxed.{AreBoxesCovered}
-use Rattle.re_strength.specs.Held.{ups_in}
-use Rattle.re_row_clause.proofs.covering.are_rows_covered.Given as goal
-
-abbrev pub invariant-loop-row : goal.invariant-loop-row
-invariant-loop-row l = (k : ℕ) → k < l.row-index → AreBoxesCovered l.constraint (ups_in l.strength.ups.items) l.strength.labels l.rows (get_or l.rows k [])

@@ -1,7 +1,0 @@
-use Rattle.std.proofs.Common.{◌≡◌, ℕ, ◌<◌, List, get_or, []}
-use Rattle.std.specs.Prelude.{Contains}
-use Rattle.re_config.specs.Rows.{Dominates}
-use Rattle.re_row_clause.proofs.judging.are_apart.Given as goal
-
-abbrev pub invariant-loop-row : goal.invariant-loop-row
-invariant-loop-row l = (k : ℕ) → k < l.row-index → (other : List (List ℕ)) → Contains l.rows other → Dominates (get_or l.rows k []) other → get_or l.rows k [] ≡ other

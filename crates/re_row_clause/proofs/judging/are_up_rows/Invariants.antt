@@ -1,7 +1,0 @@
-use Rattle.std.proofs.Common.{ℕ, ◌<◌, get_or, []}
-use Rattle.re_box_search.specs.UpRows.{IsUpRow}
-use Rattle.re_strength.specs.Held.{ups_in}
-use Rattle.re_row_clause.proofs.judging.are_up_rows.Given as goal
-
-abbrev pub invariant-loop-row : goal.invariant-loop-row
-invariant-loop-row l = (k : ℕ) → k < l.row-index → IsUpRow l.constraint (ups_in l.strength.ups.items) l.strength.labels (get_or l.rows k [])

@@ -1,5 +1,0 @@
-mod ForeignSections
-mod FrontLines
-mod RestLines
-pub mod RunSteps
-mod Tested

@@ -1,6 +1,0 @@
-use Rattle.std.proofs.Common.{[]}
-use Rattle.re_runs.proofs.RunSteps.{legal_told}
-use Rattle.re_runs.proofs.laws.legal_law.Goals as goal
-
-pub returns : goal.returns
-returns c = λ tree bound deliveries are. legal_told tree bound [] deliveries are

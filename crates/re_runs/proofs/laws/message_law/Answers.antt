@@ -1,5 +1,0 @@
-use Rattle.re_runs.proofs.Tested.{message_told}
-use Rattle.re_runs.proofs.laws.message_law.Goals as goal
-
-pub returns : goal.returns
-returns c = λ tree bound message. message_told tree bound message

@@ -1,5 +1,0 @@
-use Rattle.re_runs.proofs.Tested.{numbers_told}
-use Rattle.re_runs.proofs.laws.numbered_law.Goals as goal
-
-pub returns : goal.returns
-returns c = λ tree is_tree. numbers_told tree is_tree

@@ -1,5 +1,0 @@
-pub mod RunLines
-pub mod RunReading
-pub mod RunTexts
-pub mod Runs
-pub mod TreeTests

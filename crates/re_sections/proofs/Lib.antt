@@ -1,4 +1,0 @@
-pub mod InnerLines
-pub mod KnownLabels
-pub mod ReadPairs
-pub mod SectionWords

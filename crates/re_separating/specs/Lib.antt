@@ -1,2 +1,0 @@
-pub mod Hypergraphs
-pub mod Laws

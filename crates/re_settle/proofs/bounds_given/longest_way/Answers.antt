@@ -1,0 +1,18 @@
+use Rattle.std.proofs.Common.{ap, subst, sym, ◌∙◌}
+use Rattle.re_cert.specs.Bounds.{Bound}
+use Rattle.re_given.specs.Inputs.{IsInput}
+use Rattle.re_problem.specs.NamedProblems.{unnamed}
+use Rattle.re_settle.specs.Measures.{greatest_degree, longest_labels, longest_steps}
+use Rattle.re_settle.proofs.GivenKnown.{longest_known}
+use Rattle.re_settle.proofs.bounds_given.longest_way.Goals as goal
+
+pub find_longest_given-requires-clause-input : goal.find_longest_given-requires-clause-input
+find_longest_given-requires-clause-input c = subst (λ (b : Bound). IsInput (unnamed b.first) (unnamed c.args.input.now)) (sym c.requires.chain) c.requires.input
+
+pub returns : goal.returns
+returns c =
+    let steps = c.longest_steps-steps.ensures ∙ ap longest_steps c.doublings-doublings.ensures.value in
+    let labels = c.longest_labels-labels.ensures ∙ ap (λ d. longest_labels d c.doublings-doublings.result) c.greatest_degree.ensures
+    ∙ ap (longest_labels (greatest_degree c.args.problem.now)) c.doublings-doublings.ensures.value in
+    longest_known c.args.times c.args.problem.now c.args.input.now c.args.chain.now.certificate c.in_ok-certificate.certificate c.longest_steps-steps.result c.longest_labels-labels.result c.count_of.result (steps, labels)
+    c.requires.chain c.in_ok-certificate.ensures (c.in_ok-has.ensures.text c.if-not-has.false) c.count_of.ensures

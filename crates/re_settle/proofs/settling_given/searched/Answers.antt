@@ -1,0 +1,16 @@
+use Rattle.std.proofs.Common.{subst}
+use Rattle.std.specs.Prelude.{IfSome}
+use Rattle.re_settle.specs.declared.types.Claim.TheVariants.{Never}
+use Rattle.re_settle.proofs.GivenTogether.{never_settled}
+use Rattle.re_settle.specs.GivenWays.{IsKnownGiven}
+use Rattle.re_settle.proofs.settling_given.searched.Goals as goal
+
+pub returns-in-Some : goal.returns-in-Some
+returns-in-Some c =
+    never_settled c.args.times c.args.problem.now c.args.input.now c.in-Some.way
+    (subst (λ found. IfSome found (IsKnownGiven c.args.times c.args.problem.now c.args.input.now Never)) c.in-Some.is c.in_ok-way.ensures)
+
+pub returns-in-Some-2 : goal.returns-in-Some-2
+returns-in-Some-2 c =
+    never_settled c.args.times c.args.problem.now c.args.input.now c.in-Some-2.way
+    (subst (λ found. IfSome found (IsKnownGiven c.args.times c.args.problem.now c.args.input.now Never)) c.in-Some-2.is c.in_ok-way-2.ensures)

@@ -1,0 +1,156 @@
+//! Lower and upper bounds given an input problem. Each way that is tried tells the number of rounds that it shows.
+ghost use Rattle.re_chains.specs.ChainTexts.{problem_chain};
+ghost use Rattle.re_given.specs.Inputs.{IsInput};
+ghost use Rattle.re_problem.specs.NamedProblems.{unnamed};
+ghost use Rattle.re_settle.specs.GivenWays.{IsKnownGiven, IsTriedGiven};
+ghost use Rattle.std.specs.Prelude.{◌≡◌, IfOk, IfSome};
+
+use crate::bounds_given::{count_of, has_patterns, upper_chain};
+use crate::given_types::{Claim, Shown, Way};
+use crate::measures::{
+    doublings, greatest_degree, is_small, longest_labels, longest_steps, shortest_labels,
+    shortest_steps,
+};
+use crate::never_given::grows_little;
+use crate::texts::has_given_text;
+use re_chains::LowerChain;
+use re_given_words::is_accepted;
+use re_labels::NoMemory;
+use re_longest::find_longest_given;
+use re_problem::Problem;
+use re_shortest::{Shortest, find_shortest_given};
+use std::alloc::Global;
+
+/// Up to how many configurations the first derived problems have of a problem whose longest lower bound is looked for.
+const LONGEST_SIZE: usize = 160;
+
+/// How many these are.
+const LONGEST_STEPS: usize = 2;
+
+/// Up to how many configurations the input problem has that is then given.
+const LONGEST_INPUT: usize = 12;
+
+/// Up to how many configurations a problem has whose shortest upper bound is looked for.
+const SHORTEST_SIZE: usize = 12;
+
+// Whether the two problems are so small that a longest lower bound is looked for. Nothing rests on it.
+fn is_soon(alloc: Global, problem: &Problem, input: &Problem, times: u8) -> Result<bool, NoMemory> {
+    if !is_small(input, LONGEST_INPUT, times) {
+        return Ok(false);
+    }
+    grows_little(alloc, problem, LONGEST_STEPS, LONGEST_SIZE, times)
+}
+
+/// The longest lower bound that is found with few steps, each to few labels, where `given` accepts the problem as one without steps and both problems
+/// are small.
+pub(crate) fn longest_way(
+    alloc: Global,
+    problem: &Problem,
+    input: &Problem,
+    chain: &LowerChain,
+    times: u8,
+) -> Result<Option<Shown>, NoMemory>
+    requires chain { chain.now.certificate ≡ problem_chain problem.now }
+    requires input { IsInput (unnamed problem.now) (unnamed input.now) }
+    ensures { IfOk result (λ found. IfSome found (λ shown. IsKnownGiven times problem.now input.now (Claim.MoreThan shown.rounds) shown.way)) }
+{
+    let soon = is_soon(alloc, problem, input, times)?;
+    if !soon {
+        return Ok(None);
+    }
+    if !is_accepted(alloc, &chain.certificate, input)? {
+        return Ok(None);
+    }
+    let doublings = doublings(times);
+    let steps = longest_steps(doublings);
+    let labels = longest_labels(greatest_degree(problem), doublings);
+    let certificate = find_longest_given(alloc, chain, input, steps, labels)?;
+    let has = has_given_text(alloc, &certificate, input)?;
+    if !has {
+        return Ok(None);
+    }
+    Ok(Some(Shown {
+        rounds: count_of(&certificate),
+        way: Way::Longest(steps, labels),
+    }))
+}
+
+/// The one of more rounds, and the second of two of as many.
+pub(crate) fn longer(
+    problem: &Problem,
+    input: &Problem,
+    first: Shown,
+    second: Option<Shown>,
+    times: u8,
+) -> Shown
+    requires first { IsKnownGiven times problem.now input.now (Claim.MoreThan first.rounds) first.way }
+    requires second { IfSome second (λ shown. IsKnownGiven times problem.now input.now (Claim.MoreThan shown.rounds) shown.way) }
+    ensures { IsKnownGiven times problem.now input.now (Claim.MoreThan result.rounds) result.way }
+{
+    let _problem = problem;
+    let _input = input;
+    let _times = times;
+    match second {
+        Some(second) => {
+            if second.rounds < first.rounds {
+                first
+            } else {
+                second
+            }
+        }
+        None => first,
+    }
+}
+
+// The shortest upper bound that is found with at most so many steps, each to at most so many labels, if any.
+fn shortest_way(
+    alloc: Global,
+    problem: &Problem,
+    input: &Problem,
+    steps: u8,
+    labels: u8,
+    times: u8,
+) -> Result<Option<Shown>, NoMemory>
+    requires tried { IsTriedGiven times problem.now (Way.Shortest steps labels) }
+    requires input { IsInput (unnamed problem.now) (unnamed input.now) }
+    ensures { IfOk result (λ found. IfSome found (λ shown. IsKnownGiven times problem.now input.now (Claim.AtMost shown.rounds) shown.way)) }
+{
+    let _times = times;
+    let chain = upper_chain(alloc, problem.copy()?);
+    let Shortest::Found(certificate) = find_shortest_given(alloc, &chain, input, steps, labels)?
+    else {
+        return Ok(None);
+    };
+    let has = has_given_text(alloc, &certificate, input)?;
+    if !has {
+        return Ok(None);
+    }
+    Ok(Some(Shown {
+        rounds: count_of(&certificate),
+        way: Way::Shortest(steps, labels),
+    }))
+}
+
+/// The shortest upper bound that is found, if any, where the problem is small.
+pub(crate) fn short_way(
+    alloc: Global,
+    problem: &Problem,
+    input: &Problem,
+    times: u8,
+) -> Result<Option<Shown>, NoMemory>
+    requires { IsInput (unnamed problem.now) (unnamed input.now) }
+    ensures { IfOk result (λ found. IfSome found (λ shown. IsKnownGiven times problem.now input.now (Claim.AtMost shown.rounds) shown.way)) }
+{
+    if !is_small(problem, SHORTEST_SIZE, times) {
+        return Ok(None);
+    }
+    if has_patterns(problem, times) {
+        if let Some(shown) = shortest_way(alloc, problem, input, 6, 20, times)? {
+            return Ok(Some(shown));
+        }
+    }
+    let doublings = doublings(times);
+    let steps = shortest_steps(doublings);
+    let labels = shortest_labels(greatest_degree(problem), doublings);
+    shortest_way(alloc, problem, input, steps, labels, times)
+}

@@ -1,3 +1,0 @@
-mod Known
-mod Saying
-mod Together

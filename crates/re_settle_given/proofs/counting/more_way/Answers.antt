@@ -1,8 +1,0 @@
-use Rattle.re_settle.specs.declared.types.Claim.TheVariants.{MoreThan}
-use Rattle.re_settle_given.proofs.Known.{count_known}
-use Rattle.re_settle_given.proofs.counting.more_way.Goals as goal
-
-pub returns : goal.returns
-returns c =
-    count_known c.args.times c.args.problem.now c.args.input.now c.args.most c.args.counted (MoreThan c.in_ok-rounds.rounds) c.names-names.ensures.problem.problem c.requires.input c.requires.most
-    c.requires.counted c.in_ok-rounds.ensures.says

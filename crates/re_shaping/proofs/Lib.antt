@@ -1,0 +1,32 @@
+pub mod Answering
+pub mod ChangedLast
+pub mod Coding
+pub mod Continued
+pub mod DerivedRelaxations
+pub mod DroppedParts
+pub mod DroppedSteps
+pub mod FirstSteps
+pub mod ImagesOfRows
+pub mod Keeping
+pub mod LastSteps
+pub mod Laws
+pub mod LeftEntries
+pub mod Marking
+pub mod MergedSteps
+pub mod MoreSteps
+pub mod Moving
+pub mod NamedProblems
+pub mod NamedSteps
+pub mod NewNames
+pub mod OrderedBounds
+pub mod OwnEntries
+mod PathSteps
+pub mod RelaxedSteps
+mod RouteSteps
+pub mod RowForms
+pub mod StableSorts
+pub mod StepsAlong
+pub mod Sums
+pub mod TidiedBounds
+pub mod Trying
+pub mod ValidOrders

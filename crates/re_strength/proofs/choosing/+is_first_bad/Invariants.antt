@@ -1,5 +1,0 @@
-use Rattle.std.proofs.Common.{length}
-use Rattle.re_strength.proofs.choosing.+is_first_bad.Given as goal
-
-abbrev pub decreases-is_first_bad : goal.decreases-is_first_bad
-decreases-is_first_bad l = length l.sets.now

@@ -1,5 +1,0 @@
-use Rattle.std.proofs.Common.{length}
-use Rattle.re_strength.proofs.indexing.+having.Given as goal
-
-abbrev pub decreases-having : goal.decreases-having
-decreases-having l = length l.labels

@@ -1,5 +1,0 @@
-use Rattle.std.proofs.Common.{length}
-use Rattle.re_strength.proofs.indexing.+holder.Given as goal
-
-abbrev pub decreases-holder : goal.decreases-holder
-decreases-holder l = length l.sets.now

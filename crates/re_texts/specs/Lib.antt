@@ -1,0 +1,7 @@
+pub mod CanonicalLines
+pub mod CertificateLines
+pub mod Entries
+pub mod MapTexts
+pub mod PrintedCertificates
+pub mod Reading
+pub mod SectionLines

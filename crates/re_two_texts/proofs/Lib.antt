@@ -1,7 +1,0 @@
-mod CertificateLines
-mod CutLines
-mod GivenReading
-pub mod GivenSays
-mod ProblemLines
-mod Splits
-mod Wholes

@@ -1,2 +1,0 @@
-pub mod GivenTexts
-pub mod TwoTexts

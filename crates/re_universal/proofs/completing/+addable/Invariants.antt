@@ -1,6 +1,0 @@
-use Rattle.std.proofs.Common.{◌∷◌}
-use Rattle.re_table.proofs.SaidChoices.{weight}
-use Rattle.re_universal.proofs.completing.+addable.Given as goal
-
-abbrev pub decreases-addable : goal.decreases-addable
-decreases-addable l = weight (l.first ∷ l.others.now)

@@ -1,6 +1,0 @@
-use Rattle.std.proofs.Common.{Some, Contains}
-use Rattle.re_universal.specs.declared.completing.Completed.{Completed}
-use Rattle.re_universal.proofs.completing.Memo.new.Given as goal
-
-abbrev pub invariant-loop-slot : goal.invariant-loop-slot
-invariant-loop-slot l = (held : Completed) → Contains l.slots.items (Some held) → ⊥

@@ -1,5 +1,0 @@
-use Rattle.re_views.proofs.LawsOfViews.{all_views_law as law}
-use Rattle.re_views.proofs.laws.all_views_law.Goals as goal
-
-pub returns : goal.returns
-returns c = law

@@ -1,5 +1,0 @@
-use Rattle.re_views.proofs.LawsOfViews.{commute_law as law}
-use Rattle.re_views.proofs.laws.commute_law.Goals as goal
-
-pub returns : goal.returns
-returns c d = law

@@ -1,7 +1,0 @@
-use Rattle.std.proofs.Common.{take, ◌-◌}
-use Rattle.std.specs.Prelude.{All}
-use Rattle.re_views.specs.Shown.{IsShownChild}
-use Rattle.re_views.proofs.shape.+shown.Given as goal
-
-abbrev pub invariant-are_shown-loop-child : goal.invariant-are_shown-loop-child
-invariant-are_shown-loop-child g l = All (IsShownChild l.other l.own (l.depth - 1)) (take l.child-index l.children.items)

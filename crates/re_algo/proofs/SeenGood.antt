@@ -15,7 +15,7 @@ use Rattle.re_labels.proofs.Sets.{IsIn-has, has-IsIn}
 use Rattle.re_labels.proofs.Tests.{and-true}
 use Rattle.re_labels.specs.Lists.{count_from}
 use Rattle.re_labels.specs.Sets.{IsIn}
-use Rattle.re_laws.proofs.FastRounds.{collected}
+use Rattle.re_laws.proofs.FastRounds.{collected, some_member}
 use Rattle.re_laws.proofs.Ports.{AllByRecursion-count, AllZip-count, back_range, find_ports, length-ports, map-at_port}
 use Rattle.re_laws.proofs.Tables.{same_view-refl, same_view-same}
 use Rattle.re_laws.proofs.ZeroRounds.{IsTree-star, backs-star, star}
@@ -25,7 +25,7 @@ use Rattle.re_problem.specs.Problems.{IsProblem, Problem}
 use Rattle.re_table.specs.Constraints.{Has}
 use Rattle.re_table.specs.GoodRows.{IsGood}
 use Rattle.re_laws.proofs.AllViewsLemmas.{Contains-all_views, all_views-IsView}
-use Rattle.re_laws.proofs.Branchwise.{IsView-branchwise, back-shift, backs-child, child_at-branchwise, joined, shift-branchwise}
+use Rattle.re_laws.proofs.JoinedBranches.{IsView-branchwise, back-shift, backs-child, child_at-branchwise, joined, shift-branchwise}
 use Rattle.re_laws.proofs.ViewLaws.{IsChild, IsTree-cut, IsView-pad, IsView-shift, child_of, cut-pad, shift-shift}
 use Rattle.re_laws.specs.AllViews.{all_views}
 use Rattle.re_laws.specs.Ends.{AreEnds, End, IsEnd, branchwise, no_end}
@@ -51,10 +51,6 @@ module _ (problem : Problem) (is : IsProblem problem) (T : ℕ) (f : Plain → L
 
   passive_some : 1 ≤ problem.passive.degree
   passive_some = let l = is.passive.least in omega arith
-
-pub some_member : (set : List ℕ) (x : ℕ) → Contains set x → 0 < length set
-some_member [] x (j, m, e) = absurd (omega arith)
-some_member (y ∷ set) x held = omega arith
 
 module _ (problem : Problem) (is : IsProblem problem) (T : ℕ) (f : Plain → List ℕ)
     (active : (u : Plain) → IsView problem.active.degree problem.passive.degree (suc T) u → Has problem.active (f u)) where

@@ -15,8 +15,8 @@ pub(crate) fn all_have(answers: &[PortLabels], count: u8) -> bool
         .all(|labels| labels.labels().len() == usize::from(count))
 }
 
-// Whether each label is one that a problem may have.
-fn are_labels(labels: &[u8]) -> bool
+/// Whether each label is one that a problem may have.
+pub fn are_labels(labels: &[u8]) -> bool
     ensures { result ≡ list_all (λ label. nat_lt label MAX_LABELS) labels.now }
 {
     labels.iter().all(|label| *label < MAX_LABELS)

@@ -11,8 +11,8 @@ use arrayvec::ArrayVec;
 use re_labels::{LabelSet, MAX_LABELS, PortLabels, Row};
 use re_table::Constraint;
 
-// The sets of one label each, and behind them the others.
-fn fixed(drawn: &[u8], others: &[LabelSet]) -> ArrayVec<LabelSet, 6>
+/// The sets of one label each, and behind them the others: at most six in all.
+pub fn fixed(drawn: &[u8], others: &[LabelSet]) -> ArrayVec<LabelSet, 6>
     requires six { length drawn.now + length others.now ≤ 6 }
     requires below { AllByRecursion (λ label. label < MAX_LABELS) drawn.now }
     ensures { result.items ≡ singles drawn.now ++ others.now }
@@ -71,8 +71,8 @@ fn draw(
     draw(constraint, drawn, *next, more)
 }
 
-// That each set is one.
-fn are_sets(sets: &[LabelSet])
+/// That each set is one.
+pub fn are_sets(sets: &[LabelSet])
     ensures { AllByRecursion (IsLabelSet MAX_LABELS) sets.now }
 {
     let [first, others @ ..] = sets else {

@@ -18,12 +18,14 @@ mod solving;
 mod speeding;
 mod table;
 
-pub use choice::first_choice;
+pub use answers::are_labels;
+pub use choice::{are_sets, first_choice, fixed};
 pub use counting::{MAX_VIEWS, view_count};
 pub use laws::{given_law, seen_law, verdict_law};
 pub use place_laws::{fewer_views_law, place_law};
 pub use placing::view_place;
+pub use sets::set_at;
 pub use slowing::{SlowerFault, slower};
 pub use solving::{TableVerdict, solves};
-pub use speeding::faster;
+pub use speeding::{faster, first_dominating, fitted};
 pub use table::Table;

@@ -4,8 +4,8 @@ ghost use Rattle.std.specs.Prelude.{◌≡◌};
 
 use re_labels::LabelSet;
 
-// The set at a place, or none where there is no such place.
-pub(crate) fn set_at(sets: &[LabelSet], place: usize) -> LabelSet
+/// The set at a place, or none where there is no such place.
+pub fn set_at(sets: &[LabelSet], place: usize) -> LabelSet
     ensures { result ≡ set_at sets.now place }
 {
     if place < sets.len() {

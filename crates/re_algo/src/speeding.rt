@@ -52,8 +52,8 @@ fn first_order(row: &Row, others: &[LabelSet]) -> Option<Placement>
     None
 }
 
-// The row's sets in the first order of its places in which they hold the other ones, where there is one.
-fn fitted(row: &Row, others: &[LabelSet]) -> ArrayVec<LabelSet, 6>
+/// The row's sets in the first order of its places in which they hold the other ones, where there is one.
+pub fn fitted(row: &Row, others: &[LabelSet]) -> ArrayVec<LabelSet, 6>
     ensures { result.items ≡ fitted row.now others.now }
 {
     let mut fitted = ArrayVec::new();
@@ -65,8 +65,8 @@ fn fitted(row: &Row, others: &[LabelSet]) -> ArrayVec<LabelSet, 6>
     fitted
 }
 
-// The first of the rows that dominates the other one.
-fn first_dominating(rows: &[Row], other: &Row) -> usize
+/// The place of the first of the rows that dominates the other one, where one of them does.
+pub fn first_dominating(rows: &[Row], other: &Row) -> usize
     requires alike { AllByRecursion (λ row. length row ≡ length other.now) rows.now }
     requires some { list_any (λ row. dominates row other.now) rows.now ≡ true }
     ensures place { result ≡ position_or_len (λ row. dominates row other.now) rows.now }

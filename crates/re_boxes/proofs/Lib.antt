@@ -19,7 +19,7 @@ pub mod RowsAbove
 pub mod RowsOfSets
 pub mod SetsAtPlaces
 pub mod Spread
-pub mod Strength
+pub mod StrengthTests
 pub mod UpSets
 pub mod Visits
 pub mod Walks

@@ -5,7 +5,7 @@ use Rattle.std.specs.List.{AllByRecursion, AllZip}
 use Rattle.std.proofs.lemmas.Bool.{cases_lt}
 use Rattle.std.proofs.lemmas.List.{get_or_past, take_more}
 use Rattle.re_boxes.proofs.Spread.{AreFilled, IsIn-filled, in_with_stronger, of_with_stronger, one_label}
-use Rattle.re_boxes.proofs.Strength.{strength_law}
+use Rattle.re_boxes.proofs.StrengthTests.{strength_law}
 use Rattle.re_boxes.specs.Boxes.{IsStrength, with_stronger}
 use Rattle.re_boxes.specs.Strength.{HasStronger, IsAbove}
 use Rattle.re_labels.proofs.RowCalls.{read_within}

@@ -83,7 +83,7 @@ module _ (before next : NamedProblem) (is : IsNamedProblem before) (next_is : Is
       true-and _ _ (ap (λ d. eqb d before.passive.degree) step.active_degree ∙ eqb-same before.passive.degree) (ap (λ d. eqb d before.active.degree) step.passive_degree ∙ eqb-same before.active.degree)
 
 -- ---- maps by rows
-low-append : (n : ℕ) (xs ys : List ℕ) → AllByRecursion (λ x. x < n) xs → AllByRecursion (λ x. x < n) ys → AllByRecursion (λ x. x < n) (xs ++ ys)
+pub low-append : (n : ℕ) (xs ys : List ℕ) → AllByRecursion (λ x. x < n) xs → AllByRecursion (λ x. x < n) ys → AllByRecursion (λ x. x < n) (xs ++ ys)
 low-append n [] ys a b = b
 low-append n (x ∷ xs) ys a b = (a.0, low-append n xs ys a.1 b)
 

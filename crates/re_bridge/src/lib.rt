@@ -7,7 +7,6 @@ mod by_set;
 mod finding;
 mod mapping;
 mod reducing;
-mod row_sets;
 mod walking;
 mod within;
 

@@ -22,7 +22,6 @@ use Rattle.re_given_words.specs.InputFaults.{or_input_fault}
 use Rattle.re_given_words.specs.ProductTexts.{made_or_refused, product_answer, product_outcome, product_refusal}
 use Rattle.re_given_words.specs.declared.texts.GivenTexts.{GivenTexts}
 use Rattle.re_chains.specs.OverChains.{or_fault}
-use Rattle.re_frame.specs.declared.status.Status.TheVariants.{Done}
 use Rattle.re_inputs.proofs.ProductProofs.{as_solvable_named}
 use Rattle.re_inputs.specs.NamedProducts.{ProductRefuses, named_product, product_fault}
 use Rattle.re_inputs.specs.declared.products.ProductFault.{ProductFault}
@@ -171,9 +170,3 @@ told_refusal bytes texts fault (right, front, behind) none other refuses =
           ∙ ap (λ f. or_input_fault texts.input f (made_or_refused texts.problem texts.input (product_fault texts.problem texts.input))) none ∙ ap (made_or_refused texts.problem texts.input) told,
       told,
     )
-
-pub refusal_undone : (problem input : NamedProblem) (fault : ProductFault) → (product_refusal problem input fault).status ≡ Done → ⊥
-refusal_undone problem input TooManyLabels e = cc
-refusal_undone problem input (Nameless pair) e = cc
-refusal_undone problem input TooManyConfigurations e = cc
-refusal_undone problem input NoMemory e = cc

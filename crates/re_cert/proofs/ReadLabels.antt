@@ -5,7 +5,7 @@ use Rattle.std.specs.Option.{option_and_then}
 use Rattle.std.specs.Prelude.{slice_range}
 use Rattle.std.proofs.lemmas.Bool.{false≢true}
 use Rattle.std.proofs.lemmas.Bool.Decides.{nat_tests}
-use Rattle.re_problem.proofs.Words.{NextItem}
+use Rattle.re_problem.proofs.WordLemmas.{NextItem}
 use Rattle.re_problem.specs.Items.{ItemText, item_of, items_of, items_of_words, words}
 use Rattle.re_problem.specs.declared.items.Item.{Item}
 use Rattle.re_labels.proofs.Tests.{and-true}

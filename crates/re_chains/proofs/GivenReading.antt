@@ -6,7 +6,6 @@ use Rattle.std.proofs.Math.Seq.{take-append_seam}
 use Rattle.std.proofs.lemmas.Grind.{flat_map-append}
 use Rattle.re_labels.proofs.Membership.{AllByRecursion-weaker}
 use Rattle.re_labels.proofs.Tests.{eqb-true}
-use Rattle.std.proofs.lemmas.Bool.{false≢true}
 use Rattle.re_texts.proofs.BlocksWritten.{block_written}
 use Rattle.re_texts.proofs.ReadBack.{all_append, canonical_law, canonical_lines_law}
 use Rattle.re_texts.specs.CanonicalLines.{IsWithinLimits, block_lines, canonical_lines}
@@ -20,7 +19,7 @@ use Rattle.re_problem.proofs.InnerLines.{inner_line, neither}
 use Rattle.re_problem.specs.SectionLines.{is_section}
 use Rattle.re_cert.specs.Bounds.{Bound, has_row_maps}
 use Rattle.re_cert.specs.CertificateTexts.{behind_from, certificate_fault, certificate_of, start, text_lines}
-use Rattle.re_texts.proofs.Leading.{ended_lines, whole}
+use Rattle.re_texts.proofs.Leading.{ended_lines, whole, from_no_feed}
 use Rattle.re_texts.specs.CertificateLines.{IsOneLine, header_text}
 use Rattle.re_texts.specs.PrintedCertificates.{back_section, certificate_text, steps_text}
 use Rattle.re_chains.specs.ChainTexts.{begins_section, chain_fault, is_certificate_text, problem_chain, text_bound}
@@ -54,9 +53,6 @@ lines_ended (b ∷ text) = go (eqb b 10) refl (lines_ended text)
 -- the lines of such a text
 lines_are : (lines : List (List ℕ)) → AllByRecursion NoFeed lines → lines_of (ended lines) ≡ lines
 lines_are lines feed = ap lines_in (parts-ended lines feed) ∙ lines_in-ended lines
-
-one_line : (line : List ℕ) → NoFeed line → IsOneLine line
-one_line line none = AllByRecursion-weaker (λ b. eqb b 10 ≡ false) (λ b. b ≡ 10 → ⊥) (λ b other same. false≢true (sym other ∙ ap (λ x. eqb x 10) same)) line none
 
 -- how long it is
 ended_bytes : (lines : List (List ℕ)) → length (ended lines) ≡ bytes_of lines
@@ -109,7 +105,7 @@ module _ (bound : Bound) (input : NamedProblem) (right : certificate_fault (text
   back = canonical_lines input
 
   front_whole : text_lines (certificate_text bound) ≡ map whole front
-  front_whole = ap text_lines of.text_is ∙ ended_lines front (AllByRecursion-weaker NoFeed IsOneLine one_line front of.feed)
+  front_whole = ap text_lines of.text_is ∙ ended_lines front (AllByRecursion-weaker NoFeed IsOneLine from_no_feed front of.feed)
 
   none : list_any (is_line (codes "given")) front ≡ false
   none = let whole = whole_of (text_lines (certificate_text bound)) right in none_given start front whole.state (ap (behind_from start) (sym front_whole) ∙ whole.is)

@@ -133,15 +133,6 @@ pub problem_says : (problem : NamedProblem) (judging : Bool) → MaySay (problem
 unfolding within_limit
 problem_says problem judging = limited_says (nat_lt MAX_BYTES (length (canonical problem))) (canonical problem) judging
 
--- a text that is given is that of the certificate
-short_text : (over : Bool) (text : List ℕ) (outcome : Outcome) → outcome ≡ (if over then too_long else done text) → outcome.status ≡ status.Done → outcome ≡ done text
-short_text true text outcome is finished = absurd (let wrong : status.Limit ≡ status.Done = sym (ap (λ (o : Outcome). o.status) is) ∙ finished in cc)
-short_text false text outcome is finished = is
-
-pub text_given : (bound : Bound) (outcome : Outcome) → outcome ≡ certificate_outcome bound → outcome.status ≡ status.Done → outcome ≡ done (certificate_text bound)
-unfolding within_limit
-text_given bound outcome is finished = short_text (nat_lt MAX_BYTES (length (certificate_text bound))) (certificate_text bound) outcome is finished
-
 -- `check` gives the verdict on the certificate as which a text is read
 pub text_checked : (bound : Bound) (text : List ℕ) → IsTextOf bound text → check_outcome text ≡ verdict_outcome (verdict_of bound)
 unfolding check_outcome

@@ -1,10 +1,8 @@
 //! The printing of a bound and an input problem.
-ghost use Rattle.re_texts.specs.CanonicalLines.{IsWithinLimits};
 ghost use Rattle.re_cert.specs.CertificateTexts.{certificate_fault, certificate_of, text_lines};
 ghost use Rattle.re_texts.specs.PrintedCertificates.{certificate_text};
 ghost use Rattle.re_frame.specs.Outcomes.{outcome_of};
 ghost use Rattle.re_problem.specs.CanonicalTexts.{canonical};
-ghost use Rattle.re_problem.specs.NamedProblems.{IsNamedProblem};
 ghost use Rattle.re_chains.specs.GivenTexts.{GivesBoth, IsReadAs, given_text, given_text_outcome};
 ghost use Rattle.std.specs.Prelude.{◌≡◌, IfOk, None};
 
@@ -13,17 +11,8 @@ use re_frame::{Output, done, push_words, too_long};
 use re_io::MAX_BYTES;
 use re_labels::NoMemory;
 use re_problem::{Problem, print_problem};
-use re_texts::print_certificate;
+use re_texts::{limits, print_certificate};
 use std::alloc::Global;
-
-// That a problem has no more configurations than constraints may have.
-fn limits(problem: &Problem)
-    ensures named { IsNamedProblem problem.now }
-    ensures within { IsWithinLimits problem.now }
-{
-    let _active = problem.active().len();
-    let _passive = problem.passive().len();
-}
 
 // The text of both.
 fn text_of(alloc: Global, bound: &Certificate, input: &Problem) -> Result<Vec<u8>, NoMemory>

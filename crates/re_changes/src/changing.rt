@@ -14,8 +14,8 @@ use re_labels::{MAX_LABELS, NoMemory};
 use re_table::Constraint;
 use std::alloc::Global;
 
-// All labels below this number but the one.
-fn all_but(label: u8, labels: u8) -> ArrayVec<u8, 128>
+/// All labels below this number but the one.
+pub fn all_but(label: u8, labels: u8) -> ArrayVec<u8, 128>
     requires { labels ≤ MAX_LABELS }
     ensures { result.items ≡ without_label (count_from 0 labels) label }
 {

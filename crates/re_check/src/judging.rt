@@ -28,8 +28,8 @@ fn is_below(set: LabelSet, labels: u8) -> bool
     set.after(labels - 1).is_none()
 }
 
-// Whether the set has, with each of its labels, what the label goes up to.
-fn is_up(strength: &Strength, set: LabelSet) -> bool
+/// Whether the set has, with each of its labels, what the label goes up to.
+pub fn is_up(strength: &Strength, set: LabelSet) -> bool
     requires { IsLabelSet strength.now.labels set }
     ensures { IsTrue result ↔ IsUp (ups_in strength.now.ups.items) set }
 {

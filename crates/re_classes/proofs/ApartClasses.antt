@@ -5,8 +5,8 @@ use Rattle.std.proofs.lemmas.Nat.{pow-add}
 use Rattle.re_classes.specs.Classes.{IsAboveLog, IsAboveLogStar, IsBelowLogStar, IsConstantLocal, IsMoreThanConstant}
 use Rattle.re_classes.specs.Laws.{ApartLaw, WeakerLaw}
 use Rattle.re_local.proofs.MoreLocal.{SolvableLocal-later}
-use Rattle.re_local.proofs.Towers.{above, below_power, power_below, tower-power}
-use Rattle.re_local.specs.Towers.{tower}
+use Rattle.re_layers.proofs.Towers.{above, below_power, power_below, tower-power}
+use Rattle.re_layers.specs.Towers.{tower}
 use Rattle.re_problem.specs.Problems.{Problem}
 
 -- a tower with so many twos more is at least the power

@@ -5,7 +5,7 @@ use Rattle.re_classes.specs.Classes.{IsConstantLocal}
 use Rattle.re_classes.specs.Laws.{AboveLogStarLaw, BelowLogStarLaw, ConstantLaw, IsUnsolvable, MoreThanConstantLaw, NothingBetweenLaw, OrderLogStarLaw}
 use Rattle.re_local.proofs.FewColours.{few_colours_local, last_hops}
 use Rattle.re_local.specs.LocalAlgorithms.{SolvableLocal}
-use Rattle.re_local.specs.Towers.{tower}
+use Rattle.re_layers.specs.Towers.{tower}
 use Rattle.re_ordered.proofs.BeyondLocal.{beyond_local}
 use Rattle.re_ordered.proofs.FewIdentifiers.{below_tower}
 use Rattle.re_ordered.proofs.Gap.{beyond_ports}

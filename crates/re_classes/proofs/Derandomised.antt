@@ -3,7 +3,7 @@ use Rattle.std.proofs.Common.{◌≡◌, ℕ, zero, suc, ◌+◌, ◌*◌, ◌^�
 use Rattle.std.specs.Prelude.{Contains}
 use Rattle.std.specs.List.{AllByRecursion, list_any}
 use Rattle.std.proofs.Math.Nat.{mul-le-mul_left, one-le-mul, pow-le-pow_left, pow-le-pow_right}
-use Rattle.std.proofs.lemmas.Bool.{false≢true}
+use Rattle.std.proofs.lemmas.Bool.{false_from_ne_true, false≢true, not_from_false}
 use Rattle.std.proofs.lemmas.Bool.Decides.{eqb_tells}
 use Rattle.std.proofs.lemmas.List.Elements.{Contains-append_cases, Contains-append_left, Contains-append_right}
 use Rattle.re_given.proofs.AllInputViews.{Contains-all_trees, FitsAround-fits, all_trees, all_trees-IsTree, fits-FitsAround, fits_around}
@@ -13,7 +13,8 @@ use Rattle.re_given.specs.InputViews.{InputView, known}
 use Rattle.re_labels.proofs.Membership.{AllByRecursion-contains, AllByRecursion-from_contains, Contains-filter, Contains-filter_cases, Contains-map, Contains-map_cases, any_found, any_true, length-map'}
 use Rattle.re_labels.proofs.Tests.{and-true, true-and}
 use Rattle.re_local.proofs.LocalGiven.{around_known-relabelled}
-use Rattle.re_local.specs.LocalAlgorithms.{AreDifferent, SolvableLocal, behind_passive, identified, shown}
+use Rattle.re_layers.specs.Networks.{AreDifferent}
+use Rattle.re_local.specs.LocalAlgorithms.{SolvableLocal, behind_passive, identified, shown}
 use Rattle.re_problem.proofs.Examples.{IsProblem-relaxed_sinkless}
 use Rattle.re_problem.proofs.FedLines.{unnot, unnot_true}
 use Rattle.re_problem.specs.Examples.{relaxed_sinkless}
@@ -23,7 +24,7 @@ use Rattle.re_classes.proofs.FewerNames.{fewer_names}
 use Rattle.re_classes.proofs.NamedViews.{fails_named, images-relabelled, no_names_active, no_names_passive, with_string}
 use Rattle.re_classes.proofs.Numbered.{active_view_below, passive_view_below}
 use Rattle.re_classes.proofs.Powers.{sinkless_bits, views_few}
-use Rattle.re_classes.proofs.ViewCounts.{filter_count, view_count}
+use Rattle.re_classes.proofs.ViewCounts.{view_count}
 use Rattle.re_classes.specs.RandomLaws.{DerandomisedLaw, DerandomisedNamedLaw, RandomisedLaw, RandomisedNamedLaw, SinklessRandomLaw, id_views, random_base}
 use Rattle.re_classes.specs.NamedRandom.{FailsRarelyNamed, with_images, with_strings}
 use Rattle.re_local.proofs.Counting.{one_if}
@@ -31,20 +32,17 @@ use Rattle.re_local.proofs.Separated.{sinkless_unique}
 use Rattle.re_local.specs.SeparatingLaws.{identifier_base}
 use Rattle.re_table.proofs.Goodness.{has_config-Has}
 use Rattle.re_table.specs.Constraints.{has_config}
+use Rattle.re_layers.proofs.Membership.{length-filter_most}
 
 -- whether nothing stands twice
 abbrev pub are_different : List ℕ → Bool
 are_different [] = true
 are_different (x ∷ xs) = not (list_any (eqb x) xs) && are_different xs
 
-false-not : (b : Bool) → (b ≡ true → ⊥) → not b ≡ true
-false-not false h = refl
-false-not true h = absurd (h refl)
-
 AreDifferent-tells : (xs : List ℕ) → AreDifferent xs → are_different xs ≡ true
 AreDifferent-tells [] apart = refl
 AreDifferent-tells (x ∷ xs) apart =
-    true-and (not (list_any (eqb x) xs)) (are_different xs) (false-not (list_any (eqb x) xs) (λ e. found (any_found (eqb x) xs e)))
+    true-and (not (list_any (eqb x) xs)) (are_different xs) (not_from_false (list_any (eqb x) xs) (false_from_ne_true (list_any (eqb x) xs) (λ e. found (any_found (eqb x) xs e))))
     (AreDifferent-tells xs apart.1)
   where
     found : (y : ℕ) × Contains xs y × (eqb x y ≡ true) → ⊥
@@ -120,8 +118,8 @@ module _ (problem : Problem) (N R T q : ℕ) (algorithm : InputView → List ℕ
   event_count =
       let one : length (map active_event active_views) ≡ length active_views = length-map' active_event active_views in
       let two : length (map passive_event passive_views) ≡ length passive_views = length-map' passive_event passive_views in
-      let one' : length active_views ≤ length (all_trees N a p (suc T) a) = filter_count passes_active (all_trees N a p (suc T) a) in
-      let two' : length passive_views ≤ length (all_trees N p a (suc (suc T)) p) = filter_count passes_passive (all_trees N p a (suc (suc T)) p) in
+      let one' : length active_views ≤ length (all_trees N a p (suc T) a) = length-filter_most passes_active (all_trees N a p (suc T) a) in
+      let two' : length passive_views ≤ length (all_trees N p a (suc (suc T)) p) = length-filter_most passes_passive (all_trees N p a (suc (suc T)) p) in
       let both : length events ≡ length (map active_event active_views) + length (map passive_event passive_views) =
       length-append (map active_event active_views) (map passive_event passive_views) in
       omega (arith, one, two, one', two', both)

@@ -7,7 +7,7 @@ use Rattle.std.proofs.Math.Nat.{mul-le-mul_left, mul-le-mul_right, one-le-pow, p
 use Rattle.std.proofs.lemmas.Bool.{cases_lt}
 use Rattle.re_local.proofs.Counting.{one_if, total, total-add, total-const, total-le, total-scaled, total-swap}
 use Rattle.re_labels.specs.Lists.{count_from}
-use Rattle.re_local.specs.LocalAlgorithms.{AreDifferent}
+use Rattle.re_layers.specs.Networks.{AreDifferent}
 use Rattle.re_classes.specs.RandomAlgorithms.{string_lists}
 
 -- the sum of f over all lists of k strings

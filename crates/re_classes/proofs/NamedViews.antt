@@ -10,7 +10,8 @@ use Rattle.re_given.specs.InputViews.{Fits, InputView, known}
 use Rattle.re_labels.proofs.Membership.{Contains-here, Contains-later, count_from_range, length-count_from}
 use Rattle.re_labels.specs.Lists.{count_from}
 use Rattle.re_local.proofs.LocalGiven.{FitsAround-taken, around_known-relabelled, behind_passive-relabelled, shown-relabelled}
-use Rattle.re_local.specs.LocalAlgorithms.{AreDifferent, behind_passive, identified, shown}
+use Rattle.re_layers.specs.Networks.{AreDifferent}
+use Rattle.re_local.specs.LocalAlgorithms.{behind_passive, identified, shown}
 use Rattle.re_laws.specs.Algorithms.{at_port}
 use Rattle.re_problem.specs.Problems.{IsProblem, Problem}
 use Rattle.re_classes.proofs.Certain.{never_below, strings_low}

@@ -18,7 +18,8 @@ use Rattle.re_labels.proofs.Membership.{AllByRecursion-contains, AllByRecursion-
 use Rattle.re_labels.specs.Lists.{count_from}
 use Rattle.re_local.proofs.ColouredLocal.{all_alike}
 use Rattle.re_local.proofs.LocalGiven.{TakesTo}
-use Rattle.re_local.specs.LocalAlgorithms.{AreDifferent, behind_active, behind_passive, identified, shown}
+use Rattle.re_layers.specs.Networks.{AreDifferent}
+use Rattle.re_local.specs.LocalAlgorithms.{behind_active, behind_passive, identified, shown}
 use Rattle.re_problem.proofs.StepLaws.{map-map}
 use Rattle.re_classes.specs.RandomAlgorithms.{painted}
 use Rattle.re_table.specs.Constraints.{Constraint, Has}

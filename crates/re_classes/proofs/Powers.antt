@@ -2,7 +2,7 @@
 use Rattle.std.proofs.Common.{◌≡◌, ℕ, suc, ◌+◌, ◌*◌, ◌^◌, ◌≤◌, sym, subst, arith}
 use Rattle.std.proofs.Math.Nat.{mul-le-mul, mul-le-mul_left, mul-le-mul_right, one-le-mul, pow-le-pow_left, pow-le-pow_right, pow-suc, pow-succ'}
 use Rattle.std.proofs.lemmas.Nat.{mul-pow, pow-add}
-use Rattle.re_local.proofs.Towers.{below_power, own_power, power_of}
+use Rattle.re_layers.proofs.Towers.{below_power, own_power, power_of}
 use Rattle.re_classes.specs.RandomLaws.{id_views, random_base}
 use Rattle.re_local.specs.SeparatingLaws.{identifier_base}
 

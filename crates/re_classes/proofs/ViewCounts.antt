@@ -1,5 +1,5 @@
 -- How many trees of input labels there are.
-use Rattle.std.proofs.Common.{◌≡◌, ℕ, zero, suc, pred, ◌*◌, ◌^◌, ◌≤◌, Bool, true, false, cond, List, [], ◌∷◌, length, map, get_or, filter, sym, ◌∙◌, ap, arith}
+use Rattle.std.proofs.Common.{◌≡◌, ℕ, zero, suc, pred, ◌*◌, ◌^◌, ◌≤◌, List, length, map, get_or, sym, ◌∙◌, ap, arith}
 use Rattle.std.specs.Prelude.{flat_map}
 use Rattle.std.proofs.Math.Nat.{mul-le-mul, mul-le-mul_right, one-le-mul, one-le-pow, pow-le-pow_left, pow-le-pow_right, pow-suc, pow-succ', pow-zero}
 use Rattle.re_labels.proofs.OrdersAt.{length-flat_map}
@@ -7,7 +7,7 @@ use Rattle.re_given.proofs.AllInputViews.{all_children, all_trees}
 use Rattle.re_given.specs.InputViews.{InputView}
 use Rattle.re_labels.proofs.Membership.{length-count_from, length-map'}
 use Rattle.re_labels.specs.Lists.{count_from}
-use Rattle.re_local.proofs.Towers.{power_of}
+use Rattle.re_layers.proofs.Towers.{power_of}
 use Rattle.re_laws.specs.Trees.{leaf, more}
 
 children_count : (l e : ℕ) (branches : List InputView) (n : ℕ) → length (all_children l e branches n) ≡ (e * l * length branches) ^ n
@@ -88,12 +88,3 @@ view_count m l d e t n some some' low low' few =
 
     smaller : (b x : ℕ) → m * l * b ≤ x → e * l * b ≤ x
     smaller b x h = let less : e * (l * b) ≤ m * (l * b) = mul-le-mul_right (l * b) low' in omega (arith, less, h)
-
--- a filter keeps no more than there is
-pub filter_count : {X : Type 0} (test : X → Bool) (xs : List X) → length (filter test xs) ≤ length xs
-filter_count test [] = omega arith
-filter_count test (x ∷ xs) = go (test x) (filter_count test xs)
-  where
-    go : (b : Bool) → length (filter test xs) ≤ length xs → length (cond b (x ∷ filter test xs) (filter test xs)) ≤ suc (length xs)
-    go false l = omega (arith, l)
-    go true l = omega (arith, l)

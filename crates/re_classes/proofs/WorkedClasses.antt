@@ -20,7 +20,7 @@ use Rattle.re_local.proofs.Separated.{sinkless_unique}
 use Rattle.re_local.specs.SeparatingLaws.{identifier_base}
 use Rattle.re_table.specs.Constraints.{Has}
 
-is_three : IsProblem (colouring 2 2 3)
+pub is_three : IsProblem (colouring 2 2 3)
 is_three = IsProblem-colouring 2 2 3 (omega arith) (omega arith) (omega arith) (omega arith)
 
 abbrev the_end : ℕ → ℕ → GraphEnd

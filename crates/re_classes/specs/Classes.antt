@@ -1,7 +1,7 @@
 -- The classes of problems, by how many rounds local algorithms take with unique identifiers.
 use Rattle.std.specs.Prelude.{ℕ, ◌+◌, ◌*◌, ◌≤◌}
 use Rattle.re_local.specs.LocalAlgorithms.{SolvableLocal}
-use Rattle.re_local.specs.Towers.{tower}
+use Rattle.re_layers.specs.Towers.{tower}
 use Rattle.re_problem.specs.Problems.{Problem}
 use Rattle.re_local.specs.SeparatingLaws.{IsBeyondLocal, IsBeyondPower}
 

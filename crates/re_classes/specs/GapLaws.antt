@@ -2,7 +2,7 @@
 use Rattle.std.specs.Prelude.{ℕ, ◌+◌, ◌≤◌, List}
 use Rattle.re_given.specs.InputViews.{InputView}
 use Rattle.re_laws.specs.Algorithms.{Solvable}
-use Rattle.re_local.specs.Towers.{tower}
+use Rattle.re_layers.specs.Towers.{tower}
 use Rattle.re_problem.specs.Problems.{IsProblem, Problem}
 use Rattle.re_classes.specs.NamedRandom.{FailsRarelyNamed}
 use Rattle.re_classes.specs.RandomAlgorithms.{FailsRarely}

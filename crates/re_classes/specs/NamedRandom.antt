@@ -2,7 +2,8 @@
 use Rattle.std.specs.Prelude.{ℕ, suc, ◌+◌, ◌*◌, ◌^◌, ◌<◌, not, List, length, filter, slice_index}
 use Rattle.re_given.specs.Given.{around_known}
 use Rattle.re_given.specs.InputViews.{Fits, InputView, known}
-use Rattle.re_local.specs.LocalAlgorithms.{AreDifferent, behind_passive, identified, shown}
+use Rattle.re_layers.specs.Networks.{AreDifferent}
+use Rattle.re_local.specs.LocalAlgorithms.{behind_passive, identified, shown}
 use Rattle.re_problem.specs.Problems.{Problem}
 use Rattle.re_classes.specs.RandomAlgorithms.{string_lists}
 use Rattle.re_table.specs.Constraints.{has_config}

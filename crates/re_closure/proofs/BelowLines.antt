@@ -8,7 +8,7 @@ use Rattle.re_labels.proofs.Rearranging.{Contains-Rearranged, Rearranged-map, Re
 use Rattle.re_labels.specs.Orders.{multisets}
 use Rattle.re_labels.specs.Rows.{IsChoice, IsUnder, placed, set_at}
 use Rattle.re_labels.proofs.Membership.{Contains-count_from, Contains-filter, Contains-filter_cases, Contains-here, Contains-later, count_from_range, length-map'}
-use Rattle.re_labels.proofs.Places.{get-place_of, place_of-below}
+use Rattle.re_labels.proofs.LabelPlaces.{get-place_of, place_of-below}
 use Rattle.re_labels.proofs.Sets.{IsWithin-within, within-IsWithin}
 use Rattle.re_labels.proofs.Tests.{same_tests}
 use Rattle.re_labels.specs.Lists.{count_from, place_of}

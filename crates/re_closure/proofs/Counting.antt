@@ -1,5 +1,5 @@
 -- How many lines are found, wait and are looked at.
-use Rattle.std.proofs.Common.{◌≡◌, ℕ, zero, suc, ◌+◌, ◌-◌, ◌*◌, ◌<◌, ◌≤◌, true, false, eqb, List, [], ◌∷◌, ◌++◌, length, refl, sym, ap, ◌∙◌, subst, inl, inr, arith, length-append}
+use Rattle.std.proofs.Common.{◌≡◌, ℕ, zero, suc, ◌+◌, ◌-◌, ◌*◌, ◌<◌, ◌≤◌, true, false, List, [], ◌∷◌, ◌++◌, length, refl, sym, ap, ◌∙◌, subst, inl, inr, arith, length-append}
 use Rattle.std.specs.Prelude.{Contains, ◌↔◌}
 use Rattle.std.proofs.Math.Nat.{mul-le-mul_right}
 use Rattle.std.proofs.lemmas.Bool.{false≢true}
@@ -24,10 +24,6 @@ pub factorial_split : (n : ℕ) → 0 < n → n * factorial (n - 1) ≡ factoria
 unfolding factorial
 factorial_split zero low = absurd (omega arith)
 factorial_split (suc m) low = let e : suc m - 1 ≡ m = omega arith in ap (λ k. suc m * factorial k) e
-
-pub some_there : (n : ℕ) → eqb n 0 ≡ false → 0 < n
-some_there zero e = absurd (cc)
-some_there (suc n) e = omega arith
 
 -- so many times as many at most
 pub grown_more : (old mid new times most : ℕ) → mid ≤ old + times * most → new ≤ mid + most → new ≤ old + (times + 1) * most

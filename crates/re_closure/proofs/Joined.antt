@@ -9,7 +9,7 @@ use Rattle.std.proofs.lemmas.Bool.Decides.{nat_tests}
 use Rattle.std.proofs.lemmas.List.{map-append}
 use Rattle.std.proofs.lemmas.Slice.Eq.{bytes_eq-Decides}
 use Rattle.re_labels.proofs.Membership.{Contains-map_cases, In-Contains, all-In_from, length-count_from, length-map'}
-use Rattle.re_labels.proofs.Places.{place_of-below}
+use Rattle.re_labels.proofs.LabelPlaces.{place_of-below}
 use Rattle.re_labels.proofs.Tests.{and-true, or-left, or-right, true-and, true-below}
 use Rattle.re_labels.specs.Lists.{count_from, place_of}
 use Rattle.re_labels.specs.declared.TheConstants.{MAX_LABELS}

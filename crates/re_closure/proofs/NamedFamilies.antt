@@ -8,7 +8,7 @@ use Rattle.re_labels.proofs.Sorting.{Rearranged-sorted}
 use Rattle.re_labels.specs.Configs.{sorted}
 use Rattle.re_labels.specs.Rows.{IsUnder, placed, set_at}
 use Rattle.re_labels.proofs.Membership.{AllByRecursion-contains, Contains-here, Contains-later, Contains-map, length-map'}
-use Rattle.re_labels.proofs.Places.{get-place_of, map-get-place_of, place_of-below}
+use Rattle.re_labels.proofs.LabelPlaces.{get-place_of, map-get-place_of, place_of-below}
 use Rattle.re_labels.specs.Lists.{place_of}
 use Rattle.re_labels.specs.Sets.{IsIn, IsLabelSet, IsWithin}
 use Rattle.re_labels.specs.declared.TheConstants.{MAX_LABELS}

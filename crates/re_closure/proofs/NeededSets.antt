@@ -1,10 +1,9 @@
 -- The sets of lines, each once.
-use Rattle.std.proofs.Common.{◌≡◌, ℕ, zero, suc, ◌+◌, ◌-◌, ◌<◌, ◌≤◌, List, [], ◌∷◌, ◌++◌, length, map, get_or, refl, sym, ap, ◌∙◌, subst, inl, inr, arith, true, false, not, cond, filter, eqb, ltb}
-use Rattle.std.specs.Prelude.{Contains, ◌↔◌, flat_map, if◌then◌else◌}
+use Rattle.std.proofs.Common.{◌≡◌, ℕ, zero, suc, ◌+◌, ◌-◌, ◌<◌, ◌≤◌, List, [], ◌∷◌, ◌++◌, length, map, get_or, refl, sym, ap, ◌∙◌, subst, inl, inr, arith, true, false, not, cond, filter}
+use Rattle.std.specs.Prelude.{Contains, ◌↔◌, flat_map}
 use Rattle.std.specs.List.{AllByRecursion}
 use Rattle.std.specs.List.Sorted.{IsNonDecreasingBy, IsPermutation}
 use Rattle.std.proofs.lemmas.Bool.{cases_lt}
-use Rattle.std.proofs.lemmas.Bool.Decides.{nat_tests}
 use Rattle.std.proofs.lemmas.List.{append-nil}
 use Rattle.std.proofs.lemmas.List.Elements.{Contains-append_cases, Contains-append_left, Contains-append_right, filter-append}
 use Rattle.std.proofs.lemmas.List.Sorted.{Contains-permutation, IsPermutation-sym}
@@ -17,6 +16,7 @@ use Rattle.re_closure_laws.proofs.Generated.{active_first, passive_first}
 use Rattle.re_problem.specs.NamedProblems.{NamedProblem, unnamed}
 use Rattle.re_problem.specs.Problems.{IsProblem}
 use Rattle.re_table.specs.Strength.{up_set}
+use Rattle.re_changes.proofs.Counted.{with_label-above}
 use Rattle.re_closure.specs.Kept.{AreOfLength, HasManyCombinations, HasManyLines}
 use Rattle.re_labels.specs.Sets.{has, number, with_label}
 use Rattle.re_closure_laws.specs.Closures.{AreClosure, AreTopmost, down_lines, up_lines}
@@ -25,14 +25,6 @@ use Rattle.re_closure.proofs.Places.{has_before, has_either, has_last}
 use Rattle.re_closure.specs.ProblemFamilies.{HasManySide, HasManySideCombinations, IsNeeded}
 
 -- ---- all other labels
-with_label-last : (s : List ℕ) (x : ℕ) → AllByRecursion (λ y. y < x) s → with_label s x ≡ s ++ x ∷ []
-with_label-last [] x h = refl
-with_label-last (y ∷ s) x h =
-    let low : y < x = h.0 in
-    let a : ltb x y ≡ false = grind (arith, nat_tests) in
-    let b : eqb x y ≡ false = grind (arith, nat_tests) in
-    (λ i. if a i then x ∷ y ∷ s else if b i then y ∷ s else y ∷ with_label s x) ∙ ap (λ l. y ∷ l) (with_label-last s x h.1)
-
 below : (set : List ℕ) (n : ℕ) → AllByRecursion (λ y. y < n) (filter (λ label. not (has set label)) (count_from 0 n))
 below set n = AllByRecursion-from_contains (λ y. y < n) (filter (λ label. not (has set label)) (count_from 0 n))
     (λ x held. let range = count_from_range 0 n x (Contains-filter_cases (λ label. not (has set label)) (count_from 0 n) x held).0 in omega (arith, range.1))
@@ -48,7 +40,7 @@ one_more set n =
 pub others_in : (set left more : List ℕ) (n : ℕ) → has set n ≡ false → left ≡ filter (λ label. not (has set label)) (count_from 0 n) → more ≡ with_label left n
     → more ≡ filter (λ label. not (has set label)) (count_from 0 (n + 1))
 others_in set left more n out is e =
-    e ∙ ap (λ l. with_label l n) is ∙ with_label-last (filter (λ label. not (has set label)) (count_from 0 n)) n (below set n)
+    e ∙ ap (λ l. with_label l n) is ∙ with_label-above (filter (λ label. not (has set label)) (count_from 0 n)) n (below set n)
     ∙ sym (one_more set n ∙ ap (λ b. filter (λ label. not (has set label)) (count_from 0 n) ++ cond (not b) (n ∷ []) []) out)
 
 pub others_out : (set left : List ℕ) (n : ℕ) → has set n ≡ true → left ≡ filter (λ label. not (has set label)) (count_from 0 n) → left ≡ filter (λ label. not (has set label)) (count_from 0 (n + 1))

@@ -9,7 +9,7 @@ use Rattle.re_shaping.proofs.RelaxedSteps.{relaxed-step}
 use Rattle.re_shaping.specs.Relaxing.{row_image, set_image, top_image, top_images}
 use Rattle.re_labels.proofs.Rearranging.{Contains-Rearranged, Rearranged-sym}
 use Rattle.re_labels.proofs.Membership.{AllByRecursion-contains, map-alike}
-use Rattle.re_labels.proofs.Places.{get-place_of, place_of-below}
+use Rattle.re_labels.proofs.LabelPlaces.{get-place_of, place_of-below}
 use Rattle.re_labels.specs.Lists.{place_of}
 use Rattle.re_labels.specs.Sets.{IsIn, IsLabelSet}
 use Rattle.re_labels.specs.declared.TheConstants.{MAX_LABELS}

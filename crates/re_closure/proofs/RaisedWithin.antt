@@ -1,5 +1,5 @@
 -- What may be given to a chain with a diagram, by what is found of the closure of the raised problem.
-use Rattle.std.proofs.Common.{◌≡◌, ◌+◌, ◌<◌, ◌≤◌, ℕ, zero, suc, true, List, [], ◌∷◌, ◌++◌, None, leb, length, length-append, map, refl, sym, ◌∙◌, subst, inr, arith}
+use Rattle.std.proofs.Common.{◌≡◌, ◌+◌, ◌<◌, ◌≤◌, ℕ, zero, suc, true, List, [], ◌∷◌, ◌++◌, None, leb, length, length-append, map, refl, sym, subst, inr, arith}
 use Rattle.std.proofs.lemmas.Bool.Decides.{nat_tests}
 use Rattle.std.specs.Prelude.{Contains}
 use Rattle.std.specs.List.{AllByRecursion}
@@ -16,7 +16,7 @@ use Rattle.re_check.proofs.Meaning.{named-last}
 use Rattle.re_check.specs.Clauses.{step_fault}
 use Rattle.re_labels.specs.Configs.{IsConfig, image_at}
 use Rattle.re_frame.specs.Outcomes.{Outcome}
-use Rattle.re_labels.proofs.Membership.{AllByRecursion-contains, get_or-count_from, length-map'}
+use Rattle.re_labels.proofs.Membership.{AllByRecursion-contains, length-map'}
 use Rattle.re_labels.proofs.Tests.{and-true, true-and}
 use Rattle.re_labels.specs.Lists.{count_from}
 use Rattle.re_problem.specs.NamedProblems.{IsNamedProblem, NamedProblem, unnamed}
@@ -30,6 +30,7 @@ use Rattle.re_closure.proofs.RaisedProblems.{raised-named, raised-relaxed}
 use Rattle.re_closure.specs.ClosureWords.{IsRaisedLimitLine, IsRaisedLine, MayFindRaisedBehind, MayFindRaisedWithin, MayFindWithin, MayGoOnRaised}
 use Rattle.re_closure.specs.Diagrams.{raised}
 use Rattle.re_closure.specs.RaisedClosures.{raised_chain, step_to_raised}
+use Rattle.re_closure_laws.proofs.Itself.{own_image}
 
 -- a limit is passed
 pub raised_limit_within : (more : ℕ) (edges : List (ℕ × ℕ)) (chain : Bound) (outcome : Outcome) → zero_place (unnamed (last_problem chain)) ≡ None → IsRaisedLimitLine edges chain outcome → MayFindRaisedWithin more edges chain outcome
@@ -38,10 +39,6 @@ raised_limit_within (suc more) edges chain outcome none line =
     subst (λ p. MayFindRaisedBehind (MayGoOnRaised edges chain (MayFindWithin more (raised_chain edges chain))) p edges chain outcome) (sym none) (inr (inr line))
 
 -- ---- the chain with the step to the derived problem of the raised problem
--- each label is its own image
-pub own_image : (n label : ℕ) → label < n → image_at (count_from 0 n) label ≡ label
-own_image n label low = get_or-count_from 0 n label 0 low ∙ (let z : 0 + label ≡ label = omega arith in z)
-
 module _ (problem relaxed : NamedProblem) (fine : IsNamedProblem problem) (is : IsRelaxed (unnamed problem) (unnamed relaxed) (λ x. x)) where
   abbrev n : ℕ
   n = length problem.names

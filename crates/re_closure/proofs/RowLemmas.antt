@@ -1,8 +1,6 @@
 -- The rows of lines, in order, each once.
 use Rattle.std.proofs.Common.{◌≡◌, ℕ, suc, ◌+◌, ◌-◌, ◌<◌, ◌≤◌, Bool, true, false, cond, leb, ltb, List, [], ◌∷◌, ◌++◌, length, length-append, map, None, Some, refl, sym, ap, ◌∙◌, subst, inl, inr, ◌⊎◌, arith}
 use Rattle.std.specs.Prelude.{Contains, ◌&&◌, ◌↔◌, if◌then◌else◌}
-use Rattle.std.specs.Cmp.{IsStrictWeakOrder}
-use Rattle.std.specs.Cmp.Lexicographic.{nat_list_cmp_total}
 use Rattle.std.specs.List.Sorted.{IsPermutation, IsSortedBy}
 use Rattle.std.specs.Ordering.{is_lt}
 use Rattle.std.specs.declared.cmp.Ordering.TheVariants.{Equal, Less}
@@ -10,13 +8,12 @@ use Rattle.std.proofs.lemmas.Bool.{cases_lt, false≢true}
 use Rattle.std.proofs.lemmas.Bool.Decides.{nat_tests}
 use Rattle.std.proofs.lemmas.List.{get_or_default}
 use Rattle.std.proofs.lemmas.List.Elements.{Contains-append_cases, Contains-append_left, Contains-append_right, Contains-get_or}
-use Rattle.std.proofs.lemmas.List.MinMax.{ranks_by}
 use Rattle.std.proofs.lemmas.List.Sorted.{Contains-permutation, IsPermutation-sym, length_permutation}
 use Rattle.re_labels.proofs.Rows.{AreSets, as_row}
 use Rattle.re_labels.specs.Rows.{IsRow, in_order, is_full, row_cmp, row_of}
 use Rattle.re_labels.proofs.Before.{IsBefore-trans, slice_cmp-same, three_orders}
 use Rattle.re_labels.proofs.Membership.{AllByRecursion-weaker, Contains-In, Contains-cases, Contains-here, Contains-later, Contains-map, Contains-map_cases, Contains-none, In, In-Contains, length-map'}
-use Rattle.re_labels.proofs.Places.{get-place_of, place_of-below}
+use Rattle.re_labels.proofs.LabelPlaces.{get-place_of, place_of-below}
 use Rattle.re_labels.proofs.Rising.{rising-below, same_members}
 use Rattle.re_labels.proofs.Tests.{true-and}
 use Rattle.re_labels.specs.Lists.{IsRising, place_of}
@@ -77,9 +74,6 @@ row_is sets line two six few known =
     ∙ ap Some (one_order (length sets) MAX_LABELS few r is)
 
 -- ---- each row once
-pub rows_ranked : IsStrictWeakOrder is_row_before
-rows_ranked = ranks_by nat_list_cmp_total (map number)
-
 pub record IsOnce (rows : List (List (List ℕ))) (place : ℕ) (once : List (List (List ℕ))) : Type 0 where
   pub rises : IsRising IsRowBefore once
   pub most : (row : List (List ℕ)) → Contains once row → (0 < place) × ((row ≡ row_at rows (place - 1)) ⊎ IsRowBefore row (row_at rows (place - 1)))

@@ -1,5 +1,5 @@
 -- What may be given to a chain, by what is found of the closure of its last problem.
-use Rattle.std.proofs.Common.{◌≡◌, ◌<◌, ◌-◌, ℕ, zero, suc, List, Some, None, length, refl, sym, subst, inl, inr, arith}
+use Rattle.std.proofs.Common.{◌≡◌, ◌<◌, ◌-◌, ℕ, zero, suc, List, Some, None, length, sym, subst, inl, inr, arith}
 use Rattle.re_problem.specs.NamedProblems.{unnamed}
 use Rattle.re_problem.specs.Zero.{zero_place}
 use Rattle.re_cert.specs.Bounds.{Bound, last_problem}
@@ -9,10 +9,6 @@ use Rattle.re_closure.specs.Closures.{HasRoom, IsSolvableBy}
 use Rattle.re_closure.specs.ClosureWords.{IsClosureLine, IsFound, IsLimitLine, MayFindBehind, MayFindWithin, MayGoOn, MayStep, stop_outcome}
 use Rattle.re_frame.specs.Outcomes.{Outcome, refused}
 use Rattle.re_frame.specs.SearchLines.{solvable_line}
-
-pub positive : (more : ℕ) → (more ≡ 0 → ⊥) → 0 < more
-positive zero some = absurd (some refl)
-positive (suc more) some = omega arith
 
 -- the last problem is solvable without communication
 pub place_within : (more : ℕ) (chain : Bound) (place : ℕ) (outcome : Outcome) → zero_place (unnamed (last_problem chain)) ≡ Some place → outcome ≡ refused (solvable_line (last_problem chain) place)

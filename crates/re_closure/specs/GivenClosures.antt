@@ -15,7 +15,6 @@ use Rattle.re_frame.specs.Check.{verdict_outcome}
 use Rattle.re_frame.specs.Outcomes.{Outcome, outcome_of, refused}
 use Rattle.re_frame.specs.SearchLines.{not_lower_line}
 use Rattle.re_frame.specs.TextFaults.{fault_outcome}
-use Rattle.re_frame.specs.declared.output.Output.{Output}
 use Rattle.re_given_words.specs.Extensions.{GoesOnGiven, IsTaken}
 use Rattle.re_given_words.specs.InputFaults.{fault_line}
 use Rattle.re_given_words.specs.Verdicts.{given_outcome}
@@ -104,11 +103,6 @@ unfoldable pub MayGiveText : ClosureWord → List ℕ → Outcome → Type 0
 MayGiveText word bytes outcome = MayGiveTextBy (has_input bytes) word bytes outcome
 
 -- ---- calls
--- the answer of `given` to a bound, and nothing exactly where it accepts it
-abbrev pub Declines : NamedProblem → Bound → Option Output → Type 0
-Declines input bound None = IsTaken input bound
-Declines input bound (Some output) = (IsTaken input bound → ⊥) × (outcome_of output ≡ given_outcome Given input bound)
-
 -- nothing is given
 abbrev pub NoOutcome : Outcome → Type 0
 NoOutcome outcome = ⊥

@@ -4,14 +4,14 @@ ghost use Rattle.re_closure.specs.Limits.{PassesLimit};
 ghost use Rattle.re_closure.specs.Sides.{family_of};
 ghost use Rattle.re_labels.specs.declared.TheConstants.{MAX_ROWS};
 ghost use Rattle.re_closure_laws.specs.Closures.{AreClosure};
-ghost use Rattle.re_closure_laws.specs.Lines.{AreApart, IsFamily, others};
+ghost use Rattle.re_closure_laws.specs.Lines.{AreApart, IsFamily};
 ghost use Rattle.re_problem.specs.NamedProblems.{IsNamedProblem, unnamed};
 ghost use Rattle.re_step.specs.LabelNames.{label_names};
 ghost use Rattle.re_closure.specs.ProblemFamilies.{active_family, passive_family};
-ghost use Rattle.std.specs.Prelude.{◌≡◌, ◌≤◌, Err, IfOk, length, map};
+ghost use Rattle.std.specs.Prelude.{◌≡◌, ◌≤◌, Err, IfOk, length};
 
 use crate::constraints::{below_of, topmost_of};
-use crate::families::{Families, closure_families, others_of};
+use crate::families::{Families, all_others, closure_families};
 use crate::line::SetLine;
 use crate::occurring::map_of;
 use crate::rows::maximal_of;
@@ -50,18 +50,6 @@ pub(crate) struct Closure {
     pub(crate) out: StepMap,
     /// The map of the step back.
     pub(crate) back: StepMap,
-}
-
-// What each of the sets leaves of the labels.
-fn all_others(alloc: Global, labels: u8, sets: &[LabelSet]) -> Result<Vec<LabelSet>, NoMemory>
-    requires { labels ≤ MAX_LABELS }
-    ensures { IfOk result (λ left. left.items ≡ map (others labels) sets.now) }
-{
-    let mut left = Vec::new(alloc);
-    for set in sets {
-        left.push(others_of(labels, *set))?;
-    }
-    Ok(left)
 }
 
 // The side of these lines.

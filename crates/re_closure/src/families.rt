@@ -1,5 +1,5 @@
 //! The lines of the closure of a problem, and the sets for which its labels stand.
-ghost use Rattle.re_labels.specs.Rows.{placed, set_at};
+ghost use Rattle.re_labels.specs.Rows.{placed};
 ghost use Rattle.re_labels.specs.declared.TheConstants.{MAX_ROWS};
 ghost use Rattle.re_labels.specs.Lists.{IsRising};
 ghost use Rattle.re_labels.specs.Sets.{number};
@@ -15,6 +15,7 @@ use crate::dominating::is_again;
 use crate::line::SetLine;
 use crate::topmost::{LinesFault, topmost_lines};
 use arrayvec::ArrayVec;
+use re_algo::set_at;
 use re_labels::{Config, LabelSet, NoMemory};
 use re_problem::Problem;
 use re_table::Constraint;
@@ -46,8 +47,12 @@ pub fn others_of(labels: u8, set: LabelSet) -> LabelSet
     left
 }
 
-// What each of the sets leaves of the labels.
-fn all_others(alloc: Global, labels: u8, sets: &[LabelSet]) -> Result<Vec<LabelSet>, NoMemory>
+/// What each of the sets leaves of the labels.
+pub(crate) fn all_others(
+    alloc: Global,
+    labels: u8,
+    sets: &[LabelSet],
+) -> Result<Vec<LabelSet>, NoMemory>
     requires { labels ≤ MAX_LABELS }
     ensures { IfOk result (λ left. left.items ≡ map (others labels) sets.now) }
 {
@@ -56,17 +61,6 @@ fn all_others(alloc: Global, labels: u8, sets: &[LabelSet]) -> Result<Vec<LabelS
         left.push(others_of(labels, *set))?;
     }
     Ok(left)
-}
-
-/// The set at this place, or the empty one where there is none.
-pub fn set_at(sets: &[LabelSet], place: usize) -> LabelSet
-    ensures { result ≡ set_at sets.now place }
-{
-    if place < sets.len() {
-        sets[place]
-    } else {
-        LabelSet::empty()
-    }
 }
 
 // The line of the sets at the labels of a configuration.

@@ -13,10 +13,10 @@ ghost use Rattle.std.specs.Prelude.{◌≡◌, ◌≤◌, Err, IfOk, None, Some,
 
 use crate::certificates::certificate_by;
 use crate::closure::{Closure, closure_of};
-use crate::families::set_at;
 use crate::occurring::map_of;
 use crate::stepping::step_with;
 use crate::types::{Closing, ClosureFault, ClosureLimit, StepMap};
+use re_algo::set_at;
 use re_cert::{Certificate, MAX_STEPS};
 use re_chains::{LowerChain, have_row_maps, over_problems};
 use re_labels::{LabelSet, MAX_LABELS, NoMemory, Row};

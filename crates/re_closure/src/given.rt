@@ -2,7 +2,7 @@
 ghost use Rattle.re_cert.specs.Bounds.{Bound};
 ghost use Rattle.re_chains.specs.OverChains.{IsJudged, steps_refusal};
 ghost use Rattle.re_closure.specs.Closures.{HasRoom, IsClosed};
-ghost use Rattle.re_closure.specs.GivenClosures.{Closes, Declines, MayFindGivenWithin, MayGiveGiven, MayGiveGivenSound};
+ghost use Rattle.re_closure.specs.GivenClosures.{Closes, MayFindGivenWithin, MayGiveGiven, MayGiveGivenSound};
 ghost use Rattle.re_frame.specs.Outcomes.{outcome_of};
 ghost use Rattle.re_given_words.specs.Extensions.{IsTaken};
 ghost use Rattle.re_io.specs.declared.read.TheConstants.{MAX_BYTES};
@@ -19,7 +19,7 @@ use re_chains::{
 use re_check::Verdict;
 use re_fit::input_fault;
 use re_frame::{Output, fault_output, not_lower_output, verdict_output};
-use re_given_words::{GIVEN, answer_law, given_verdict, input_fault_output, is_done, taken_law};
+use re_given_words::{GIVEN, answer_law, given_refusal, input_fault_output, taken_law};
 use re_labels::NoMemory;
 use re_problem::{Problem, TextFault};
 use re_shaping::step_lower;
@@ -32,22 +32,6 @@ pub(crate) enum GivenClosing {
     Closed(Output),
     /// There is no fixed point of the closure that `given` accepts, and why.
     Open(Output),
-}
-
-// The answer of `given` to the bound, where that isn't that it accepts it.
-fn given_refusal(
-    alloc: Global,
-    bound: &Certificate,
-    input: &Problem,
-) -> Result<Option<Output>, NoMemory>
-    ensures { IfOk result (Declines input.now bound.now) }
-{
-    let output = given_verdict(alloc, bound, input)?;
-    if is_done(output.answer) {
-        Ok(None)
-    } else {
-        Ok(Some(output))
-    }
 }
 
 // What is said of the fixed point of the closure.

@@ -33,7 +33,7 @@ ghost use Rattle.re_closure.specs.Laws.{OneOutcomeLaw, OneRaisedOutcomeLaw};
 ghost use Rattle.re_closure.specs.RaisedClosures.{RaisedStepLaw};
 
 pub use answering::{ClosureWord, MAX_FURTHER, closure_help, closure_output, closure_word};
-pub use families::{Families, closure_families, others_of, set_at};
+pub use families::{Families, closure_families, others_of};
 pub use finding::find_closure;
 pub use line::SetLine;
 pub use raising::find_raised;

@@ -1,12 +1,11 @@
 //! Sets, one behind the other.
 ghost use Rattle.re_labels.specs.Sets.{IsLabelSet, number};
 ghost use Rattle.re_printing.specs.SetTexts.{PushesSetRun, row_text};
-ghost use Rattle.re_problem.specs.CanonicalTexts.{runs};
 ghost use Rattle.std.specs.List.{AllByRecursion};
-ghost use Rattle.std.specs.Prelude.{◌≡◌, ◌≤◌, ◌<◌, ◌+◌, ◌++◌, ◌∷◌, IfOk, OnOk, drop, length, map, slice_index};
+ghost use Rattle.std.specs.Prelude.{◌≡◌, ◌≤◌, ◌<◌, ◌+◌, ◌++◌, IfOk, OnOk, length, map};
 
 use re_labels::{LabelSet, Names, NoMemory};
-use re_printing::push_set;
+use re_printing::{push_set, run_length};
 use re_problem::push_power;
 use std::alloc::Global;
 
@@ -19,21 +18,6 @@ fn numbers_of(alloc: Global, sets: &[LabelSet]) -> Result<Vec<u128>, NoMemory>
         numbers.push(set.number())?;
     }
     Ok(numbers)
-}
-
-// How many numbers equal to the first one the list begins with from this place on.
-fn run_length(numbers: &[u128], at: usize) -> usize
-    requires { at < length numbers.now }
-    ensures least { 1 ≤ result }
-    ensures within { at + result ≤ length numbers.now }
-    ensures runs { runs (drop at numbers.now)
-        ≡ record { label = slice_index numbers.now at; count = result } ∷ runs (drop (at + result) numbers.now) }
-{
-    let mut end = at + 1;
-    'run: while end < numbers.len() && numbers[end] == numbers[at] {
-        end += 1;
-    }
-    end - at
 }
 
 // The run of equal sets that begins at this place, and the place behind it.

@@ -13,7 +13,7 @@ use Rattle.re_labels.specs.Orders.{multisets, placements}
 use Rattle.re_labels.specs.Rearranging.{Rearranged, chained}
 use Rattle.re_labels.specs.Rows.{IsChoice, IsUnder, combined, placed, set_at, singles}
 use Rattle.re_labels.proofs.Membership.{Contains-In, Contains-filter, Contains-filter_cases, Contains-here, Contains-later, Contains-none, In-Contains, length-map'}
-use Rattle.re_labels.proofs.Places.{get-place_of, place_of-below}
+use Rattle.re_labels.proofs.LabelPlaces.{get-place_of, place_of-below}
 use Rattle.re_labels.specs.Lists.{place_of}
 use Rattle.re_labels.specs.Sets.{IsIn, IsWithin}
 use Rattle.re_table.proofs.Closure.{IsFull, IsReached, Shape, closure}

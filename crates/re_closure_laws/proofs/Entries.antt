@@ -4,7 +4,7 @@ use Rattle.std.specs.Prelude.{Contains}
 use Rattle.std.specs.List.{AllByRecursion}
 use Rattle.re_labels.specs.Rows.{placed, set_at}
 use Rattle.re_labels.proofs.Membership.{Contains-cases, Contains-here, Contains-later, Contains-none}
-use Rattle.re_labels.proofs.Places.{get-place_of, place_of-below}
+use Rattle.re_labels.proofs.LabelPlaces.{get-place_of, place_of-below}
 use Rattle.re_labels.specs.Lists.{place_of}
 use Rattle.re_problem.specs.Steps.{SetEntry, entry_sets, label_at, label_of}
 use Rattle.re_labels.proofs.Searching.{same_read}

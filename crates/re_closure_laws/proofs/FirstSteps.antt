@@ -13,7 +13,7 @@ use Rattle.re_labels.specs.Orders.{placements}
 use Rattle.re_labels.specs.Rearranging.{Rearranged}
 use Rattle.re_labels.specs.Rows.{IsChoice, IsUnder, combined, placed, set_at, singles}
 use Rattle.re_labels.proofs.Membership.{AllByRecursion-contains, Contains-In, Contains-count_from, Contains-filter, Contains-filter_cases, Contains-here, Contains-later, In-Contains, count_from_range, length-map'}
-use Rattle.re_labels.proofs.Places.{get-place_of, place_of-below}
+use Rattle.re_labels.proofs.LabelPlaces.{get-place_of, place_of-below}
 use Rattle.re_labels.proofs.Sets.{IsIn-has, has-IsIn}
 use Rattle.re_labels.specs.Lists.{count_from, place_of}
 use Rattle.re_labels.specs.Sets.{IsIn, IsWithin, has}

@@ -20,7 +20,7 @@ use Rattle.re_table.proofs.Goodness.{Has-Rearranged}
 use Rattle.re_table.specs.Constraints.{Constraint, Has}
 use Rattle.re_table.specs.GoodRows.{IsDominated}
 use Rattle.re_table.specs.Strength.{is_at_least_as_strong}
-use Rattle.re_boxes.proofs.Strength.{strength_law}
+use Rattle.re_boxes.proofs.StrengthTests.{strength_law}
 use Rattle.re_problem.specs.Problems.{IsProblem, Problem}
 use Rattle.re_labels.proofs.Searching.{same_read}
 use Rattle.re_closure_laws.proofs.FirstSteps.{IsIn-others, IsIn-others_cases, opposite_to, others-more}

@@ -3,16 +3,15 @@ use Rattle.std.proofs.Common.{◌≡◌, ℕ, ◌<◌, List, [], ◌∷◌, map,
 use Rattle.std.specs.List.{AllByRecursion}
 use Rattle.re_labels.proofs.Sorting.{sorted_again}
 use Rattle.re_labels.specs.Configs.{IsConfig, image_at, image_of, sorted}
-use Rattle.re_labels.proofs.ListSets.{In-list_set, list_set-In, one_set, rising-list_set}
 use Rattle.re_labels.proofs.Membership.{get_or-count_from, length-count_from}
-use Rattle.re_labels.specs.Lists.{IsBefore, IsRising, count_from}
+use Rattle.re_labels.specs.Lists.{count_from}
 use Rattle.re_labels.specs.ListSets.{list_set}
 use Rattle.re_table.specs.Constraints.{Constraint, IsConstraint, images_of}
 use Rattle.re_problem.proofs.Walks.{alone}
 use Rattle.re_problem.specs.Problems.{IsProblem, Problem}
 use Rattle.re_problem.specs.Steps.{IsRenamed}
 
-own_image : (n x : ℕ) → x < n → image_at (count_from 0 n) x ≡ x
+pub own_image : (n x : ℕ) → x < n → image_at (count_from 0 n) x ≡ x
 own_image n x low = let e = get_or-count_from 0 n x 0 low in omega (arith, e)
 
 own_images : (n : ℕ) (config : List ℕ) → AllByRecursion (λ x. x < n) config → map (image_at (count_from 0 n)) config ≡ config

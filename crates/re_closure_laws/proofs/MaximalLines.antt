@@ -8,7 +8,7 @@ use Rattle.re_labels.proofs.Sorting.{sorted-Rearranged, sorted_again}
 use Rattle.re_labels.specs.Rearranging.{Rearranged, chained}
 use Rattle.re_labels.specs.Rows.{Dominates, IsRow, IsUnder, in_order}
 use Rattle.re_labels.proofs.Membership.{Contains-here, Contains-later}
-use Rattle.re_labels.proofs.Places.{get-place_of}
+use Rattle.re_labels.proofs.LabelPlaces.{get-place_of}
 use Rattle.re_labels.proofs.Rising.{rising-map}
 use Rattle.re_labels.specs.Lists.{place_of}
 use Rattle.re_labels.specs.Sets.{IsLabelSet, IsWithin, number, set_of}

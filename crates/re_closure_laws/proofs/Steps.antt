@@ -14,7 +14,7 @@ use Rattle.re_labels.specs.Rows.{IsChoice, IsUnder, placed, set_at}
 use Rattle.re_labels.proofs.Before.{IsBefore-trans}
 use Rattle.re_labels.proofs.ListSets.{law as list_set_law}
 use Rattle.re_labels.proofs.Membership.{AllByRecursion-from_contains, Contains-filter_cases, Contains-here, Contains-later, Contains-map, Contains-map_cases, length-map', map-alike}
-use Rattle.re_labels.proofs.Places.{get-place_of, map-get-place_of, place_of-below}
+use Rattle.re_labels.proofs.LabelPlaces.{get-place_of, map-get-place_of, place_of-below}
 use Rattle.re_labels.proofs.Rising.{rising-filter}
 use Rattle.re_labels.specs.Lists.{IsBefore, place_of}
 use Rattle.re_labels.specs.ListSets.{list_set}

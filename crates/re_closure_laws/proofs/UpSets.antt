@@ -12,7 +12,7 @@ use Rattle.re_table.specs.Constraints.{Constraint, IsConstraint}
 use Rattle.re_table.specs.GoodRows.{max_rows, max_sets}
 use Rattle.re_table.specs.Strength.{up_set}
 use Rattle.re_boxes.proofs.Grown.{grown_is_up, maximal_is_grown}
-use Rattle.re_boxes.proofs.Strength.{strength_law}
+use Rattle.re_boxes.proofs.StrengthTests.{strength_law}
 use Rattle.re_boxes.specs.Strength.{HasStronger, IsAbove}
 use Rattle.re_labels.proofs.Searching.{same_read}
 

@@ -8,7 +8,7 @@ use Rattle.re_labels.proofs.Membership.{get_or-count_from, length-count_from}
 use Rattle.re_labels.specs.Lists.{count_from}
 use Rattle.re_laws.proofs.Ports.{length-ports}
 use Rattle.re_laws.specs.Algorithms.{Plain}
-use Rattle.re_laws.proofs.Branchwise.{IsTree-branchwise, backs-child, child_at-branchwise, joined, shift-branchwise}
+use Rattle.re_laws.proofs.JoinedBranches.{IsTree-branchwise, backs-child, child_at-branchwise, joined, shift-branchwise}
 use Rattle.re_laws.proofs.ViewLaws.{IsChild, IsTree-others}
 use Rattle.re_laws.specs.Ends.{End, IsEnd, branchwise, no_end}
 use Rattle.re_laws.specs.Trees.{leaf, end, more, IsTree, IsView, Tree, backs, others, shift}

@@ -9,12 +9,13 @@ use Rattle.std.proofs.lemmas.List.Elements.{Contains-get_or}
 use Rattle.re_labels.proofs.Placing.{Dominates-dominates, Dominates-refl, dominates-Dominates}
 use Rattle.re_labels.proofs.Sorting.{sorted_again}
 use Rattle.re_labels.specs.Configs.{IsConfig, sorted}
-use Rattle.re_labels.specs.Rows.{Dominates, IsChoice, dominates, singles}
+use Rattle.re_labels.specs.Rows.{Dominates, dominates, singles}
 use Rattle.re_labels.proofs.Membership.{AllByRecursion-contains, any_found, any_true, Contains-In, Contains-cases, Contains-here, Contains-none, In-Contains, In-append_left}
 use Rattle.re_table.proofs.ClosureLaw.{closure_law}
 use Rattle.re_table.specs.Constraints.{Constraint, IsConstraint}
 use Rattle.re_table.specs.GoodRows.{IsDominated, IsGood, is_dominated, max_rows}
 use Rattle.re_step.proofs.Keeping.{up_to, contains_last, contains_either}
+use Rattle.re_given.proofs.Itself.{only_choice}
 use Rattle.re_describe.specs.Spelling.{Spells, TakesIn}
 
 abbrev pub Rows : Type 0
@@ -31,14 +32,6 @@ labels_below d n [] h = tt
 labels_below d n (c ∷ configs) h = (h.0.below, labels_below d n configs h.1)
 
 -- ---- each configuration alone
-pub chosen_alone : (config labels : List ℕ) → IsChoice labels (singles config) → labels ≡ config
-chosen_alone [] [] h = refl
-chosen_alone [] (x ∷ labels) h = absurd h
-chosen_alone (y ∷ config) [] h = absurd h
-chosen_alone (y ∷ config) (x ∷ labels) h =
-    let here : x ≡ y = elim (Contains-cases x y [] h.0) [ inl e ↦ e | inr none ↦ absurd (Contains-none x none) ] in
-    let rest = chosen_alone config labels h.1 in cc
-
 filled_alone : (config : List ℕ) → AllByRecursion (λ s. 0 < length s) (singles config)
 filled_alone [] = tt
 filled_alone (x ∷ config) = (omega arith, filled_alone config)
@@ -51,7 +44,7 @@ pub alone_good : (constraint : Constraint) (n : ℕ) (config : List ℕ) → IsC
 alone_good constraint n config is held = record {
   count = length_alone config ∙ is.count;
   filled = filled_alone config;
-  choice = λ labels chosen. let same : sorted labels ≡ config = ap sorted (chosen_alone config labels chosen) ∙ sorted_again config is.ascends in subst (Contains constraint.configs) (sym same) held;
+  choice = λ labels chosen. let same : sorted labels ≡ config = ap sorted (only_choice config labels chosen) ∙ sorted_again config is.ascends in subst (Contains constraint.configs) (sym same) held;
 }
 
 -- ---- one row more

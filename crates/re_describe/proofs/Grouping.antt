@@ -19,7 +19,8 @@ use Rattle.re_table.proofs.MaxRows.{max_rows-IsMaximal}
 use Rattle.re_table.specs.Constraints.{Constraint, IsConstraint}
 use Rattle.re_table.specs.GoodRows.{IsDominated, max_rows}
 use Rattle.re_step.proofs.Keeping.{contains_either}
-use Rattle.re_describe.proofs.Covering.{Rows, SpellsFirst, all_first, chosen_alone, max_spells, spells_moved, taken_in}
+use Rattle.re_given.proofs.Itself.{only_choice}
+use Rattle.re_describe.proofs.Covering.{Rows, SpellsFirst, all_first, max_spells, spells_moved, taken_in}
 use Rattle.re_describe.specs.Spelling.{AreAlone, AreApart, AreGroups, AreSources, AreTaken, AreTops, Spells, TakesIn, comparable}
 
 -- ---- the rows among which groups are
@@ -35,7 +36,7 @@ alone_once : (n : ℕ) (constraint : Constraint) (config other : List ℕ) → I
     → Dominates (singles config) (singles other) → config ≡ other
 alone_once n constraint config other is held there (moved, order, under) =
     let chosen = IsChoice-Rearranged other (Rearranged-sym order) (IsChoice-under other (singles other) moved under (Choice-singles other)) in
-    let same : chosen.0 ≡ config = chosen_alone config chosen.0 chosen.2 in
+    let same : chosen.0 ≡ config = only_choice config chosen.0 chosen.2 in
     let c : IsConfig constraint.degree n config = AllByRecursion-contains (IsConfig constraint.degree n) constraint.configs config is.configs held in
     let o : IsConfig constraint.degree n other = AllByRecursion-contains (IsConfig constraint.degree n) constraint.configs other is.configs there in
     sym (sorted_again config c.ascends) ∙ ap sorted (sym same) ∙ sym (sorted-Rearranged chosen.1) ∙ sorted_again other o.ascends

@@ -5,7 +5,7 @@ use Rattle.std.specs.List.{AllByRecursion, list_all}
 use Rattle.std.proofs.lemmas.Bool.Decides.{nat_tests}
 use Rattle.re_boxes.specs.Boxes.{IsUp}
 use Rattle.re_labels.proofs.Membership.{AllByRecursion-contains, Contains-filter, Contains-filter_cases}
-use Rattle.re_labels.proofs.Sets.{IsIn-has, IsWithin-within, has-IsIn, within-IsWithin}
+use Rattle.re_labels.proofs.Sets.{IsIn-has, has-IsIn}
 use Rattle.re_labels.proofs.Tests.{and-true, eqb-same, eqb-true}
 use Rattle.re_labels.specs.Sets.{IsIn, IsLabelSet, IsWithin, has, within, without_label}
 use Rattle.re_labels.specs.declared.TheConstants.{MAX_LABELS}
@@ -14,9 +14,6 @@ use Rattle.re_describe.specs.Meanings.{AreWeakest, IsAbove}
 -- ---- tests
 pub absent : (set : List ℕ) (x : ℕ) → has set x ≡ false → IsIn x set → ⊥
 absent set x lacks held = let both : false ≡ true = sym lacks ∙ IsIn-has set x held in cc
-
-pub within_told : (set other : List ℕ) (r : Bool) → r ≡ within set other → IsTrue r ↔ IsWithin set other
-within_told set other r is = ((λ t. within-IsWithin set other (sym is ∙ t)), (λ w. is ∙ IsWithin-within set other w))
 
 pub has_told : (set : List ℕ) (x : ℕ) (r : Bool) → r ≡ has set x → IsTrue r ↔ IsIn x set
 has_told set x r is = ((λ t. has-IsIn set x (sym is ∙ t)), (λ i. is ∙ IsIn-has set x i))

@@ -140,8 +140,8 @@ fn front(alloc: Global, certificate: &Certificate, verdict: Verdict) -> Result<V
     Ok(text)
 }
 
-// Words and a number.
-fn push_number_behind(text: &mut Vec<u8>, words: &str, number: u8) -> Result<(), NoMemory>
+/// Appends words and a number.
+pub fn push_counted(text: &mut Vec<u8>, words: &str, number: u8) -> Result<(), NoMemory>
     ensures { OnOk result (text.new.items ≡ text.old.items ++ (words.now ++ decimal number)) }
 {
     let alloc = *text.allocator();
@@ -153,17 +153,17 @@ fn push_number_behind(text: &mut Vec<u8>, words: &str, number: u8) -> Result<(),
 fn push_lower_identifiers(text: &mut Vec<u8>, steps: u8) -> Result<(), NoMemory>
     ensures { OnOk result (text.new.items ≡ text.old.items ++ identifiers_claim (Verdict.Accepted Kind.Lower steps)) }
 {
-    push_number_behind(
+    push_counted(
         text,
         "\nWith unique identifiers below N, no deterministic algorithm solves problem 0 in ",
         steps,
     )?;
-    push_number_behind(
+    push_counted(
         text,
         " or fewer rounds, from some N on (`re_given_bounds::unique_identifiers_law`); and for each N none does in log_C N - 1 or fewer rounds that are fewer than ",
         steps,
     )?;
-    push_number_behind(
+    push_counted(
         text,
         ", where C is a number that depends on the degrees and the greatest number of labels alone (`re_given_bounds::logarithmic_bound_law`). Each randomised algorithm of T rounds, where T is less than ",
         steps,

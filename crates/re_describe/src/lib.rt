@@ -19,6 +19,7 @@ ghost use Rattle.re_describe.specs.GraphRounds.{GraphLaw};
 
 pub use answering::{DescribeWord, describe_help, describe_word};
 pub use condensing::{MOST_LISTED, condensed};
+pub use heads::push_counted;
 pub use meanings::{Meaning, meaning_of};
 pub use reporting::report;
 

@@ -6,6 +6,7 @@ ghost use Rattle.re_boxes.specs.HeldStrength.{ups_in};
 ghost use Rattle.std.specs.Prelude.{◌≡◌, ◌<◌, ◌≤◌, ◌↔◌, ℕ, IsTrue};
 
 use re_boxes::Strength;
+use re_check::is_up;
 use re_labels::LabelSet;
 
 /// What a set of labels means.
@@ -15,30 +16,6 @@ pub enum Meaning {
     Upwards(LabelSet),
     /// These labels and no others.
     Alone(LabelSet),
-}
-
-// Whether the set lacks the label, or has all that are at least as strong.
-fn has_all_above(strength: &Strength, set: LabelSet, label: u8) -> bool
-    requires { label < strength.now.labels }
-    ensures { IsTrue result ↔ (IsIn label set → IsWithin (ups_in strength.now.ups.items label) set) }
-{
-    if !set.has(label) {
-        return true;
-    }
-    strength.up(label).within(set)
-}
-
-// Whether the set has, with each of its labels, all that are at least as strong.
-fn is_right_closed(strength: &Strength, set: LabelSet) -> bool
-    requires { IsLabelSet strength.now.labels set }
-    ensures { IsTrue result ↔ IsUp (ups_in strength.now.ups.items) set }
-{
-    for label in 0..strength.labels {
-        if !has_all_above(strength, set, label) {
-            return false;
-        }
-    }
-    true
 }
 
 // Whether the other label is in the set, and this one at least as strong.
@@ -111,7 +88,7 @@ pub fn meaning_of(strength: &Strength, set: LabelSet) -> Meaning
     requires goes_on { (x : ℕ) → IsUp (ups_in strength.now.ups.items) (ups_in strength.now.ups.items x) }
     ensures { Means (ups_in strength.now.ups.items) set result }
 {
-    if is_right_closed(strength, set) {
+    if is_up(strength, set) {
         Meaning::Upwards(thinned(strength, set, strength.labels))
     } else {
         Meaning::Alone(set)

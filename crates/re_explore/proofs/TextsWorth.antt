@@ -49,7 +49,7 @@ use Rattle.re_explore.proofs.Undone.{stop_undone, undone}
 use Rattle.re_explore.specs.Commands.{IsOutcome}
 use Rattle.re_explore.specs.Worth.{ClosureWorthBy, IsAccepted, SearchWorth, SearchWorthBy, TextWorth}
 use Rattle.re_explore.specs.declared.command.Command.{Command}
-use Rattle.re_explore.specs.declared.command.Command.TheVariants.{Bridges, Chains, Closes, Describes, Explains, Givens, Graphs, Help, Inputs, Relaxes, Searches, Settles}
+use Rattle.re_explore.specs.declared.command.Command.TheVariants.{Bridges, Chains, Closes, Describes, Explains, Flexes, Givens, Graphs, Help, Inputs, Relaxes, Searches, Settles}
 
 -- ---- inputs that aren't too long
 pub within : (may : List ℕ → Outcome → Type 0) (bytes : List ℕ) (outcome : Outcome) → MayAnswer may bytes outcome → outcome.status ≡ Done → may bytes outcome
@@ -273,5 +273,6 @@ worth_of (Some (Graphs word)) bytes outcome is finished = tt
 worth_of (Some (Givens word)) bytes outcome is finished = tt
 worth_of (Some (Inputs word)) bytes outcome is finished = tt
 worth_of (Some (Settles word)) bytes outcome is finished = tt
+worth_of (Some Flexes) bytes outcome is finished = tt
 worth_of (Some Help) bytes outcome is finished = tt
 worth_of None bytes outcome is finished = tt

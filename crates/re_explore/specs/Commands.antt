@@ -9,6 +9,8 @@ use Rattle.re_chain_words.specs.ChainWords.{chain_help, chain_word_of}
 use Rattle.re_closure.specs.ClosureWords.{closure_help, closure_word_of}
 use Rattle.re_closure.specs.GivenClosures.{MayGiveText as MayGiveClosure}
 use Rattle.re_describe.specs.DescribeWords.{MayDescribe, describe_help, describe_word_of}
+use Rattle.re_flexible_words.specs.Answers.{MayGive as MayGiveFlexible}
+use Rattle.re_flexible_words.specs.Words.{flexible_help, names_flexible}
 use Rattle.re_frame.specs.Answers.{MayAnswer}
 use Rattle.re_given_words.specs.Answers.{MayGive as MayGiveGiven}
 use Rattle.re_given_words.specs.Words.{IsGivenWord, given_help, given_word_of}
@@ -22,7 +24,7 @@ use Rattle.re_settle.specs.Words.{IsSettleWord, settle_help, settle_word_of}
 use Rattle.re_settle.specs.GivenAnswers.{MaySettle}
 use Rattle.re_why.specs.Explaining.{explaining_outcome, names_why, why_help}
 use Rattle.re_explore.specs.declared.command.Command.{Command}
-use Rattle.re_explore.specs.declared.command.Command.TheVariants.{Bridges, Chains, Closes, Describes, Explains, Givens, Graphs, Help, Inputs, Relaxes, Searches, Settles}
+use Rattle.re_explore.specs.declared.command.Command.TheVariants.{Bridges, Chains, Closes, Describes, Explains, Flexes, Givens, Graphs, Help, Inputs, Relaxes, Searches, Settles}
 
 abbrev pub is_help : List (List ℕ) → Bool
 is_help (word ∷ []) = bytes_eq (codes "help") word
@@ -48,6 +50,7 @@ command_over_certificates words = if names_why words then Some Explains else opt
 -- the command that tells of a problem, alone or beside an input problem or a graph
 abbrev pub command_over_problems : List (List ℕ) → Option Command
 command_over_problems words =
+    if names_flexible words then Some Flexes else
     or_else (option_map Graphs (graph_word_of words))
     (or_else (option_map Givens (given_word_of words))
     (or_else (option_map Inputs (input_word_of words)) (option_map Settles (settle_word_of words))))
@@ -70,6 +73,7 @@ Fits (Closes word) = Unit {0}
 Fits (Relaxes word) = Unit {0}
 Fits (Bridges word) = Unit {0}
 Fits (Describes word) = Unit {0}
+Fits Flexes = Unit {0}
 
 -- the lines of help of the words over chains and certificates
 unfoldable pub chain_lines : List ℕ
@@ -77,7 +81,7 @@ chain_lines = chain_help ++ why_help ++ search_help ++ closure_help ++ relaxed_h
 
 -- and of those over problems
 unfoldable pub problem_lines : List ℕ
-problem_lines = settle_help ++ graph_help ++ given_help ++ input_help
+problem_lines = settle_help ++ flexible_help ++ graph_help ++ given_help ++ input_help
 
 -- and those of the words of `re`, a block of its own, and a hint
 unfoldable pub lines_of_re : List ℕ
@@ -102,6 +106,7 @@ IsOutcome (Some (Closes word)) bytes outcome = MayAnswer (MayGiveClosure word) b
 IsOutcome (Some (Relaxes word)) bytes outcome = MayAnswer (MayGiveRelaxed word) bytes outcome
 IsOutcome (Some (Bridges word)) bytes outcome = MayAnswer (MayGiveBridge word) bytes outcome
 IsOutcome (Some (Describes word)) bytes outcome = MayAnswer (MayDescribe word) bytes outcome
+IsOutcome (Some Flexes) bytes outcome = MayAnswer MayGiveFlexible bytes outcome
 IsOutcome (Some (Graphs word)) bytes outcome = MayAnswer (MayGiveGraph word) bytes outcome
 IsOutcome (Some (Givens word)) bytes outcome = MayAnswer (MayGiveGiven word) bytes outcome
 IsOutcome (Some (Inputs word)) bytes outcome = outcome ≡ input_outcome word
@@ -116,6 +121,7 @@ is_reading (Some (Closes word)) = true
 is_reading (Some (Relaxes word)) = true
 is_reading (Some (Bridges word)) = true
 is_reading (Some (Describes word)) = true
+is_reading (Some Flexes) = true
 is_reading (Some (Graphs word)) = true
 is_reading (Some (Givens word)) = true
 is_reading (Some (Settles word)) = true
@@ -131,6 +137,7 @@ is_judging (Some (Searches word)) = true
 is_judging (Some (Closes word)) = true
 is_judging (Some (Relaxes word)) = true
 is_judging (Some (Bridges word)) = true
+is_judging (Some Flexes) = true
 is_judging (Some (Graphs word)) = true
 is_judging (Some (Givens word)) = true
 is_judging (Some (Settles word)) = true

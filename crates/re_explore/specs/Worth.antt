@@ -27,7 +27,7 @@ use Rattle.re_search_words.specs.declared.words.SearchWord.TheVariants.{Cycle, L
 use Rattle.re_chains.specs.GivenTexts.{IsGivenText}
 use Rattle.re_chains.specs.TwoTexts.{back_problem, front_chain, has_line}
 use Rattle.re_explore.specs.declared.command.Command.{Command}
-use Rattle.re_explore.specs.declared.command.Command.TheVariants.{Bridges, Chains, Closes, Describes, Explains, Givens, Graphs, Help, Inputs, Relaxes, Searches, Settles}
+use Rattle.re_explore.specs.declared.command.Command.TheVariants.{Bridges, Chains, Closes, Describes, Explains, Flexes, Givens, Graphs, Help, Inputs, Relaxes, Searches, Settles}
 
 -- the text is read as a bound of this kind that goes on from the chain, with at most so many more steps, each to a problem of at most so many labels; and
 -- `check` answers to the text that it is accepted
@@ -76,6 +76,7 @@ TextWorth (Some (Relaxes word)) bytes text = IsAccepted Fixed MAX_STEPS MAX_LABE
 TextWorth (Some (Bridges word)) bytes text = BridgeWorth word bytes text
 TextWorth (Some Explains) bytes text = Unit {0}
 TextWorth (Some (Describes word)) bytes text = Unit {0}
+TextWorth (Some Flexes) bytes text = Unit {0}
 TextWorth (Some (Graphs word)) bytes text = Unit {0}
 TextWorth (Some (Givens word)) bytes text = Unit {0}
 TextWorth (Some (Inputs word)) bytes text = Unit {0}

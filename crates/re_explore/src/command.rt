@@ -7,6 +7,7 @@ use re_bridge_words::{BridgeWord, bridge_help, bridge_word};
 use re_chain_words::{ChainWord, chain_help, chain_word};
 use re_closure::{ClosureWord, closure_help, closure_word};
 use re_describe::{DescribeWord, describe_help, describe_word};
+use re_flexible_words::{flexible_help, names_flexible};
 use re_frame::{Answer, Output, begun, done, push_words};
 use re_given_words::{GivenWord, given_help, given_word};
 use re_graph_words::{GraphWord, graph_help, graph_word};
@@ -38,6 +39,8 @@ pub(crate) enum Command {
     Describes(DescribeWord),
     /// How many rounds a problem takes, alone or given an input problem.
     Settles(SettleWord),
+    /// A flexible set of labels of a problem, or how many levels of labels it has.
+    Flexes,
     /// A problem on finite graphs.
     Graphs(GraphWord),
     /// A problem or a bound where a solution of an input problem is given.
@@ -97,6 +100,9 @@ fn command_over_problems(words: &[String]) -> Option<Command>
     ensures command { result ≡ command_over_problems (map string_bytes words.now) }
     ensures fits { IfSome result Fits }
 {
+    if names_flexible(words) {
+        return Some(Command::Flexes);
+    }
     if let Some(word) = graph_word(words) {
         return Some(Command::Graphs(word));
     }
@@ -150,6 +156,7 @@ fn push_problem_lines(text: &mut Vec<u8>) -> Result<(), NoMemory>
     ensures { OnOk result (text.new.items ≡ text.old.items ++ problem_lines) }
 {
     push_words(text, settle_help())?;
+    push_words(text, flexible_help())?;
     push_words(text, graph_help())?;
     push_words(text, given_help())?;
     push_words(text, input_help())?;

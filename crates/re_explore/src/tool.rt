@@ -9,6 +9,7 @@ ghost use Rattle.re_frame.specs.Outcomes.{IsAnswer, Outcome, outcome_of, status_
 ghost use Rattle.re_frame.specs.Runs.{Answers, StopsWithin, TakesInput, Tells};
 
 use crate::command::{Command, bad_words, command_from, help};
+use re_flexible_words::Flexible;
 use re_frame::{Output, OutputFault, Status, answer_input, find_input, put_output};
 use re_inputs::input_output;
 use re_io::{MAX_BYTES, Sink, Source};
@@ -43,6 +44,7 @@ fn output_from<S: Source>(
         Some(Command::Relaxes(word)) => find_input(alloc, &word, source),
         Some(Command::Bridges(word)) => find_input(alloc, &word, source),
         Some(Command::Describes(word)) => find_input(alloc, &word, source),
+        Some(Command::Flexes) => find_input(alloc, &Flexible, source),
         Some(Command::Graphs(word)) => find_input(alloc, &word, source),
         Some(Command::Givens(word)) => find_input(alloc, &word, source),
         Some(Command::Inputs(word)) => Ok(input_output(alloc, word)?),

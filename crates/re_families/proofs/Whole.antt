@@ -23,7 +23,7 @@ use Rattle.re_families.specs.Families.{Rules, are_equal, colour_name, colouring,
 use Rattle.re_families.specs.declared.types.Family.{Family}
 use Rattle.re_families.specs.declared.types.Family.TheVariants.{Colouring, Matching, Mis, Orientation}
 use Rattle.re_labels.proofs.NextMultisets.{below-replicate}
-use Rattle.re_labels.proofs.Places.{each_degree}
+use Rattle.re_labels.proofs.LabelPlaces.{each_degree}
 
 -- ---- constraints
 made_constraint : (rules : Rules) (side : Side) (degree : ℕ) → 2 ≤ degree → degree ≤ 6 → IsConstraint (length rules.names) (constraint_of rules side degree)
@@ -86,7 +86,7 @@ pub record AreInRange (active passive number : ℕ) : Type 0 where
   pub passive_most : passive ≤ 6
   pub number_most : number ≤ 16
 
-degree_range : (degree : ℕ) → is_degree degree ≡ true → (2 ≤ degree) × (degree ≤ 6)
+pub degree_range : (degree : ℕ) → is_degree degree ≡ true → (2 ≤ degree) × (degree ≤ 6)
 degree_range degree h = let both = and-true _ _ h in (leb-true 2 degree both.0, leb-true degree 6 both.1)
 
 passive_range : (kind : Family) (passive : ℕ) → passive_fits kind passive ≡ true → (2 ≤ passive) × (passive ≤ 6)

@@ -5,5 +5,5 @@ mod making;
 mod naming;
 pub mod types;
 
-pub use making::family;
+pub use making::{config_of, family, family_problem, put};
 pub use types::{Family, FamilyFault};

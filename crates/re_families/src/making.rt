@@ -4,7 +4,7 @@ ghost use Rattle.re_labels.specs.Orders.{multisets};
 ghost use Rattle.re_families.specs.Families.{constraint_of, count, family_of, is_degree, out_of_range, rule, rules_of};
 ghost use Rattle.re_labels.specs.ListSets.{with_list};
 ghost use Rattle.std.specs.List.{AllByRecursion};
-ghost use Rattle.std.specs.Prelude.{◌≡◌, ◌↔◌, ◌≤◌, ◌<◌, ℕ, Err, IfOk, OnOk, Some, length};
+ghost use Rattle.std.specs.Prelude.{◌≡◌, ◌↔◌, ◌≤◌, ◌<◌, ℕ, Err, IfOk, None, OnOk, Some, length};
 
 use crate::naming::names_of;
 use crate::types::{Family, FamilyFault};
@@ -71,8 +71,8 @@ fn may_stand(kind: Family, side: Side, config: &Config) -> bool
     }
 }
 
-// The configuration of these labels.
-fn config_of(labels: &[u16]) -> Config
+/// The configuration of these labels, of which there are two to six.
+pub fn config_of(labels: &[u16]) -> Config
     requires two { 2 ≤ length labels.now }
     requires six { length labels.now ≤ 6 }
     requires below { AllByRecursion (λ label. label < MAX_LABELS) labels.now }
@@ -85,8 +85,8 @@ fn config_of(labels: &[u16]) -> Config
     Config::from_labels(held.as_slice())
 }
 
-// One configuration more, where there is room.
-fn put(constraint: &mut Constraint, config: Config) -> Result<(), NoMemory>
+/// Inserts one configuration more, where there is room.
+pub fn put(constraint: &mut Constraint, config: Config) -> Result<(), NoMemory>
     requires degree { length config ≡ constraint.old.degree }
     requires room { length constraint.old.configs < MAX_CONFIGURATIONS }
     ensures degree { constraint.new.degree ≡ constraint.old.degree }
@@ -149,5 +149,23 @@ pub fn family(
     match Problem::build(active, passive, names) {
         Some(problem) => Ok(problem),
         None => unreachable!(),
+    }
+}
+
+/// The problem of a family with these degrees and this number, which are within their ranges.
+pub fn family_problem(
+    alloc: Global,
+    kind: Family,
+    active: u8,
+    passive: u8,
+    number: u8,
+) -> Result<Problem, NoMemory>
+    requires { out_of_range kind active passive number ≡ None }
+    ensures { IfOk result (λ problem. problem ≡ family_of kind active passive number) }
+{
+    match family(alloc, kind, active, passive, number) {
+        Ok(problem) => Ok(problem),
+        Err(FamilyFault::OutOfRange(_)) => unreachable!(),
+        Err(FamilyFault::NoMemory) => Err(NoMemory),
     }
 }

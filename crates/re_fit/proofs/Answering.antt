@@ -1,5 +1,5 @@
 -- The loops, and what is answered.
-use Rattle.std.proofs.Common.{◌≡◌, ℕ, zero, suc, ◌%◌, ◌<◌, ◌+◌, true, false, not, List, [], ◌∷◌, ◌++◌, append_assoc, map, get_or, Option, None, Some, refl, sym, ap, ◌∙◌, subst, arith}
+use Rattle.std.proofs.Common.{◌≡◌, ℕ, ◌<◌, ◌+◌, true, false, not, List, [], ◌∷◌, ◌++◌, append_assoc, map, get_or, Option, None, Some, sym, ap, ◌∙◌, subst, arith}
 use Rattle.std.proofs.lemmas.List.{get_or-map, map-append}
 use Rattle.re_labels.proofs.Membership.{get_or-count_from, length-count_from}
 use Rattle.re_labels.specs.Lists.{count_from}
@@ -11,7 +11,7 @@ use Rattle.re_table.specs.Constraints.{Constraint}
 use Rattle.re_problem.specs.Problems.{IsProblem, Problem}
 use Rattle.re_problem.specs.Steps.{SetEntry}
 use Rattle.re_check.specs.LabelsOver.{labels_over}
-use Rattle.re_given.specs.Inputs.{IsInput, exchanged, exchanged_by}
+use Rattle.re_given.specs.Inputs.{IsInput, exchanged}
 use Rattle.re_fit.proofs.Told.{fit_walk_law, upper_walk_law}
 use Rattle.re_fit.specs.Fits.{IsFound, loose}
 use Rattle.re_fit.specs.Laws.{IsAnswer, IsLeading, TellsGiven, TellsUpper}
@@ -24,17 +24,6 @@ answered problem input tries (Some sets) is is_input (labels, walked, are) =
 
 pub answered-by : (problem given input : Problem) (tries : ℕ) (o : Option (List (List ℕ))) → given ≡ input → IsProblem problem → IsInput problem input → IsFound problem given tries o → IsAnswer problem input o
 answered-by problem given input tries o same is is_input found = answered problem input tries o is is_input (subst (λ (p : Problem). IsFound problem p tries o) same found)
-
--- exchanged an even number of times a problem is itself, and exchanged an odd number of times it is exchanged
-pub exchanged-even : (k : ℕ) (input : Problem) → k % 2 ≡ 0 → exchanged_by k input ≡ input
-exchanged-even zero input e = refl
-exchanged-even (suc zero) input e = absurd (cc)
-exchanged-even (suc (suc k)) input e = ap (λ p. exchanged (exchanged p)) (exchanged-even k input (omega (arith, e)))
-
-pub exchanged-odd : (k : ℕ) (input : Problem) → (k % 2 ≡ 0 → ⊥) → exchanged_by k input ≡ exchanged input
-exchanged-odd zero input other = absurd (other refl)
-exchanged-odd (suc zero) input other = refl
-exchanged-odd (suc (suc k)) input other = ap (λ p. exchanged (exchanged p)) (exchanged-odd k input (λ e. other (omega (arith, e))))
 
 -- the set at a place of a list that is filled in order
 pub over-at : (f : ℕ → List ℕ) (sets : List (List ℕ)) (n k : ℕ) (set : List ℕ) → sets ≡ map f (count_from 0 n) → k < n → get_or sets k set ≡ f k

@@ -24,6 +24,7 @@ use Rattle.re_laws.proofs.Mapping.{count_of}
 use Rattle.re_given.specs.Inputs.{exchanged}
 use Rattle.re_bridge.proofs.Meeting.{kept-allowed}
 use Rattle.re_walks.specs.Walking.{IsAssignment}
+use Rattle.re_bridge.proofs.Bridging.{low-append}
 use Rattle.re_fit.proofs.Images.{are_images-split}
 use Rattle.re_fit.proofs.InOrder.{in_order}
 use Rattle.re_fit.proofs.LastLabels.{by_last-from}
@@ -71,10 +72,6 @@ pub record IsLike (problem input : Problem) : Type 0 where
 -- a label of the problem in the set of each input label that stands in no active configuration
 abbrev pub HaveLabels : Problem → Problem → (ℕ → List ℕ) → Type 0
 HaveLabels problem input sets = (x : ℕ) → Contains (loose input.active input.labels) x → (l : ℕ) × IsIn l (sets x) × (l < problem.labels)
-
-low-append : (n : ℕ) (labels more : List ℕ) → AllByRecursion (λ label. label < n) labels → AllByRecursion (λ label. label < n) more → AllByRecursion (λ label. label < n) (labels ++ more)
-low-append n [] more low rest = rest
-low-append n (l ∷ labels) more low rest = (low.0, low-append n labels more low.1 rest)
 
 module _ (problem input : Problem) (is : IsProblem problem) (is_input : IsLike problem input) (sets : ℕ → List ℕ) (upper : IsUpper problem (exchanged input) sets) (have : HaveLabels problem input sets) where
   abbrev behind : List ℕ

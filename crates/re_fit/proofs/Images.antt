@@ -5,14 +5,10 @@ use Rattle.std.proofs.lemmas.Bool.Decides.{nat_tests}
 use Rattle.std.proofs.lemmas.List.{drop-take, length-take, take-take}
 use Rattle.re_labels.proofs.Tests.{and-true, true-and}
 use Rattle.re_table.specs.Constraints.{Constraint, has_config}
-use Rattle.re_walks.proofs.ConfigBeginnings.{begun, low-drop, low-take}
+use Rattle.re_walks.proofs.ConfigBeginnings.{begun, low-drop, low-take, not_less}
 use Rattle.re_walks.specs.Begun.{is_begun}
 use Rattle.re_fit.proofs.InOrder.{in_order-take}
 use Rattle.re_fit.specs.Fits.{are_images, begins_image, is_image, is_in_order, joined}
-
--- a list of this length isn't shorter
-pub not_less : (m d : ℕ) → d ≤ m → ltb m d ≡ false
-not_less m d l = grind (arith, nat_tests)
 
 -- labels of a whole image and more are an image, and more of them
 pub are_images-split : (active : Constraint) (n : ℕ) (config : List ℕ) (configs : List (List ℕ)) (labels : List ℕ) → active.degree ≤ length labels

@@ -39,7 +39,7 @@ unlike true false e f g = true≢false (sym (f refl))
 unlike false true e f g = true≢false (sym (g refl))
 unlike false false e f g = cc
 
-some_number : (n : ℕ) → eqb n 0 ≡ false → 0 < n
+pub some_number : (n : ℕ) → eqb n 0 ≡ false → 0 < n
 some_number zero e = absurd (let same : eqb 0 0 ≡ true = eqb-same 0 in cc)
 some_number (suc n) e = omega arith
 

@@ -25,7 +25,6 @@ use Rattle.re_check.specs.LabelsOver.{labels_over}
 use Rattle.re_check.specs.RowEntries.{row_entries}
 use Rattle.re_check.specs.StepClauses.{KeepsAllowed}
 use Rattle.re_check.specs.Clauses.{keep_allowed}
-use Rattle.re_given.proofs.ZeroGiven.{some}
 use Rattle.re_given.specs.Inputs.{IsInput, exchanged}
 use Rattle.re_bridge.proofs.Beginnings.{allowed-front, entries-parted}
 use Rattle.re_bridge.proofs.Meeting.{allowed-kept, kept-allowed}
@@ -36,6 +35,7 @@ use Rattle.re_fit.proofs.Images.{are_images-split, images-take, joined-length}
 use Rattle.re_fit.proofs.LastLabels.{by_last-counts, by_last-held}
 use Rattle.re_fit.specs.Fits.{are_images, entries_of, fit_walk, is_image, is_in_order, joined, loose, ordered, passes, places, sets_for}
 use Rattle.re_fit.specs.Laws.{FitWalkLaw, IsFitting, TellsGiven, TellsUpper, UpperWalkLaw}
+use Rattle.re_laws.proofs.FastRounds.{some_member}
 
 -- the label of an entry is over the label that its set has
 over-held : (entries : List SetEntry) (x label : ℕ) → Contains entries (record { set = x ∷ []; label = label }) → IsIn label (labels_over entries x)
@@ -109,7 +109,7 @@ choice-filled sets (y ∷ config) [] x chosen held = absurd chosen
 choice-filled sets (y ∷ config) (l ∷ labels) x chosen held = go (Contains-cases x y config held) (λ later. choice-filled sets config labels x chosen.1 later)
   where
     go : (x ≡ y) ⊎ Contains config x → (Contains config x → 0 < length (sets x)) → 0 < length (sets x)
-    go (inl same) others = subst (λ z. 0 < length (sets z)) (sym same) (some (sets y) l chosen.0)
+    go (inl same) others = subst (λ z. 0 < length (sets z)) (sym same) (some_member (sets y) l chosen.0)
     go (inr later) others = others later
 
 filled-each : (sets : ℕ → List ℕ) (config : List ℕ) → ((x : ℕ) → Contains config x → 0 < length (sets x)) → AllByRecursion (λ (s : List ℕ). 0 < length s) (map sets config)
@@ -204,7 +204,7 @@ module _ (problem input : Problem) (is : IsProblem problem) (is_input : IsLike p
             let held : Contains behind x = Contains-filter (λ label. not (occurs input.active label)) (count_from 0 input.labels) x (Contains-count_from 0 input.labels x (omega arith) (omega (arith, below))) (ap not test) in
             let front : List ℕ = joined (ordered input) in
             let (l, at) = place-entry behind (drop (length front) labels) x (omega (arith, length-drop (length front) labels, count, places_are)) held in
-            some (over x) l (over-held entries x l (In-Contains (single_entry x l) entries (entries-behind front behind labels (single_entry x l) at)))
+            some_member (over x) l (over-held entries x l (In-Contains (single_entry x l) entries (entries-behind front behind labels (single_entry x l) at)))
 
     good : (config : List ℕ) → Contains input.passive.configs config → IsGood problem.passive (map over config)
     good config held =

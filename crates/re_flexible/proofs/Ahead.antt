@@ -1,5 +1,5 @@
 -- Two walks in step, one a step ahead of the other, and the pairs of labels that are missing.
-use Rattle.std.proofs.Common.{◌≡◌, ◌+◌, ℕ, zero, suc, ◌<◌, ◌≤◌, Bool, true, false, List, [], refl, sym, subst, arith, inl, inr, ◌⊎◌, get_or}
+use Rattle.std.proofs.Common.{◌≡◌, ◌+◌, ◌*◌, ℕ, zero, suc, ◌<◌, ◌≤◌, Bool, true, false, List, [], refl, sym, subst, arith, inl, inr, ◌⊎◌, get_or}
 use Rattle.std.specs.Prelude.{◌↔◌, if◌then◌else◌}
 use Rattle.std.proofs.lemmas.Bool.{false≢true}
 use Rattle.re_labels.proofs.Sets.{IsIn-has, has-IsIn}
@@ -57,7 +57,7 @@ module _ (table back : List (List ℕ)) (x : ℕ) (converse : (a b : ℕ) → Re
 
 -- ---- what is missing
 -- how many labels below n the set doesn't have
-missing_from : List ℕ → ℕ → ℕ
+pub missing_from : List ℕ → ℕ → ℕ
 missing_from labels zero = 0
 missing_from labels (suc n) = missing_from labels n + (if has labels n then 0 else 1)
 
@@ -65,6 +65,22 @@ missing_from labels (suc n) = missing_from labels n + (if has labels n then 0 el
 pub missing : ℕ → List (List ℕ) → ℕ → ℕ
 missing N table zero = 0
 missing N table (suc n) = missing N table n + missing_from (get_or table n []) N
+
+-- no more than there are
+one_most : (b : Bool) → (if b then 0 else 1) ≤ 1
+one_most true = omega arith
+one_most false = omega arith
+
+pub missing_from_most : (labels : List ℕ) (n : ℕ) → missing_from labels n ≤ n
+unfolding missing_from
+missing_from_most labels zero = omega arith
+missing_from_most labels (suc n) = let rest = missing_from_most labels n in let here = one_most (has labels n) in omega (arith, rest, here)
+
+pub missing_most : (N : ℕ) (table : List (List ℕ)) (n : ℕ) → missing N table n ≤ n * N
+unfolding missing
+missing_most N table zero = omega arith
+missing_most N table (suc n) =
+    let rest = missing_most N table n in let here = missing_from_most (get_or table n []) N in let more : suc n * N ≡ n * N + N = grind arith in omega (arith, rest, here, more)
 
 at_most : (b c : Bool) → (b ≡ true → c ≡ true) → (if c then 0 else 1) ≤ (if b then 0 else 1)
 at_most true true h = omega arith
@@ -82,7 +98,7 @@ unfolding missing_from
 fewer_from s t zero h = omega arith
 fewer_from s t (suc n) h = let rest = fewer_from s t n h in let here = at_most (has s n) (has t n) (h n) in omega (arith, rest, here)
 
-less_from : (s t : List ℕ) (n y : ℕ) → ((y : ℕ) → has s y ≡ true → has t y ≡ true) → y < n → has s y ≡ false → has t y ≡ true → missing_from t n < missing_from s n
+pub less_from : (s t : List ℕ) (n y : ℕ) → ((y : ℕ) → has s y ≡ true → has t y ≡ true) → y < n → has s y ≡ false → has t y ≡ true → missing_from t n < missing_from s n
 unfolding missing_from
 less_from s t zero y h low e f = absurd (omega (arith, low))
 less_from s t (suc n) y h low e f = elim (below-cases y n (omega (arith, low))) [

@@ -1,7 +1,9 @@
 pub mod Ahead
 pub mod Building
+pub mod Chains
 pub mod Closing
 pub mod Joining
 pub mod Parts
 pub mod Standing
+pub mod Trims
 pub mod Walks

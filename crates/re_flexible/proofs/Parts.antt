@@ -1,21 +1,17 @@
--- Flexible sets within a set, by the labels that walks join.
-use Rattle.std.proofs.Common.{◌≡◌, ◌∷◌, ◌∙◌, ◌++◌, ◌+◌, ◌*◌, ℕ, suc, ◌<◌, ◌≤◌, Bool, true, false, List, [], length, get_or, sym, ap, subst, arith, inl, inr, None, Some, length-append}
-use Rattle.std.specs.Prelude.{Contains, ◌↔◌, Option}
-use Rattle.std.proofs.lemmas.List.Elements.{Contains-append_cases, Contains-append_left, Contains-append_right, Contains-get_or}
-use Rattle.re_labels.proofs.Rearranging.{Contains-Rearranged}
-use Rattle.re_labels.proofs.Sorting.{Rearranged-sorted}
-use Rattle.re_labels.specs.Configs.{IsConfig, sorted}
-use Rattle.re_forests.proofs.Turning.{turning}
+-- The labels that walks of labels of one set join, and those that turn.
+use Rattle.std.proofs.Common.{◌≡◌, ◌+◌, ◌-◌, ◌*◌, ℕ, suc, ◌<◌, ◌≤◌, Bool, true, false, List, [], length, sym, subst, arith, inl, inr, ◌⊎◌}
+use Rattle.std.specs.Prelude.{Contains, not, ◌↔◌}
+use Rattle.re_forests.proofs.Leads.{bounded_both, joined_even, joined_odd, lead_as_long}
 use Rattle.re_forests.specs.Flexible.{AreJoined, Leads, Turns, side}
-use Rattle.re_labels.proofs.LawsOfSets.{number_law}
-use Rattle.re_labels.proofs.Membership.{AllByRecursion-contains, Contains-cases, Contains-here, Contains-none}
-use Rattle.re_labels.proofs.Sets.{IsIn-meet, IsIn-meet_cases, IsIn-union, IsIn-union_cases, IsWithin-within}
+use Rattle.re_forests.specs.Trimmed.{IsFlexibleWithin, IsTrimmed}
+use Rattle.re_labels.proofs.Membership.{Contains-none}
+use Rattle.re_labels.proofs.Sets.{IsIn-meet, IsIn-meet_cases, IsIn-union, IsIn-union_cases}
 use Rattle.re_labels.proofs.Tests.{below-cases}
-use Rattle.re_labels.specs.Sets.{IsIn, IsLabelSet, IsWithin, first_of, meet, number, union, within}
-use Rattle.re_problem.specs.Problems.{IsProblem, Problem}
-use Rattle.re_flexible.proofs.Building.{in_low}
-use Rattle.re_flexible.proofs.Walks.{even_leads, joined_back, joins_back, joined_by, joined_on, joined_within, leads_even, rounds_turn, turn_rounds, turns_within}
-use Rattle.re_flexible.specs.Finding.{AreJoins, AreParts, AreWalks, Flexible, IsFound, IsFoundWithin, IsPart}
+use Rattle.re_labels.specs.Sets.{IsIn, IsWithin, meet, union}
+use Rattle.re_problem.specs.Problems.{Problem}
+use Rattle.re_flexible.proofs.Building.{related_low}
+use Rattle.re_flexible.proofs.Walks.{AreJoinsOf, around, even_is, even_leads, joined_back, joined_by, joined_on, joined_within, joins_back, joins_of, joins_within, kinds, leads_even, odd_is, rounds_turn, turn_rounds, turns_within}
+use Rattle.re_flexible.specs.Families.{AreApart, AreJoins, AreKept, AreParts, AreTurning, AreWalks, set_with}
 use Rattle.re_flexible.specs.Relations.{Composes, Reaches, Relates, Rounds}
 
 -- ---- meets of rows
@@ -25,124 +21,6 @@ meet_row P Q one other both e first second y = (
   λ two. subst (IsIn y) (sym e) (IsIn-meet one other y ((first y).1 two.0) ((second y).1 two.1)),
 )
 
-module _ (problem : Problem) (set : List ℕ) where
-  each_kind : (P : Bool → Type 0) → P true → P false → (active : Bool) → P active
-  each_kind P one other true = one
-  each_kind P one other false = other
-
-  pub part_is : (forth behind from_active from_passive : List (List ℕ)) (x : ℕ) (part : List ℕ) → AreWalks problem set forth behind from_active from_passive → IsIn x set
-      → ((y : ℕ) → IsIn y part ↔ (IsIn y set × Relates forth x y × Relates behind x y × Relates from_active x y × Relates from_passive x y)) → IsPart problem set x part
-  part_is forth behind from_active from_passive x part walks own rows y = (
-    λ held. let (there, a, b, c, d) = (rows y).0 held in joined_by problem set x y own there
-        (each_kind (λ active. (l : ℕ) × Leads problem set active (suc (2 * l)) x y) ((walks.from_active_is x y own).0 c) ((walks.from_passive_is x y own).0 d))
-        (each_kind (λ active. (l : ℕ) × Leads problem set active (2 * l) x y) ((walks.forth_is x y own).0 a) ((walks.behind_is x y own).0 b)),
-    λ both. (rows y).1 (
-      both.second,
-      (walks.forth_is x y own).1 (both.even true).0,
-      (walks.behind_is x y own).1 (both.even false).0,
-      (walks.from_active_is x y own).1 (both.odd true).0,
-      (walks.from_passive_is x y own).1 (both.odd false).0,
-    ),
-  )
-
-  -- ---- parts that are found one after another
-  pub record ArePassed (parts : List (List ℕ)) (seen : List ℕ) (n : ℕ) : Type 0 where
-    pub few : length parts ≤ n
-    pub each : (part : List ℕ) → Contains parts part → (x : ℕ) × IsIn x part × IsPart problem set x part
-    pub held : (x : ℕ) → IsIn x seen → (part : List ℕ) × Contains parts part × IsIn x part
-    pub all : (x : ℕ) → x < n → AreJoined problem set x x → IsIn x seen
-
-  pub passed_none : (seen : List ℕ) → seen ≡ [] → ArePassed [] seen 0
-  passed_none seen e = record {
-    few = omega arith;
-    each = λ part there. absurd (Contains-none part there);
-    held = λ x there. absurd (Contains-none x (subst (IsIn x) e there));
-    all = λ x low both. absurd (omega (arith, low));
-  }
-
-  pub passed_past : (parts : List (List ℕ)) (seen : List ℕ) (n : ℕ) → ArePassed parts seen n → (AreJoined problem set n n → IsIn n seen) → ArePassed parts seen (n + 1)
-  passed_past parts seen n so_far here = record {
-    few = (let few : length parts ≤ n = so_far.few in omega (arith, few));
-    each = so_far.each;
-    held = so_far.held;
-    all = λ x low both. elim (below-cases x n low) [
-      | inl less ↦ so_far.all x less both
-      | inr same ↦ subst (λ i. IsIn i seen) (sym same) (here (subst (λ i. AreJoined problem set i i) same both))
-    ];
-  }
-
-  pub passed_more : (parts new : List (List ℕ)) (seen more part : List ℕ) (n : ℕ) → ArePassed parts seen n → IsIn n part → IsPart problem set n part → new ≡ parts ++ part ∷ [] → more ≡ union seen part → ArePassed new more (n + 1)
-  passed_more parts new seen more part n so_far own is e f = record {
-    few = (let few : length parts ≤ n = so_far.few in let long : length new ≡ length parts + 1 = ap length e ∙ length-append parts (part ∷ []) in omega (arith, few, long));
-    each = λ other there. elim (Contains-append_cases parts (part ∷ []) other (subst (λ l. Contains l other) e there)) [
-      | inl old ↦ so_far.each other old
-      | inr last ↦ elim (Contains-cases other part [] last) [
-        | inl same ↦ (n, subst (IsIn n) (sym same) own, subst (IsPart problem set n) (sym same) is)
-        | inr none ↦ absurd (Contains-none other none)
-      ]
-    ];
-    held = λ x there. elim (IsIn-union_cases seen part x (subst (IsIn x) f there)) [
-      | inl old ↦ (let (other, among, inside) = so_far.held x old in (other, subst (λ l. Contains l other) (sym e) (Contains-append_left parts (part ∷ []) other among), inside))
-      | inr new_one ↦ (part, subst (λ l. Contains l part) (sym e) (Contains-append_right parts (part ∷ []) part (Contains-here part [])), new_one)
-    ];
-    all = λ x low both. subst (IsIn x) (sym f) (IsIn-union seen part x (elim (below-cases x n low) [
-      | inl less ↦ inl (so_far.all x less both)
-      | inr same ↦ inr (subst (λ i. IsIn i part) (sym same) own)
-    ]));
-  }
-
-  pub passed_all : (parts : List (List ℕ)) (seen : List ℕ) (n N : ℕ) → ArePassed parts seen n → N ≤ n → IsLabelSet N set → AreParts problem set parts
-  passed_all parts seen n N passed end sets = record {
-    each = passed.each;
-    all = λ x both. passed.held x (passed.all x (let low : x < N = in_low N set x sets both.first in omega (arith, low, end)) both);
-  }
-
-  -- ---- turning
-  pub turns_are : (active passive two : List (List ℕ)) (x : ℕ) → AreJoins problem.active set active → AreJoins problem.passive set passive → ((a b : ℕ) → Relates two a b ↔ Composes active passive a b)
-      → IsIn x set → AreJoined problem set x x → Rounds two x ↔ ((l : ℕ) × Turns problem set x l)
-  turns_are active passive two x one other both own own_joined = (
-    λ rounds. let (m, short, long) = rounds in
-        rounds_turn problem set x own m (even_leads problem set true active passive two one other both m x x short) (even_leads problem set true active passive two one other both (suc m) x x long) own_joined,
-    λ turning. let (short, long) = turn_rounds problem set x own turning.0 turning.1 in
-        (suc (2 * turning.0), leads_even problem set true active passive two one other both (suc (2 * turning.0)) x x own short, leads_even problem set true active passive two one other both (suc (suc (2 * turning.0))) x x own long),
-  )
-
-  pub flexible_where : (x : ℕ) → IsIn x set → ((y z : ℕ) → IsIn y set → IsIn z set → AreJoined problem set y z) → ((l : ℕ) × Turns problem set x l) ↔ Flexible problem set
-  flexible_where x own all = (
-    λ turns. (turning problem set).0 x turns.0 turns.1 (λ y there. all x y own there) own,
-    λ flexible. ((turning problem set).1 flexible.0 flexible.1 x x own own).0,
-  )
-
-  pub none_flexible : set ≡ [] → Flexible problem set → ⊥
-  none_flexible e flexible = let (x, own) = flexible.1.some in Contains-none x (subst (IsIn x) e own)
-
-  -- ---- flexible sets within the set
-  -- where walks join all its labels, and it isn't flexible
-  pub none_whole : ((y z : ℕ) → IsIn y set → IsIn z set → AreJoined problem set y z) → (Flexible problem set → ⊥) → (other : List ℕ) → IsWithin other set → Flexible problem other → ⊥
-  none_whole all none other inside flexible =
-      let (x, own) = flexible.1.some in
-      let (l, turns) = ((turning problem other).1 flexible.0 flexible.1 x x own own).0 in
-      none ((flexible_where x (inside x own) all).0 (l, turns_within problem other set inside x l turns))
-
-  -- where none is within a part
-  pub none_parts : (parts : List (List ℕ)) → AreParts problem set parts → ((part : List ℕ) → Contains parts part → (other : List ℕ) → IsWithin other part → Flexible problem other → ⊥)
-      → (other : List ℕ) → IsWithin other set → Flexible problem other → ⊥
-  none_parts parts are none other inside flexible =
-      let (x, own) = flexible.1.some in
-      let joined = λ (y : ℕ) (there : IsIn y other). joined_within problem other set inside x y ((turning problem other).1 flexible.0 flexible.1 x y own there).1 in
-      let (part, among, held) = are.all x (joined x own) in
-      let (z, first, is) = are.each part among in
-      none part among other (λ y there. (is y).1 (joined_on problem set z x y ((is x).0 held) (joined y there))) flexible
-
-  -- a part that has all labels
-  pub all_joined : (x : ℕ) (part : List ℕ) → IsPart problem set x part → IsWithin set part → (y z : ℕ) → IsIn y set → IsIn z set → AreJoined problem set y z
-  all_joined x part is whole y z first second = joined_on problem set y x z (joined_back problem set x y ((is y).0 (whole y first))) ((is z).0 (whole z second))
-
-  -- a part that hasn't is smaller
-  pub part_smaller : (N x : ℕ) (part : List ℕ) → IsPart problem set x part → IsLabelSet N part → IsLabelSet N set → (within set part ≡ true → ⊥) → number part < number set
-  part_smaller N x part is first second less = (number_law N).2 part set first second (λ y held. ((is y).0 held).second)
-      (λ same. less (IsWithin-within set part (λ y held. subst (IsIn y) (sym same) held)))
-
 -- ---- tables that are passed on
 pub composed_is : (one one_now two two_now table : List (List ℕ)) → one_now ≡ one → two_now ≡ two → ((x y : ℕ) → Relates table x y ↔ Composes one_now two_now x y) → (x y : ℕ) → Relates table x y ↔ Composes one two x y
 composed_is one one_now two two_now table e f steps x y = subst (λ t. Relates table x y ↔ Composes t two x y) e (subst (λ t. Relates table x y ↔ Composes one_now t x y) f (steps x y))
@@ -150,32 +28,269 @@ composed_is one one_now two two_now table e f steps x y = subst (λ t. Relates t
 pub closed_is : (N : ℕ) (table table_now all : List (List ℕ)) → table_now ≡ table → ((x y : ℕ) → x < N → Relates all x y ↔ Reaches table_now x y) → (x y : ℕ) → x < N → Relates all x y ↔ Reaches table x y
 closed_is N table table_now all e closed x y low = subst (λ t. Relates all x y ↔ Reaches t x y) e (closed x y low)
 
-related_back : (problem : Problem) (active : Bool) (set : List ℕ) (table : List (List ℕ)) → AreJoins (side problem active) set table → (x y : ℕ) → Relates table x y → Relates table y x
-related_back problem active set table joins x y held = let (one, two, join) = (joins x y).0 held in (joins y x).1 (two, one, joins_back (side problem active) set x y join)
+-- ---- sets without a common label
+pub own : (sets : List (List ℕ)) → AreApart sets → (x y : ℕ) → Relates sets x y → Relates sets x x
+own sets apart x y held = apart.on x y x held (apart.back x y held)
 
--- the two relations of steps of two nodes are converse
-pub converse_is : (problem : Problem) (set : List ℕ) (active passive two back : List (List ℕ)) → AreJoins problem.active set active → AreJoins problem.passive set passive
-    → ((x y : ℕ) → Relates two x y ↔ Composes active passive x y) → ((x y : ℕ) → Relates back x y ↔ Composes passive active x y) → (x y : ℕ) → Relates back x y ↔ Relates two y x
-converse_is problem set active passive two back one other forth behind x y = (
-  λ held. let (z, out, on) = (behind x y).0 held in (forth y x).1 (z, related_back problem true set active one z y on, related_back problem false set passive other x z out),
-  λ held. let (z, out, on) = (forth y x).0 held in (behind x y).1 (z, related_back problem false set passive other z x on, related_back problem true set active one y z out),
-)
+-- the set of a label of the set of x is a part of that of x
+pub same_set : (sets : List (List ℕ)) → AreApart sets → (x y : ℕ) → Relates sets x y → IsWithin (set_with sets y) (set_with sets x)
+same_set sets apart x y held z there = apart.on x y z held there
 
--- ---- what is found
-pub first_in : (labels : List ℕ) (x : ℕ) → first_of labels ≡ Some x → IsIn x labels
-first_in [] x e = absurd (cc)
-first_in (z ∷ labels) x e = let same : z ≡ x = cc in subst (λ y. IsIn y (z ∷ labels)) same (Contains-here z labels)
+pub apart_kept : (sets left : List (List ℕ)) (kept : List ℕ) → AreApart sets → AreKept sets kept left → AreApart left
+apart_kept sets left kept apart are = record {
+  back = λ x y held. let (rel, one, two) = (are x y).0 held in (are y x).1 (apart.back x y rel, two, one);
+  on = λ x y z held there.
+      let (rel, one, two) = (are x y).0 held in
+      let (next, two', three) = (are y z).0 there in
+      (are x z).1 (apart.on x y z rel next, one, three);
+}
 
-pub part_among : (parts : List (List ℕ)) (place : ℕ) (part : List ℕ) → place < length parts → part ≡ get_or parts place [] → Contains parts part
-part_among parts place part low e = subst (Contains parts) (sym e) (Contains-get_or parts place [] low)
+module _ (problem : Problem) (sets : List (List ℕ)) (apart : AreApart sets) where
+  pub apart_parts : (parts : List (List ℕ)) → AreParts problem sets parts → AreApart parts
+  apart_parts parts are = record {
+    back = λ x y held.
+        let both = (are x y).0 held in
+        (are y x).1 (joined_within problem (set_with sets x) (set_with sets y) (same_set sets apart y x (apart.back x y both.second)) y x (joined_back problem (set_with sets x) x y both));
+    on = λ x y z held there.
+        let one = (are x y).0 held in
+        let two = joined_within problem (set_with sets y) (set_with sets x) (same_set sets apart x y one.second) y z ((are y z).0 there) in
+        (are x z).1 (joined_on problem (set_with sets x) x y z one two);
+  }
 
-pub found_all : (problem : Problem) (set : List ℕ) (answer : Option (List ℕ)) → ((other : List ℕ) → Flexible problem other → IsWithin other set) → IsFoundWithin problem set answer → IsFound problem answer
-found_all problem set None inside found = λ other flexible. found other (inside other flexible) flexible
-found_all problem set (Some own) inside found = found
+  -- ---- where walks lead
+  related_back : (active : Bool) (table : List (List ℕ)) → AreJoins (side problem active) sets table → (x y : ℕ) → Relates table x y → Relates table y x
+  related_back active table joins x y held =
+      let (rel, join) = (joins x y).0 held in
+      (joins y x).1 (apart.back x y rel, joins_within (side problem active) (set_with sets x) (set_with sets y) (same_set sets apart y x (apart.back x y rel)) y x (joins_back (side problem active) (set_with sets x) x y join))
 
--- the labels of a flexible set are those of the problem
-pub flexible_low : (problem : Problem) → IsProblem problem → (other : List ℕ) → Flexible problem other → (x : ℕ) → IsIn x other → x < problem.labels
-flexible_low problem is_problem other flexible x held =
-    let (z, there, (rest, all, config), on) = flexible.1.leads true x x held held in
-    let of_config = AllByRecursion-contains (IsConfig problem.active.degree problem.labels) problem.active.configs (sorted (x ∷ z ∷ rest)) is_problem.active.configs config in
-    AllByRecursion-contains (λ y. y < problem.labels) (sorted (x ∷ z ∷ rest)) x of_config.below (Contains-Rearranged x (Rearranged-sorted (x ∷ z ∷ rest)) (Contains-here x (z ∷ rest)))
+  module _ (active passive two back : List (List ℕ)) (one : AreJoins problem.active sets active) (other : AreJoins problem.passive sets passive)
+      (steps : (x y : ℕ) → Relates two x y ↔ Composes active passive x y) (steps_back : (x y : ℕ) → Relates back x y ↔ Composes passive active x y) where
+    -- the two relations of steps of two nodes are converse
+    converse_is : (x y : ℕ) → Relates back x y ↔ Relates two y x
+    converse_is x y = (
+      λ held. let (z, out, on) = (steps_back x y).0 held in (steps y x).1 (z, related_back true active one z y on, related_back false passive other x z out),
+      λ held. let (z, out, on) = (steps y x).0 held in (steps_back x y).1 (z, related_back false passive other z x on, related_back true active one y z out),
+    )
+
+    turns_are : (x : ℕ) → AreJoined problem (set_with sets x) x x → Rounds two x ↔ ((l : ℕ) × Turns problem (set_with sets x) x l)
+    turns_are x both =
+        let set : List ℕ = set_with sets x in
+        let first : AreJoinsOf problem.active set active = joins_of problem.active sets active apart one x in
+        let second : AreJoinsOf problem.passive set passive = joins_of problem.passive sets passive apart other x in
+        let held : IsIn x set = both.first in (
+          λ rounds. let (m, short, long) = rounds in
+              rounds_turn problem set x held m (even_leads problem set true active passive two first second steps m x x held short) (even_leads problem set true active passive two first second steps (suc m) x x held long) both,
+          λ turning. let (short, long) = turn_rounds problem set x held turning.0 turning.1 in
+              (suc (2 * turning.0), leads_even problem set true active passive two first second steps (suc (2 * turning.0)) x x held short, leads_even problem set true active passive two first second steps (suc (suc (2 * turning.0))) x x held long),
+        )
+
+    pub walks_are : (N : ℕ) (forth behind from_active from_passive : List (List ℕ)) → length sets ≡ N
+        → ((x y : ℕ) → x < N → Relates forth x y ↔ Reaches two x y) → ((x y : ℕ) → x < N → Relates behind x y ↔ Reaches back x y)
+        → ((x y : ℕ) → Relates from_active x y ↔ Composes active behind x y) → ((x y : ℕ) → Relates from_passive x y ↔ Composes passive forth x y)
+        → AreWalks problem sets two back forth behind from_active from_passive
+    walks_are N forth behind from_active from_passive count closed closed_back odd odd_back =
+        let low : (x y : ℕ) → IsIn y (set_with sets x) → y < N = λ x y held. (let under : y < length sets = related_low sets y x (apart.back x y held) in omega (arith, under, count)) in
+        let first : (x : ℕ) → AreJoinsOf problem.active (set_with sets x) active = joins_of problem.active sets active apart one in
+        let second : (x : ℕ) → AreJoinsOf problem.passive (set_with sets x) passive = joins_of problem.passive sets passive apart other in
+        let even : (x y z : ℕ) → IsIn y (set_with sets x) → Relates forth y z ↔ ((l : ℕ) × Leads problem (set_with sets x) true (2 * l) y z) =
+        λ x. even_is problem (set_with sets x) true active passive two (first x) (second x) steps N forth (low x) closed in
+        let even_back : (x y z : ℕ) → IsIn y (set_with sets x) → Relates behind y z ↔ ((l : ℕ) × Leads problem (set_with sets x) false (2 * l) y z) =
+        λ x. even_is problem (set_with sets x) false passive active back (second x) (first x) steps_back N behind (low x) closed_back in
+        record {
+          forth_is = λ x y held. even x x y held;
+          behind_is = λ x y held. even_back x x y held;
+          from_active_is = λ x y held. odd_is problem (set_with sets x) true active behind from_active (first x) (even_back x) odd x y held;
+          from_passive_is = λ x y held. odd_is problem (set_with sets x) false passive forth from_passive (second x) (even x) odd_back x y held;
+          turns_are = turns_are;
+          converse = converse_is;
+        }
+
+  -- ---- the labels that are joined
+  each_kind : (P : Bool → Type 0) → P true → P false → (active : Bool) → P active
+  each_kind P first second true = first
+  each_kind P first second false = second
+
+  pub part_is : (two back forth behind from_active from_passive : List (List ℕ)) (x : ℕ) (set part : List ℕ) → AreWalks problem sets two back forth behind from_active from_passive → set ≡ set_with sets x
+      → ((y : ℕ) → IsIn y part ↔ (IsIn y set × Relates forth x y × Relates behind x y × Relates from_active x y × Relates from_passive x y))
+      → (y : ℕ) → IsIn y part ↔ AreJoined problem (set_with sets x) x y
+  part_is two back forth behind from_active from_passive x set part walks at rows y = (
+    λ held.
+        let (there, a, b, c, d) = (rows y).0 held in
+        let rel : Relates sets x y = subst (IsIn y) at there in
+        let self : Relates sets x x = own sets apart x y rel in
+        joined_by problem (set_with sets x) x y self rel
+        (each_kind (λ active. (l : ℕ) × Leads problem (set_with sets x) active (suc (2 * l)) x y) ((walks.from_active_is x y self).0 c) ((walks.from_passive_is x y self).0 d))
+        (each_kind (λ active. (l : ℕ) × Leads problem (set_with sets x) active (2 * l) x y) ((walks.forth_is x y self).0 a) ((walks.behind_is x y self).0 b)),
+    λ both.
+        let self : Relates sets x x = both.first in
+        (rows y).1 (
+          subst (IsIn y) (sym at) both.second,
+          (walks.forth_is x y self).1 (both.even true).0,
+          (walks.behind_is x y self).1 (both.even false).0,
+          (walks.from_active_is x y self).1 (both.odd true).0,
+          (walks.from_passive_is x y self).1 (both.odd false).0,
+        ),
+  )
+
+-- ---- labels that turn
+module _ (problem : Problem) (set : List ℕ) where
+  -- where a label turns, those that are joined with it do
+  pub turns_on : (x y : ℕ) → AreJoined problem set x y → ((l : ℕ) × Turns problem set x l) → (l : ℕ) × Turns problem set y l
+  turns_on x y both turning =
+      let (short, long) = turn_rounds problem set x both.first turning.0 turning.1 in
+      let m : ℕ = suc (2 * turning.0) in
+      let (p, to) = (both.even true).1 in
+      let (q, from) = (both.even true).0 in
+      let round : (k : ℕ) → Leads problem set true (2 * k) x x → Leads problem set true (2 * (p + k + q)) y y =
+      λ k walk. lead_as_long problem set true (2 * p + (2 * k + 2 * q)) (2 * (p + k + q)) y y (let e : 2 * p + (2 * k + 2 * q) ≡ 2 * (p + k + q) = omega arith in e)
+      (joined_even problem set true p (2 * k + 2 * q) y x y to (joined_even problem set true k (2 * q) x x y walk from)) in
+      rounds_turn problem set y both.second (p + m + q) (round m short)
+      (lead_as_long problem set true (2 * (p + suc m + q)) (2 * suc (p + m + q)) y y (let e : 2 * (p + suc m + q) ≡ 2 * suc (p + m + q) = omega arith in e) (round (suc m) long))
+      (joined_on problem set y x y (joined_back problem set x y both) both)
+
+  -- labels that are joined with one that turns are flexible within the set
+  pub flexible_part : (part : List ℕ) (x : ℕ) → ((l : ℕ) × Turns problem set x l) → ((y : ℕ) → Contains part y → AreJoined problem set x y) → ((y : ℕ) × Contains part y)
+      → (k : ℕ) × IsFlexibleWithin problem part set k
+  flexible_part part x turning linked some =
+      let held : Contains set x = (linked some.0 some.1).first in
+      let (short, long) = turn_rounds problem set x held turning.0 turning.1 in
+      let m : ℕ = suc (2 * turning.0) in
+      let (A, to) = bounded_both (λ active y n. Leads problem set active (2 * n) y x) part (λ active y on. ((linked y on).even active).1) in
+      let (B, from) = bounded_both (λ active y n. Leads problem set active (suc (2 * n)) x y) part (λ active y on. ((linked y on).odd active).0) in
+      let k : ℕ = A + B in (
+        k + m * k,
+        record {
+          some = some;
+          part = λ y on. (linked y on).second;
+          leads = λ active y z first second.
+              (let (a, low, enter) = to active y first in
+              let (b, less, leave) = from active z second in
+              let i : ℕ = (A - a) + (B - b) in
+              let round : Leads problem set active (2 * (m * k + i)) x x =
+              around problem set x held m (kinds problem set x held m short) (kinds problem set x held (suc m) long) active k i (omega (arith, low, less)) in
+              lead_as_long problem set active (2 * a + (2 * (m * k + i) + suc (2 * b))) (suc (2 * (k + m * k))) y z (whole a b (m * k) A B low less)
+              (joined_even problem set active a (2 * (m * k + i) + suc (2 * b)) y x z enter (joined_even problem set active (m * k + i) (suc (2 * b)) x x z round leave)));
+        },
+      )
+    where
+      whole : (a b w A B : ℕ) → a ≤ A → b ≤ B → 2 * a + (2 * (w + ((A - a) + (B - b))) + suc (2 * b)) ≡ suc (2 * (A + B + w))
+      whole a b w A B low less = omega (arith, low, less)
+
+  -- ---- trimmed sets that are flexible within the set
+  module _ (part : List ℕ) (l : ℕ) (flexible : IsFlexibleWithin problem part set l) where
+    evenly : (active : Bool) (x y : ℕ) → Contains part x → Contains part y → Leads problem set active (2 * suc (2 * l)) x y
+    evenly active x y first second =
+        lead_as_long problem set active (suc (2 * l) + suc (2 * l)) (2 * suc (2 * l)) x y (let e : suc (2 * l) + suc (2 * l) ≡ 2 * suc (2 * l) = omega arith in e)
+        (joined_odd problem set active l (suc (2 * l)) x x y (flexible.leads active x x first first) (flexible.leads (not active) x y first second))
+
+    pub flexible_joined : (x y : ℕ) → Contains part x → Contains part y → AreJoined problem set x y
+    flexible_joined x y first second = record {
+      first = flexible.part x first;
+      second = flexible.part y second;
+      odd = λ active. ((l, flexible.leads active x y first second), (l, flexible.leads active y x second first));
+      even = λ active. ((suc (2 * l), evenly active x y first second), (suc (2 * l), evenly active y x second first));
+    }
+
+    pub flexible_turns : IsTrimmed problem part → (x : ℕ) → Contains part x → Turns problem set x l
+    flexible_turns trimmed x held = record {
+      shorter = λ active. flexible.leads active x x held held;
+      longer = λ active.
+          let (z, there, join) = trimmed active x held in
+          let (w, on, link) = trimmed (not active) z there in
+          lead_as_long problem set active (suc (suc (suc (2 * l)))) (suc (2 * suc l)) x x (let e : suc (suc (suc (2 * l))) ≡ suc (2 * suc l) = omega arith in e) (
+            z,
+            flexible.part z there,
+            joins_within (side problem active) part set flexible.part x z join,
+            (w, flexible.part w on, joins_within (side problem (not active)) part set flexible.part z w link, flexible.leads (not (not active)) w x on held),
+          );
+    }
+
+-- ---- one label of each part is tested
+module _ (problem : Problem) (sets parts : List (List ℕ)) where
+  abbrev pub TurnsIn : ℕ → Type 0
+  TurnsIn x = (l : ℕ) × Turns problem (set_with sets x) x l
+
+  pub record AreTested (seen turning : List ℕ) (n : ℕ) : Type 0 where
+    pub all : (x : ℕ) → x < n → Relates parts x x → IsIn x seen
+    pub joined : (x : ℕ) → IsIn x seen → Relates parts x x
+    pub within : (x : ℕ) → IsIn x turning → IsIn x seen
+    pub told : (x : ℕ) → IsIn x seen → IsIn x turning ↔ TurnsIn x
+
+  pub tested_none : (seen turning : List ℕ) → seen ≡ [] → turning ≡ [] → AreTested seen turning 0
+  tested_none seen turning e f = record {
+    all = λ x low held. absurd (omega (arith, low));
+    joined = λ x held. absurd (Contains-none x (subst (IsIn x) e held));
+    within = λ x held. absurd (Contains-none x (subst (IsIn x) f held));
+    told = λ x held. absurd (Contains-none x (subst (IsIn x) e held));
+  }
+
+  pub tested_past : (seen turning : List ℕ) (n : ℕ) → AreTested seen turning n → (Relates parts n n → IsIn n seen) → AreTested seen turning (n + 1)
+  tested_past seen turning n so_far here = record {
+    all = λ x low held. elim (below-cases x n low) [
+      | inl less ↦ so_far.all x less held
+      | inr same ↦ subst (λ i. IsIn i seen) (sym same) (here (subst (λ i. Relates parts i i) same held))
+    ];
+    joined = so_far.joined;
+    within = so_far.within;
+    told = so_far.told;
+  }
+
+module _ (problem : Problem) (sets parts : List (List ℕ)) (apart : AreApart sets) (are : AreParts problem sets parts) where
+  -- turning is the same all over a part
+  turns_along : (x y : ℕ) → Relates parts x y → TurnsIn problem sets parts x → TurnsIn problem sets parts y
+  turns_along x y held turning =
+      let both = (are x y).0 held in
+      let (l, turns) = turns_on problem (set_with sets x) x y both turning in
+      (l, turns_within problem (set_with sets x) (set_with sets y) (same_set sets apart y x (apart.back x y both.second)) y l turns)
+
+  pub tested_more : (seen turning part new now : List ℕ) (n : ℕ) → AreTested problem sets parts seen turning n → part ≡ set_with parts n → IsIn n part → new ≡ union seen part
+      → (TurnsIn problem sets parts n × (now ≡ union turning part)) ⊎ ((TurnsIn problem sets parts n → ⊥) × (now ≡ turning)) → AreTested problem sets parts new now (n + 1)
+  tested_more seen turning part new now n so_far at held e either =
+      let parts_apart : AreApart parts = apart_parts problem sets apart parts are in
+      let related : (x : ℕ) → IsIn x part → Relates parts n x = λ x there. subst (IsIn x) at there in
+      let back : (x : ℕ) → IsIn x part → Relates parts x n = λ x there. parts_apart.back n x (related x there) in
+      let old : (x : ℕ) → IsIn x seen → IsIn x new = λ x there. subst (IsIn x) (sym e) (IsIn-union seen part x (inl there)) in
+      let added : (x : ℕ) → IsIn x part → IsIn x new = λ x there. subst (IsIn x) (sym e) (IsIn-union seen part x (inr there)) in
+      let cases : (x : ℕ) → IsIn x new → IsIn x seen ⊎ IsIn x part = λ x there. IsIn-union_cases seen part x (subst (IsIn x) e there) in
+      record {
+        all = λ x low own_part. elim (below-cases x n low) [
+          | inl less ↦ old x (so_far.all x less own_part)
+          | inr same ↦ subst (λ i. IsIn i new) (sym same) (added n held)
+        ];
+        joined = λ x there. elim (cases x there) [
+          | inl before ↦ so_far.joined x before
+          | inr here ↦ own parts parts_apart x n (back x here)
+        ];
+        within = λ x there. elim either [
+          | inl turns ↦ elim (IsIn-union_cases turning part x (subst (IsIn x) turns.1 there)) [ inl before ↦ old x (so_far.within x before) | inr here ↦ added x here ]
+          | inr none ↦ old x (so_far.within x (subst (IsIn x) none.1 there))
+        ];
+        told = λ x there. (
+          λ on. elim either [
+            | inl turns ↦ elim (IsIn-union_cases turning part x (subst (IsIn x) turns.1 on)) [
+              | inl before ↦ (so_far.told x (so_far.within x before)).0 before
+              | inr here ↦ turns_along n x (related x here) turns.0
+            ]
+            | inr none ↦ (let before = subst (IsIn x) none.1 on in (so_far.told x (so_far.within x before)).0 before)
+          ],
+          λ turning_x. elim either [
+            | inl turns ↦ subst (IsIn x) (sym turns.1) (IsIn-union turning part x (elim (cases x there) [
+              | inl before ↦ inl ((so_far.told x before).1 turning_x)
+              | inr here ↦ inr here
+            ]))
+            | inr none ↦ subst (IsIn x) (sym none.1) (elim (cases x there) [
+              | inl before ↦ (so_far.told x before).1 turning_x
+              | inr here ↦ absurd (none.0 (turns_along x n (back x here) turning_x))
+            ])
+          ],
+        );
+      }
+
+  pub tested_all : (seen turning : List ℕ) (n : ℕ) → AreTested problem sets parts seen turning n → length parts ≤ n → AreTurning problem sets turning
+  tested_all seen turning n tested end x = (
+    λ on. let there = tested.within x on in ((are x x).0 (tested.joined x there), (tested.told x there).0 on),
+    λ both.
+        let self : Relates parts x x = (are x x).1 both.0 in
+        let low : x < length parts = related_low parts x x self in
+        (tested.told x (tested.all x (omega (arith, low, end)) self)).1 both.1,
+  )

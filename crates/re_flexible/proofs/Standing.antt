@@ -1,12 +1,12 @@
 -- Labels at two places of a configuration.
-use Rattle.std.proofs.Common.{◌≡◌, ◌∷◌, ◌∙◌, ◌+◌, ℕ, zero, suc, ◌<◌, List, [], length, get_or, set, refl, sym, ap, subst, arith, inl, inr, ◌⊎◌}
+use Rattle.std.proofs.Common.{◌≡◌, ◌∷◌, ◌∙◌, ◌+◌, ℕ, zero, suc, ◌<◌, ◌≤◌, List, [], length, get_or, set, refl, sym, ap, subst, arith, inl, inr, ◌⊎◌}
 use Rattle.std.specs.Prelude.{Contains, ◌↔◌}
 use Rattle.re_labels.proofs.Rearranging.{Contains-Rearranged, Rearranged-refl}
 use Rattle.re_labels.specs.Rearranging.{Rearranged, chained, kept, swapped, unmoved}
 use Rattle.re_labels.proofs.Membership.{Contains-cases, Contains-here, Contains-later, Contains-none}
 use Rattle.re_labels.proofs.Tests.{below-cases}
 use Rattle.re_labels.specs.Sets.{IsIn, union, with_label}
-use Rattle.re_flexible.proofs.Building.{grown, with_cases, with_new, with_old}
+use Rattle.re_flexible.proofs.Building.{grown, same_or, with_cases, with_new, with_old}
 use Rattle.re_flexible.specs.Relations.{Relates, Stands}
 
 -- ---- the labels at the other places
@@ -148,3 +148,14 @@ Stands-rest zs x y stands = Pairs-rest zs x y (Stands-Pairs zs x y stands)
 
 pub rest-Stands : (zs rest : List ℕ) (x y : ℕ) → Rearranged (x ∷ y ∷ rest) zs → Stands zs x y
 rest-Stands zs rest x y moved = Pairs-Stands zs x y (Pairs-Rearranged x y moved (inl (refl, Contains-here y rest)))
+
+-- ---- one place
+pub Stands-Contains : (zs : List ℕ) (x y : ℕ) → Stands zs x y → Contains zs x
+Stands-Contains zs x y (i, j, low, far, apart, first, second) = at_place zs i x low first
+
+pub Contains-Stands : (zs : List ℕ) (x : ℕ) → Contains zs x → 2 ≤ length zs → (y : ℕ) × Stands zs x y
+Contains-Stands zs x held two =
+    let (i, low, is) = place_of zs x held in elim (same_or i 0) [
+      | inl e ↦ (get_or zs 1 0, (i, 1, low, omega (arith, two), (λ same. absurd (omega (arith, e, same))), is, refl))
+      | inr apart ↦ (get_or zs 0 0, (i, 0, low, omega (arith, two), apart, is, refl))
+    ]

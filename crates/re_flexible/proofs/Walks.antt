@@ -6,11 +6,10 @@ use Rattle.re_labels.proofs.Sorting.{sorted-Rearranged}
 use Rattle.re_labels.specs.Rearranging.{swapped}
 use Rattle.re_forests.proofs.Leads.{after, after_even, after_odd, joined, joined_even, joined_odd, lead_as_long, twice}
 use Rattle.re_forests.specs.Flexible.{AreJoined, Joins, Leads, Turns, side}
-use Rattle.re_labels.specs.Sets.{IsIn, IsLabelSet, IsWithin}
+use Rattle.re_labels.specs.Sets.{IsIn, IsWithin}
 use Rattle.re_problem.specs.Problems.{Problem}
 use Rattle.re_table.specs.Constraints.{Constraint}
-use Rattle.re_flexible.proofs.Building.{in_low}
-use Rattle.re_flexible.specs.Finding.{AreJoins}
+use Rattle.re_flexible.specs.Families.{AreApart, AreJoins, set_with}
 use Rattle.re_flexible.specs.Relations.{Composes, Reaches, Relates, Steps}
 
 -- ---- joins both ways, and within a larger set
@@ -25,6 +24,24 @@ pub leads_within : (problem : Problem) (other set : List ℕ) → IsWithin other
 leads_within problem other set inside active zero x y walk = walk
 leads_within problem other set inside active (suc m) x y walk =
     (walk.0, inside walk.0 walk.1, (walk.2.0, all_within other set inside walk.2.0 walk.2.1, walk.2.2), leads_within problem other set inside (not active) m walk.0 y walk.3)
+
+-- ---- labels of one set
+-- from each label of the set the table leads to those of it with which it is joined within it
+abbrev pub AreJoinsOf : Constraint → List ℕ → List (List ℕ) → Type 0
+AreJoinsOf constraint set table = (x y : ℕ) → IsIn x set → Relates table x y ↔ (IsIn y set × Joins constraint set x y)
+
+pub joins_within : (constraint : Constraint) (other set : List ℕ) → IsWithin other set → (x y : ℕ) → Joins constraint other x y → Joins constraint set x y
+joins_within constraint other set inside x y join = (join.0, all_within other set inside join.0 join.1, join.2)
+
+pub joins_of : (constraint : Constraint) (sets table : List (List ℕ)) → AreApart sets → AreJoins constraint sets table → (x : ℕ) → AreJoinsOf constraint (set_with sets x) table
+joins_of constraint sets table apart joins x y z there = (
+  λ held. let (one, join) = (joins y z).0 held in
+      (apart.on x y z there one, joins_within constraint (set_with sets y) (set_with sets x) (λ w own. apart.on x y w there own) y z join),
+  λ both. (joins y z).1 (
+    apart.on y x z (apart.back x y there) both.0,
+    joins_within constraint (set_with sets x) (set_with sets y) (λ w own. apart.on y x w (apart.back x y there) own) y z both.1,
+  ),
+)
 
 -- ---- kinds
 after_not : (active : Bool) (m : ℕ) → after (not active) m ≡ not (after active m)
@@ -81,43 +98,44 @@ module _ (problem : Problem) (set : List ℕ) where
       (l + k, lead_as_long problem set active (2 * l + 2 * k) (2 * (l + k)) x z (let e : 2 * l + 2 * k ≡ 2 * (l + k) = omega arith in e) (joined_even problem set active l (2 * k) x y z walk more)))
 
   -- ---- tables of steps of two nodes
-  module _ (active : Bool) (first second table : List (List ℕ)) (one : AreJoins (side problem active) set first) (two : AreJoins (side problem (not active)) set second)
+  module _ (active : Bool) (first second table : List (List ℕ)) (one : AreJoinsOf (side problem active) set first) (two : AreJoinsOf (side problem (not active)) set second)
       (both : (x y : ℕ) → Relates table x y ↔ Composes first second x y) where
-    pub even_leads : (l x y : ℕ) → Steps table l x y → Leads problem set active (2 * l) x y
-    even_leads zero x y steps = steps
-    even_leads (suc l) x y steps =
+    pub even_leads : (l x y : ℕ) → IsIn x set → Steps table l x y → Leads problem set active (2 * l) x y
+    even_leads zero x y held steps = steps
+    even_leads (suc l) x y held steps =
         let (w, step, more) = steps in
         let (z, out, on) = (both x w).0 step in
-        let a = (one x z).0 out in
-        let b = (two z w).0 on in
+        let a = (one x z held).0 out in
+        let b = (two z w a.0).0 on in
         lead_as_long problem set active (suc (suc (2 * l))) (2 * suc l) x y (let e : suc (suc (2 * l)) ≡ 2 * suc l = omega arith in e)
-        (z, a.1, a.2, (w, b.1, b.2, subst (λ k. Leads problem set k (2 * l) w y) (sym (twice active)) (even_leads l w y more)))
+        (z, a.0, a.1, (w, b.0, b.1, subst (λ k. Leads problem set k (2 * l) w y) (sym (twice active)) (even_leads l w y b.0 more)))
 
     pub leads_even : (l x y : ℕ) → IsIn x set → Leads problem set active (2 * l) x y → Steps table l x y
     leads_even zero x y held walk = walk
     leads_even (suc l) x y held walk =
         let long : Leads problem set active (suc (suc (2 * l))) x y = lead_as_long problem set active (2 * suc l) (suc (suc (2 * l))) x y (let e : 2 * suc l ≡ suc (suc (2 * l)) = omega arith in e) walk in
         let (z, there, join, (w, own, link, rest)) = long in
-        (w, (both x w).1 (z, (one x z).1 (held, there, join), (two z w).1 (there, own, link)), leads_even l w y own (subst (λ k. Leads problem set k (2 * l) w y) (twice active) rest))
+        (w, (both x w).1 (z, (one x z held).1 (there, join), (two z w there).1 (own, link)), leads_even l w y own (subst (λ k. Leads problem set k (2 * l) w y) (twice active) rest))
 
-    pub even_is : (N : ℕ) (all : List (List ℕ)) → IsLabelSet N set → ((x y : ℕ) → x < N → Relates all x y ↔ Reaches table x y) → (x y : ℕ) → IsIn x set → Relates all x y ↔ ((l : ℕ) × Leads problem set active (2 * l) x y)
-    even_is N all sets closed x y held =
-        let low : x < N = in_low N set x sets held in (
-          λ there. let (l, steps) = (closed x y low).0 there in (l, even_leads l x y steps),
+    pub even_is : (N : ℕ) (all : List (List ℕ)) → ((x : ℕ) → IsIn x set → x < N) → ((x y : ℕ) → x < N → Relates all x y ↔ Reaches table x y) → (x y : ℕ) → IsIn x set
+        → Relates all x y ↔ ((l : ℕ) × Leads problem set active (2 * l) x y)
+    even_is N all below closed x y held =
+        let low : x < N = below x held in (
+          λ there. let (l, steps) = (closed x y low).0 there in (l, even_leads l x y held steps),
           λ walk. (closed x y low).1 (walk.0, leads_even walk.0 x y held walk.1),
         )
 
-  pub odd_is : (active : Bool) (first behind from : List (List ℕ)) → AreJoins (side problem active) set first → ((x y : ℕ) → IsIn x set → Relates behind x y ↔ ((l : ℕ) × Leads problem set (not active) (2 * l) x y))
+  pub odd_is : (active : Bool) (first behind from : List (List ℕ)) → AreJoinsOf (side problem active) set first → ((x y : ℕ) → IsIn x set → Relates behind x y ↔ ((l : ℕ) × Leads problem set (not active) (2 * l) x y))
       → ((x y : ℕ) → Relates from x y ↔ Composes first behind x y) → (x y : ℕ) → IsIn x set → Relates from x y ↔ ((l : ℕ) × Leads problem set active (suc (2 * l)) x y)
   odd_is active first behind from one even both x y held = (
-    λ there. let (z, out, on) = (both x y).0 there in let a = (one x z).0 out in let (l, walk) = (even z y a.1).0 on in (l, (z, a.1, a.2, walk)),
-    λ walk. let (z, there, join, rest) = walk.1 in (both x y).1 (z, (one x z).1 (held, there, join), (even z y there).1 (walk.0, rest)),
+    λ there. let (z, out, on) = (both x y).0 there in let a = (one x z held).0 out in let (l, walk) = (even z y a.0).0 on in (l, (z, a.0, a.1, walk)),
+    λ walk. let (z, there, join, rest) = walk.1 in (both x y).1 (z, (one x z held).1 (there, join), (even z y there).1 (walk.0, rest)),
   )
 
   -- ---- turning
   module _ (x : ℕ) (held : Contains set x) where
     -- rounds of 2 m nodes and of two more, so many times
-    around : (m : ℕ) → ((active : Bool) → Leads problem set active (2 * m) x x) → ((active : Bool) → Leads problem set active (2 * suc m) x x) → (active : Bool) (k i : ℕ) → i ≤ k → Leads problem set active (2 * (m * k + i)) x x
+    pub around : (m : ℕ) → ((active : Bool) → Leads problem set active (2 * m) x x) → ((active : Bool) → Leads problem set active (2 * suc m) x x) → (active : Bool) (k i : ℕ) → i ≤ k → Leads problem set active (2 * (m * k + i)) x x
     around m short long active zero i low = lead_as_long problem set active 0 (2 * (m * 0 + i)) x x (let e : 0 ≡ 2 * (m * 0 + i) = omega (arith, low) in e) refl
     around m short long active (suc k) zero low =
         lead_as_long problem set active (2 * m + 2 * (m * k + 0)) (2 * (m * suc k + 0)) x x (let e : 2 * m + 2 * (m * k + 0) ≡ 2 * (m * suc k + 0) = grind arith in e)
@@ -130,7 +148,7 @@ module _ (problem : Problem) (set : List ℕ) where
     odd_loop active q r l odd even e =
         lead_as_long problem set active (suc (2 * q) + 2 * r) (suc (2 * l)) x x (let long : suc (2 * q) + 2 * r ≡ suc (2 * l) = omega (arith, e) in long) (joined_odd problem set active q (2 * r) x x x odd even)
 
-    kinds : (n : ℕ) → Leads problem set true (2 * n) x x → (active : Bool) → Leads problem set active (2 * n) x x
+    pub kinds : (n : ℕ) → Leads problem set true (2 * n) x x → (active : Bool) → Leads problem set active (2 * n) x x
     kinds n walk true = walk
     kinds n walk false = turned_even false n x x held walk
 

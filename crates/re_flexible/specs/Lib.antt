@@ -1,2 +1,3 @@
-pub mod Finding
+pub mod Families
+pub mod Lengths
 pub mod Relations

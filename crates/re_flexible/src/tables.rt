@@ -6,8 +6,8 @@ ghost use Rattle.std.specs.Prelude.{◌≡◌, ◌<◌, ◌↔◌, ◌⊎◌, �
 use arrayvec::ArrayVec;
 use re_labels::{LabelSet, MAX_LABELS};
 
-// What the labels of the set lead to.
-fn image(table: &[LabelSet], set: LabelSet) -> LabelSet
+/// What the labels of the set lead to.
+pub fn image(table: &[LabelSet], set: LabelSet) -> LabelSet
     requires { length table.now ≡ MAX_LABELS }
     ensures { (y : ℕ) → IsIn y result ↔ ((z : ℕ) × IsIn z set × Relates table.now z y) }
 {
@@ -119,8 +119,8 @@ fn alone(table: &[LabelSet], label: u8) -> ArrayVec<LabelSet, 128>
     sole
 }
 
-// Whether the first relation leads nowhere but where the second one does.
-fn is_within(first: &[LabelSet], second: &[LabelSet]) -> bool
+/// Whether the first relation leads nowhere but where the second one does.
+pub fn is_within(first: &[LabelSet], second: &[LabelSet]) -> bool
     requires first { length first.now ≡ MAX_LABELS }
     requires second { length second.now ≡ MAX_LABELS }
     ensures { MatchBool result (IsWithin first.now second.now) (HasNew first.now second.now) }

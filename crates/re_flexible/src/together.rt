@@ -1,12 +1,13 @@
 //! Labels that stand together in configurations.
-ghost use Rattle.re_flexible.specs.Finding.{AreJoins};
+ghost use Rattle.re_labels.specs.Configs.{support_of};
+ghost use Rattle.re_flexible.specs.Families.{AreApart, AreJoins, AreOfOne, AreStanding};
 ghost use Rattle.re_flexible.specs.Relations.{Relates, Stands};
 ghost use Rattle.re_labels.specs.Sets.{IsIn};
 ghost use Rattle.std.specs.List.{AllByRecursion};
-ghost use Rattle.std.specs.Prelude.{◌≡◌, ◌<◌, ◌↔◌, ◌⊎◌, ℕ, length, slice_index_or};
+ghost use Rattle.std.specs.Prelude.{◌≡◌, ◌<◌, ◌↔◌, ◌⊎◌, ℕ, IsTrue, length, slice_index_or};
 
 use arrayvec::ArrayVec;
-use re_labels::{LabelSet, MAX_LABELS};
+use re_labels::{Config, LabelSet, MAX_LABELS};
 use re_table::Constraint;
 
 // The labels at the other places.
@@ -47,17 +48,67 @@ fn nothing() -> ArrayVec<LabelSet, 128>
     table
 }
 
-/// For each label of the set those with which it stands in a configuration of labels of the set. It passes the configurations once.
-pub fn joins(constraint: &Constraint, set: LabelSet) -> ArrayVec<LabelSet, 128>
+// Whether the labels of the configuration are all in one set.
+fn is_of_one(sets: &[LabelSet], config: &Config, labels: LabelSet) -> bool
+    requires count { length sets.now ≡ MAX_LABELS }
+    requires apart { AreApart sets.now }
+    requires labels { labels ≡ support_of config.now }
+    ensures { IsTrue result ↔ AreOfOne sets.now config.now }
+{
+    let first = config.labels()[0];
+    labels.within(sets[first as usize])
+}
+
+/// For each label those with which it stands in a configuration of labels of its set, where a table has for each label the set that it is
+/// in, or the empty one. It passes the configurations once.
+pub fn joins(constraint: &Constraint, sets: &[LabelSet]) -> ArrayVec<LabelSet, 128>
+    requires count { length sets.now ≡ MAX_LABELS }
+    requires apart { AreApart sets.now }
     ensures count { length result.items ≡ MAX_LABELS }
-    ensures joins { AreJoins constraint.now set result.items }
+    ensures joins { AreJoins constraint.now sets.now result.items }
 {
     let _degree = constraint.degree();
     let mut table = nothing();
     for config in constraint.configs() {
-        if config.support().within(set) {
+        if is_of_one(sets, config, config.support()) {
             note(table.as_mut_slice(), config.labels());
         }
     }
     table
+}
+
+// The labels that are in some set.
+fn labels_in(sets: &[LabelSet]) -> LabelSet
+    requires { length sets.now ≡ MAX_LABELS }
+    ensures { (x : ℕ) → IsIn x result ↔ Relates sets.now x x }
+{
+    let mut labels = LabelSet::empty();
+    for label in 0..MAX_LABELS {
+        if sets[label as usize].has(label) {
+            labels = labels.insert(label);
+        }
+    }
+    labels
+}
+
+/// The labels that stand in a configuration of labels of their set. It passes the configurations once, or fewer of them where all labels
+/// stand in those.
+pub fn standing(constraint: &Constraint, sets: &[LabelSet]) -> LabelSet
+    requires count { length sets.now ≡ MAX_LABELS }
+    requires apart { AreApart sets.now }
+    ensures { AreStanding constraint.now sets.now result }
+{
+    let _degree = constraint.degree();
+    let wanted = labels_in(sets);
+    let mut all = LabelSet::empty();
+    for config in constraint.configs() {
+        let labels = config.support();
+        if is_of_one(sets, config, labels) {
+            all = all.union(labels);
+            if wanted.within(all) {
+                return all;
+            }
+        }
+    }
+    all
 }

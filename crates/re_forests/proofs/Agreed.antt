@@ -9,7 +9,7 @@ use Rattle.re_forests.proofs.Ports.{label_of_set, near_differ}
 use Rattle.re_forests.proofs.Walks.{around, beside, between, between_first, between_last, fixed, fixed_same, turned}
 use Rattle.re_forests.proofs.Fills.{Fills}
 use Rattle.re_layers.proofs.Balls.{ball_near}
-use Rattle.re_layers.proofs.Membership.{AllByRecursion-contains, Contains-filter}
+use Rattle.re_labels.proofs.Membership.{AllByRecursion-contains, Contains-filter}
 use Rattle.re_layers.specs.Layers.{IsLayered, IsPath, upper}
 use Rattle.re_layers.specs.Networks.{IsForest, Network}
 use Rattle.re_problem.specs.Problems.{Problem}

@@ -2,12 +2,10 @@
 use Rattle.std.proofs.Common.{◌≡◌, ℕ, suc, ◌+◌, ◌*◌, ◌^◌, ◌≤◌, sym, ◌∙◌, ap, subst, arith}
 use Rattle.std.proofs.Math.Nat.{mul-le-mul, pow-le-pow_left, pow-le-pow_right}
 use Rattle.std.proofs.lemmas.Nat.{pow-add}
-use Rattle.re_forests.proofs.SameTowers.{same_tower}
 use Rattle.re_forests.specs.Classes.{HasNoSolution, IsAboveLinear, IsAboveLogOnForests, IsAboveLogStarOnForests, IsBelowLinear, IsBelowLogOnForests, IsBelowLogStarOnForests, IsConstantOnForests}
 use Rattle.re_forests.specs.ClassLaws.{ApartLaw}
 use Rattle.re_layers.specs.Towers.{tower}
-use Rattle.re_local.proofs.Towers.{above, below_power, power_of, tower-power}
-use Rattle.re_local.specs.Towers as local
+use Rattle.re_layers.proofs.Towers.{above, below_power, power_of, tower-power}
 use Rattle.re_problem.specs.Problems.{Problem}
 
 pub constant_apart : (problem : Problem) → IsConstantOnForests problem → IsAboveLogStarOnForests problem → ⊥
@@ -22,8 +20,8 @@ log_star_apart problem (c, K, solved) (C, beyond) =
     let one : C ^ (c * h + K + 1) ≤ suc C ^ (c * h + K + 1) = pow-le-pow_left (omega arith) (c * h + K + 1) in
     let two : suc C ^ (c * h + K + 1) ≤ suc C ^ (suc c * (2 * h + (K + 1))) = pow-le-pow_right (omega arith) exponent in
     let three : suc C ^ (suc c * (2 * h + (K + 1))) ≡ B ^ (2 * h + (K + 1)) = power_of (suc C) (suc c) (2 * h + (K + 1)) in
-    let enough : C ^ (c * h + K + 1) ≤ local.tower h = omega (arith, one, two, three, few) in
-    beyond (c * h + K) (tower h) (subst (λ t. C ^ (c * h + K + 1) ≤ t) (sym (same_tower h)) enough) (solved h (tower h) (omega arith))
+    let enough : C ^ (c * h + K + 1) ≤ tower h = omega (arith, one, two, three, few) in
+    beyond (c * h + K) (tower h) enough (solved h (tower h) (omega arith))
 
 log_apart : (problem : Problem) → IsBelowLogOnForests problem → IsAboveLinear problem → ⊥
 log_apart problem (K, solved) (M, beyond) =
@@ -42,7 +40,7 @@ none_apart : (problem : Problem) → HasNoSolution problem
     → (IsConstantOnForests problem → ⊥) × (IsBelowLogStarOnForests problem → ⊥) × (IsBelowLogOnForests problem → ⊥) × (IsBelowLinear problem → ⊥)
 none_apart problem (M, beyond) = (
   (λ (k, solved). beyond M k (omega arith) (solved M)),
-  (λ (c, K, solved). beyond M (c * M + K) (omega arith) (solved M M (subst (λ t. M ≤ t) (sym (same_tower M)) (let high : suc M ≤ local.tower M = above M in omega (arith, high))))),
+  (λ (c, K, solved). beyond M (c * M + K) (omega arith) (solved M M (let high : suc M ≤ tower M = above M in omega (arith, high)))),
   (λ (K, solved). beyond M (K * suc M) (omega arith) (solved M M (let high : suc M ≤ 2 ^ M = below_power M in omega (arith, high)))),
   (λ (K, solved). beyond M (K * suc M) (omega arith) (solved M)),
 )

@@ -2,11 +2,11 @@
 use Rattle.std.proofs.Common.{◌≡◌, ℕ, zero, suc, ◌+◌, ◌*◌, ◌/◌, ◌%◌, ◌≤◌, ◌<◌, Bool, true, false, cond, eqb, leb, ltb, List, [], ◌∷◌, ◌++◌, map, length, refl, sym, ◌∙◌, ap, ap₂, subst, arith, ◌⊎◌, inl, inr, length-append, append-nil}
 use Rattle.std.specs.Prelude.{Contains, not, if◌then◌else◌}
 use Rattle.std.proofs.Math.Nat.{mod-eq_of_lt, mul-le-mul_right, div-eq_of_lt}
-use Rattle.std.proofs.lemmas.Bool.{eq-eqb, false≢true, le-leb, lt-ltb, ne_eqb}
+use Rattle.std.proofs.lemmas.Bool.{eq-eqb, false≢true, le-leb, le-ltb, lt-ltb, ne_eqb}
 use Rattle.std.proofs.lemmas.List.{length-map}
 use Rattle.std.proofs.lemmas.Nat.{div-mul-add, mod-mul-add}
 use Rattle.re_forests.proofs.Cuts.{IsCutting}
-use Rattle.re_forests.proofs.Growing.{Alike, IsHanging-path, ltb_false, path, path_kids, path_kind, path_under}
+use Rattle.re_forests.proofs.Growing.{Alike, IsHanging-path, path, path_kids, path_kind, path_under}
 use Rattle.re_forests.proofs.Hung.{Step, active_at, down, hung, hung_cutting, inner, near_at, near_hung, near_inner, near_of_step, own, step_of, up}
 use Rattle.re_forests.proofs.Link.{Linked, added, back, link, link_cutting, linked_of, near_of_linked, new, old}
 use Rattle.re_forests.proofs.TreeWalks.{Walk, walk_back, walk_in, walk_joined, walk_one_more}
@@ -73,7 +73,7 @@ module _ (a p : ℕ) (two : 2 ≤ a) (two' : 2 ≤ p) (K : Network) (Q : ℕ) (s
       fits : (v : ℕ) (near : List ℕ) → K.near v ≡ near → length (K.near v) + length (path_kids (arm K A t l v) zero) ≤ (if K.active v then a else p)
       fits v [] e =
           let none : arm K A t l v ≡ 0 = ap (λ near. cond (is_single near) (cond (eqb v l) (A + t) A) 0) e in
-          let kids : length (path_kids (arm K A t l v) zero) ≡ 0 = ap (λ s. length (path_kids s zero)) none ∙ ap (λ b. length {A = ℕ} (cond b (1 ∷ []) [])) (ltb_false 0 0 (omega arith)) in
+          let kids : length (path_kids (arm K A t l v) zero) ≡ 0 = ap (λ s. length (path_kids s zero)) none ∙ ap (λ b. length {A = ℕ} (cond b (1 ∷ []) [])) (le-ltb 0 0 (omega arith)) in
           let count : length (K.near v) ≡ 0 = ap length e in
           omega arith
       fits v (x ∷ []) e =
@@ -83,7 +83,7 @@ module _ (a p : ℕ) (two : 2 ≤ a) (two' : 2 ≤ p) (K : Network) (Q : ℕ) (s
           omega arith
       fits v (x ∷ y ∷ xs) e =
           let none : arm K A t l v ≡ 0 = ap (λ near. cond (is_single near) (cond (eqb v l) (A + t) A) 0) e in
-          let kids : length (path_kids (arm K A t l v) zero) ≡ 0 = ap (λ s. length (path_kids s zero)) none ∙ ap (λ b. length {A = ℕ} (cond b (1 ∷ []) [])) (ltb_false 0 0 (omega arith)) in
+          let kids : length (path_kids (arm K A t l v) zero) ≡ 0 = ap (λ s. length (path_kids s zero)) none ∙ ap (λ b. length {A = ℕ} (cond b (1 ∷ []) [])) (le-ltb 0 0 (omega arith)) in
           let most = cutting.degrees v in
           omega arith
 
@@ -100,7 +100,7 @@ module _ (a p : ℕ) (two : 2 ≤ a) (two' : 2 ≤ p) (K : Network) (Q : ℕ) (s
   arms_near A t l v low e =
       near_inner K Q path path_kids path_kind path_under (arm K A t l) IsHanging-path some v low
       ∙ ap (λ s. K.near v ++ map (λ j. j * Q + v) (path_kids s zero)) (ap (λ b. cond b (cond (eqb v l) (A + t) A) 0) e)
-      ∙ ap (λ b. K.near v ++ map (λ j. j * Q + v) (cond b (1 ∷ []) [])) (ltb_false 0 0 (omega arith))
+      ∙ ap (λ b. K.near v ++ map (λ j. j * Q + v) (cond b (1 ∷ []) [])) (le-ltb 0 0 (omega arith))
       ∙ append-nil (K.near v)
 
   arms_active : (A t l i v : ℕ) → v < Q → (arms K Q A t l).active (i * Q + v) ≡ path_kind (K.active v) i
@@ -114,7 +114,7 @@ module _ (a p : ℕ) (two : 2 ≤ a) (two' : 2 ≤ p) (K : Network) (Q : ℕ) (s
       length-append (own K Q path (arm K A t l v) (suc i) v) (map (λ j. j * Q + v) (path_kids (arm K A t l v) (suc i)))
       ∙ ap (λ n. length (own K Q path (arm K A t l v) (suc i) v) + n) (length-map (path_kids (arm K A t l v) (suc i)) (λ j. j * Q + v)) in
       let none : length (path_kids (arm K A t l v) (suc i)) ≡ 0 =
-      ap (λ s. length (path_kids s (suc i))) e ∙ ap (λ b. length {A = ℕ} (cond b (suc (suc i) ∷ []) [])) (ltb_false (suc i) (suc i) (omega arith)) in
+      ap (λ s. length (path_kids s (suc i))) e ∙ ap (λ b. length {A = ℕ} (cond b (suc (suc i) ∷ []) [])) (le-ltb (suc i) (suc i) (omega arith)) in
       let one : length (own K Q path (arm K A t l v) (suc i) v) ≤ 1 = few (leb (suc i) (arm K A t l v)) in
       subst (λ near. length near ≤ 1) (sym (near_at K Q path path_kids path_kind path_under (arm K A t l) IsHanging-path some (suc i) v low)) (omega (arith, count, none, one))
     where

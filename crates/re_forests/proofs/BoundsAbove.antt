@@ -1,4 +1,5 @@
 -- Bounds above on forests, also from those on infinite trees, and both bounds on paths.
+use Rattle.re_layers.specs.Towers.{tower}
 use Rattle.std.proofs.Common.{◌≡◌, ℕ, ◌+◌, ◌*◌, ◌^◌, ◌≤◌, subst, arith}
 use Rattle.re_forests.proofs.AllSeen.{all_seen}
 use Rattle.re_forests.proofs.FastPaths.{paths}
@@ -6,7 +7,6 @@ use Rattle.re_forests.proofs.OrderLog.{order_log}
 use Rattle.re_forests.proofs.PathsLogStar.{paths_log_star}
 use Rattle.re_forests.proofs.Unsolvable.{no_solution}
 use Rattle.re_forests.specs.OnForests.{SolvableOnForests}
-use Rattle.re_forests.proofs.SameTowers.{same_tower}
 use Rattle.re_forests.proofs.TowerRooms.{places_room}
 use Rattle.re_forests.specs.ClassLaws.{BelowLaw, BelowLinearLaw, BelowLogLaw, BelowLogStarLaw, NeverLaw, PathsLaw}
 use Rattle.re_forests.proofs.FewOnForests.{few_colours_on_forests}
@@ -15,7 +15,6 @@ use Rattle.re_layers.proofs.Colours.{colours_law}
 use Rattle.re_layers.proofs.FarColours.{far_colours_law}
 use Rattle.re_layers.proofs.Layering.{layers}
 use Rattle.re_layers.proofs.PathLayers.{path_layers}
-use Rattle.re_local.specs.Towers as local
 
 pub below_log_star : BelowLogStarLaw
 below_log_star problem is (k, solvable) =
@@ -33,8 +32,8 @@ below problem is (K, solved) = (
   2 * (K + 11) + K + 2,
   λ h N few. (
       let k : ℕ = 2 * (h + (K + 11)) + K in
-      let M : ℕ = local.tower (h + (K + 11)) in
-      let room : N * 7 ^ (k + 2) ≤ M = places_room K h N (subst (λ t. N ≤ t) (same_tower h) few) in
+      let M : ℕ = tower (h + (K + 11)) in
+      let room : N * 7 ^ (k + 2) ≤ M = places_room K h N few in
       let same : k + 2 ≡ 2 * h + (2 * (K + 11) + K + 2) = omega arith in
       subst (SolvableOnForests problem N) same (local_on_forests problem N M k is room (solved (h + (K + 11)) M (omega arith)))
       ),

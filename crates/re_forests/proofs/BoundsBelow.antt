@@ -1,25 +1,14 @@
 -- Bounds below carry over from local algorithms that see the identifiers of active nodes alone; and nothing lies between constant and log* N.
-use Rattle.std.proofs.Common.{◌+◌, ◌*◌, ◌≤◌, subst}
+use Rattle.std.proofs.Common.{◌+◌, ◌*◌}
 use Rattle.re_classes.proofs.Decided.{above_log_star, constant}
-use Rattle.re_classes.specs.Classes.{IsAboveLogStar}
 use Rattle.re_forests.proofs.Linear.{linear}
 use Rattle.re_forests.proofs.ApartForests.{constant_apart}
-use Rattle.re_forests.proofs.SameTowers.{same_tower}
-use Rattle.re_forests.specs.Classes.{IsAboveLogStarOnForests}
 use Rattle.re_forests.specs.ClassLaws.{AboveLaw, AboveLinearLaw, ConstantLaw, NothingBetweenLaw}
 use Rattle.re_forests.proofs.PortsOnForests.{ports_on_forests}
 use Rattle.re_forests.proofs.Consequences.{above_log, above_log_star as above_log_star_views, link}
-use Rattle.re_problem.specs.Problems.{IsProblem, Problem}
-
-log_star_above : (problem : Problem) → IsProblem problem → IsAboveLogStar problem → IsAboveLogStarOnForests problem
-log_star_above problem is bound =
-    let (c, beyond) = above_log_star_views problem is bound in (
-      c,
-      λ T N many solvable. beyond T N (subst (λ t. t ≤ N) (same_tower (T + c)) many) solvable,
-    )
 
 pub above : AboveLaw
-above problem is = (log_star_above problem is, above_log problem is)
+above problem is = (above_log_star_views problem is, above_log problem is)
 
 pub above_linear : AboveLinearLaw
 above_linear problem is none = let (M, two) = linear problem is in (M, λ N T room solvable. none (two N T room solvable))
@@ -32,6 +21,6 @@ constant_forests problem is = (
 
 pub nothing_between : NothingBetweenLaw
 nothing_between problem is = (
-  (λ never. log_star_above problem is (above_log_star problem is (λ S solvable. never ((constant_forests problem is).1 (S, solvable))))),
+  (λ never. above_log_star_views problem is (above_log_star problem is (λ S solvable. never ((constant_forests problem is).1 (S, solvable))))),
   (λ above few. constant_apart problem few above),
 )

@@ -3,6 +3,7 @@ use Rattle.std.proofs.Common.{◌≡◌, ℕ, zero, suc, ◌+◌, ◌-◌, ◌*�
 use Rattle.std.specs.Prelude.{Contains, not, ◌==◌, slice_index, if◌then◌else◌}
 use Rattle.std.specs.List.{position_or_len}
 use Rattle.std.proofs.Math.Nat.{div-eq_of_lt, mod-eq_of_lt, mul-le-mul_right}
+use Rattle.std.proofs.Math.Bool.{not-not}
 use Rattle.re_labels.proofs.Rearranging.{Contains-Rearranged}
 use Rattle.re_labels.proofs.Sorting.{Rearranged-sorted}
 use Rattle.re_labels.specs.Configs.{IsConfig, sorted}
@@ -11,14 +12,12 @@ use Rattle.re_forests.proofs.Cores.{ToLeaves, fills_active, fills_edge}
 use Rattle.re_forests.proofs.Cuts.{IsCutting, IsForest-cutting}
 use Rattle.re_forests.proofs.EdgeLabels.{Has_first, label_on}
 use Rattle.re_forests.proofs.Growing.{Alike, Around, IsFull, alike_fills, far_filled, far_inner, fills, fills_cutting, full_around, grown, path_kind, same_alike}
-use Rattle.re_forests.proofs.Hung.{not-not}
 use Rattle.re_forests.proofs.TrimmedEdges.{Fine, survive, survivors}
 use Rattle.re_forests.proofs.TreeWalks.{Walk, kind_add, kind_not, kind_twice, leads_of_walk, walk_as_long, walk_back, walk_edge, walk_in, walk_joined, walk_kind, walk_part}
 use Rattle.re_forests.specs.Flexible.{Leads, side}
 use Rattle.re_forests.specs.OnForests.{SolvesOn, label_towards}
-use Rattle.re_labels.proofs.Membership.{Contains-count_from}
+use Rattle.re_labels.proofs.Membership.{Contains-count_from, AllByRecursion-contains, Contains-here}
 use Rattle.re_labels.specs.Lists.{count_from}
-use Rattle.re_layers.proofs.Membership.{AllByRecursion-contains, Contains-here}
 use Rattle.re_layers.specs.Networks.{IsForest, IsLocal, Network}
 use Rattle.re_problem.specs.Problems.{IsProblem, Problem}
 use Rattle.re_table.specs.Constraints.{Constraint, Has, IsConstraint}

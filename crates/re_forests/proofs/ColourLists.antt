@@ -1,7 +1,6 @@
 -- Lists of colours that may stand around the nodes of a properly coloured tree: one colour around an active node, different ones around a passive one.
-use Rattle.std.proofs.Common.{◌≡◌, ℕ, zero, suc, ◌+◌, ◌≤◌, ◌<◌, List, [], ◌∷◌, map, refl, sym, ◌∙◌, ap, subst, arith, inl, inr}
+use Rattle.std.proofs.Common.{◌≡◌, ℕ, zero, suc, ◌+◌, ◌≤◌, ◌<◌, List, ◌∷◌, map, refl, sym, ◌∙◌, ap, subst, arith, inl, inr}
 use Rattle.std.specs.Prelude.{Contains, replicate}
-use Rattle.std.proofs.lemmas.Bool.{cases_lt}
 use Rattle.re_labels.proofs.Rearranging.{Contains-Rearranged, Rearranged-sym}
 use Rattle.re_labels.proofs.Sorting.{AllByRecursion-Rearranged, Rearranged-sorted, length-sorted, sorted_again, sorted_rises}
 use Rattle.re_labels.specs.Configs.{sorted}
@@ -9,11 +8,12 @@ use Rattle.re_labels.specs.Rearranging.{Rearranged, chained, kept, swapped, unmo
 use Rattle.re_families.proofs.Whole.{alike_rise}
 use Rattle.re_given.proofs.Colourings.{colour_there, colours_there}
 use Rattle.re_given.specs.Unavoidable.{colouring}
-use Rattle.re_labels.specs.Lists.{IsRising, count_from}
+use Rattle.re_labels.specs.Lists.{count_from}
 use Rattle.re_laws.proofs.Ports.{AllByRecursion-count, length-ports}
-use Rattle.re_layers.proofs.Membership.{Contains-cases, Contains-here, Contains-later, Contains-none}
+use Rattle.re_labels.proofs.Membership.{Contains-cases, Contains-here, Contains-later, Contains-none}
 use Rattle.re_layers.specs.Networks.{AreDifferent}
 use Rattle.re_table.specs.Constraints.{Has}
+use Rattle.re_local.proofs.ColouredLocal.{rising_strictly}
 
 -- ---- one colour
 pub map-one : (f : ℕ → ℕ) (x i n : ℕ) → ((k : ℕ) → f k ≡ x) → map f (count_from i n) ≡ replicate n x
@@ -35,17 +35,6 @@ different-Rearranged (swapped {x = x} {y = y} {xs = xs}) apart = (
 )
 different-Rearranged (chained first next) apart = different-Rearranged next (different-Rearranged first apart)
 
-strictly : (xs : List ℕ) → IsRising (λ x y. x ≤ y) xs → AreDifferent xs → IsRising (λ x y. x < y) xs
-strictly [] rises apart = tt
-strictly (x ∷ []) rises apart = tt
-strictly (x ∷ y ∷ xs) rises apart = (
-  elim (cases_lt x y) [
-    | inl less ↦ less
-    | inr more ↦ (let low : x ≤ y = rises.0 in let same : y ≡ x = omega (arith, more, low) in absurd (apart.0 (subst (Contains (y ∷ xs)) same (Contains-here y xs))))
-  ],
-  strictly (y ∷ xs) rises.1 apart.1,
-)
-
 counted : (f : ℕ → ℕ) (i n y : ℕ) → Contains (map f (count_from i n)) y → (k : ℕ) × (i ≤ k) × (k < i + n) × (y ≡ f k)
 counted f i zero y held = absurd (Contains-none y held)
 counted f i (suc n) y held = elim (Contains-cases y (f i) (map f (count_from (suc i) n)) held) [
@@ -65,6 +54,6 @@ different_there a p c f below apart =
     let xs = map f (count_from 0 p) in
     let moved : Rearranged xs (sorted xs) = Rearranged-sorted xs in
     colours_there a p c (sorted xs) (length-sorted xs ∙ length-ports f 0 p) (
-      strictly (sorted xs) (sorted_rises xs) (different-Rearranged moved (different-count f 0 p (λ j k less l. apart j k less (omega (arith, l))))),
+      rising_strictly (sorted xs) (sorted_rises xs) (different-Rearranged moved (different-count f 0 p (λ j k less l. apart j k less (omega (arith, l))))),
       AllByRecursion-Rearranged (λ x. x < c) moved (AllByRecursion-count (λ x. x < c) f 0 p (λ k l. let e : 0 + k ≡ k = omega arith in rw e (below k l))),
     )

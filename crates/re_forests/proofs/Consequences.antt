@@ -6,11 +6,12 @@ use Rattle.std.proofs.lemmas.Nat.{pow-add}
 use Rattle.re_classes.specs.Classes.{IsAboveLog, IsAboveLogStar, IsMoreThanConstant}
 use Rattle.re_forests.specs.OnForests.{SolvableOnForests, SolvesOn}
 use Rattle.re_forests.proofs.ViewsLinked.{on_views, solves_active, solves_passive}
-use Rattle.re_forests.specs.ToViews.{IsAboveLogOnForests, IsAboveLogStarOnForests, IsMoreThanConstantOnForests}
-use Rattle.re_layers.specs.Networks.{IsForest, Network}
-use Rattle.re_local.proofs.Towers.{below_power, tower-next}
-use Rattle.re_local.specs.LocalAlgorithms.{AreDifferent, SolvableLocal, behind_passive, shown}
-use Rattle.re_local.specs.Towers.{tower}
+use Rattle.re_forests.specs.Classes.{IsAboveLogOnForests, IsAboveLogStarOnForests}
+use Rattle.re_forests.specs.ToViews.{IsMoreThanConstantOnForests}
+use Rattle.re_layers.specs.Networks.{AreDifferent, IsForest, Network}
+use Rattle.re_layers.proofs.Towers.{below_power, tower-next}
+use Rattle.re_local.specs.LocalAlgorithms.{SolvableLocal, behind_passive, shown}
+use Rattle.re_layers.specs.Towers.{tower}
 use Rattle.re_problem.specs.Problems.{IsProblem, Problem}
 
 pub link : (problem : Problem) (N T : ℕ) → IsProblem problem → SolvableOnForests problem ((1 + problem.active.degree) * N) T → SolvableLocal problem N (T + 1)

@@ -9,8 +9,7 @@ use Rattle.re_forests.proofs.Cuts.{IsCutting}
 use Rattle.re_forests.proofs.Growing.{IsHanging-star, active_filled, filled, filled_cutting, fills, missing, near_filled, room, star, star_kids, star_kind, star_under}
 use Rattle.re_forests.proofs.Hung.{Step, down, inner, near_at, near_of_step, step_of, up}
 use Rattle.re_forests.proofs.TreeWalks.{Walk, walk_edge, walk_in, walk_one_more}
-use Rattle.re_labels.proofs.Membership.{Contains-count_from}
-use Rattle.re_layers.proofs.Membership.{Contains-here, Contains-map}
+use Rattle.re_labels.proofs.Membership.{Contains-count_from, Contains-here, Contains-map}
 use Rattle.re_layers.specs.Networks.{Network}
 
 -- from each edge, in each of its directions, one comes to a leaf through at most S nodes

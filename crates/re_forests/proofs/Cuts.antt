@@ -1,10 +1,12 @@
 -- A network is a forest where each of its edges cuts it: nothing else leads from one side of the edge to the other.
-use Rattle.std.proofs.Common.{◌≡◌, ℕ, zero, suc, ◌≤◌, ◌<◌, Bool, true, false, cond, List, [], ◌∷◌, ◌++◌, length, refl, sym, ◌∙◌, ap, subst, ◌⊎◌, inl, inr}
-use Rattle.std.specs.Prelude.{Contains, not, ◌==◌, filter, flat_map, if◌then◌else◌}
-use Rattle.std.proofs.lemmas.Bool.{eq-eqb, false≢true}
-use Rattle.std.proofs.lemmas.List.Elements.{Contains-append_cases}
-use Rattle.re_layers.proofs.Membership.{Contains-cases, Contains-filter_cases, Contains-flat_map, Contains-flat_map_cases, Contains-here, Contains-later, Contains-none}
+use Rattle.std.proofs.Common.{◌≡◌, ℕ, zero, suc, ◌≤◌, ◌<◌, Bool, true, false, List, [], ◌∷◌, length, refl, sym, ◌∙◌, ap, subst, ◌⊎◌, inl, inr}
+use Rattle.std.specs.Prelude.{Contains, not, ◌==◌, flat_map, if◌then◌else◌}
+use Rattle.std.proofs.lemmas.Bool.{false≢true}
+use Rattle.re_labels.proofs.Membership.{Contains-cases, Contains-flat_map, Contains-flat_map_cases, Contains-here, Contains-later, Contains-none}
 use Rattle.re_layers.specs.Networks.{AreDifferent, IsForest, Network, ball, branch, others}
+use Rattle.re_layers.proofs.Rooted.{Different-append, others_other}
+use Rattle.re_layers.proofs.Balls.{others_near}
+use Rattle.re_layers.proofs.Different.{Different-filter}
 
 -- the two sides of an edge
 pub record IsCut (G : Network) (v w : ℕ) : Type 0 where
@@ -21,29 +23,6 @@ pub record IsCutting (a p N : ℕ) (G : Network) : Type 0 where
   pub both : (v w : ℕ) → Contains (G.near v) w → Contains (G.near w) v
   pub once : (v : ℕ) → AreDifferent (G.near v)
   pub cuts : (v w : ℕ) → Contains (G.near v) w → IsCut G v w
-
-pub different_append : (xs ys : List ℕ) → AreDifferent xs → AreDifferent ys → ((x : ℕ) → Contains xs x → Contains ys x → ⊥) → AreDifferent (xs ++ ys)
-different_append [] ys h k apart = k
-different_append (x ∷ xs) ys h k apart = (
-  λ held. elim (Contains-append_cases xs ys x held) [ inl l ↦ h.0 l | inr r ↦ apart x (Contains-here x xs) r ],
-  different_append xs ys h.1 k (λ y l r. apart y (Contains-later y x xs l) r),
-)
-
-different_filter : (test : ℕ → Bool) (xs : List ℕ) → AreDifferent xs → AreDifferent (filter test xs)
-different_filter test [] h = tt
-different_filter test (x ∷ xs) h = by (test x) (different_filter test xs h.1)
-  where
-    by : (b : Bool) → AreDifferent (filter test xs) → AreDifferent (cond b (x ∷ filter test xs) (filter test xs))
-    by true rest = (λ held. h.0 (Contains-filter_cases test xs x held).0, rest)
-    by false rest = rest
-
-pub not_other : (G : Network) (u v w : ℕ) → Contains (others G u v) w → w ≡ u → ⊥
-not_other G u v w held e =
-    let test : not (w == u) ≡ true = (Contains-filter_cases (λ x. not (x == u)) (G.near v) w held).1 in
-    false≢true (sym (ap not (eq-eqb w u e)) ∙ test)
-
-near_of : (G : Network) (u v w : ℕ) → Contains (others G u v) w → Contains (G.near v) w
-near_of G u v w held = (Contains-filter_cases (λ x. not (x == u)) (G.near v) w held).0
 
 first_in : (G : Network) (k u v : ℕ) → Contains (branch G k u v) v
 first_in G zero u v = Contains-here v []
@@ -65,7 +44,7 @@ module _ (G : Network) where
         let not_there : Contains (branch G k y z) q → ⊥ = λ h. avoid (piece_in G k u y z q other h) in
         let z_not : z ≡ q → ⊥ = λ e. not_there (subst (λ c. Contains (branch G k y z) c) e (first_in G k y z)) in
         stays v w q cut end k y z x not_there there
-        ∙ sym (cut.same y z (near_of G u y z other) (λ e f. which end (λ g. not_here (e ∙ sym g)) (λ g. z_not (f ∙ sym g)))
+        ∙ sym (cut.same y z (others_near G u y z other) (λ e f. which end (λ g. not_here (e ∙ sym g)) (λ g. z_not (f ∙ sym g)))
         (λ e f. which end (λ g. z_not (f ∙ sym g)) (λ g. not_here (e ∙ sym g))))
   ]
     where
@@ -85,10 +64,10 @@ module _ (G : Network) where
       | inr later ↦
           let (z, other, there) = Contains-flat_map_cases (λ z. branch G k w z) (others G v w) v later in
           let cut = cuts v w edge in
-          let near = near_of G v w z other in
+          let near = others_near G v w z other in
           let along : cut.side v ≡ cut.side z = stays v w w cut (inr refl) k w z v (onwards k w z near) there in
           let step : cut.side w ≡ cut.side z = cut.same w z near
-          (λ e f. false≢true (sym cut.there ∙ ap cut.side e ∙ cut.here)) (λ e f. not_other G v w z other f) in
+          (λ e f. false≢true (sym cut.there ∙ ap cut.side e ∙ cut.here)) (λ e f. others_other G v w z other f) in
           false≢true (sym cut.there ∙ step ∙ sym along ∙ cut.here)
     ]
 
@@ -96,7 +75,7 @@ module _ (G : Network) where
         → ((w : ℕ) → Contains ws w → AreDifferent (branch G k v w)) → AreDifferent (flat_map (λ w. branch G k v w) ws)
     pieces k v [] edges apart each = tt
     pieces k v (w ∷ ws) edges apart each =
-        different_append (branch G k v w) (flat_map (λ w. branch G k v w) ws) (each w (Contains-here w ws))
+        Different-append (branch G k v w) (flat_map (λ w. branch G k v w) ws) (each w (Contains-here w ws))
         (pieces k v ws (λ z held. edges z (Contains-later z w ws held)) apart.1 (λ z held. each z (Contains-later z w ws held)))
         (λ x l r.
         let (z, held, there) = Contains-flat_map_cases (λ w. branch G k v w) ws x r in
@@ -120,7 +99,7 @@ module _ (G : Network) where
       branches : (k u v : ℕ) → AreDifferent (branch G k u v)
       branches zero u v = (λ held. Contains-none v held, tt)
       branches (suc k) u v =
-          around k v (others G u v) (λ w held. near_of G u v w held) (different_filter (λ w. not (w == u)) (G.near v) (once v)) (λ w held. branches k v w)
+          around k v (others G u v) (λ w held. others_near G u v w held) (Different-filter (λ w. not (w == u)) (G.near v) (once v)) (λ w held. branches k v w)
 
       balls : (v k : ℕ) → AreDifferent (ball G k v)
       balls v zero = (λ held. Contains-none v held, tt)

@@ -5,14 +5,14 @@ use Rattle.std.specs.List.{AllByRecursion}
 use Rattle.re_labels.proofs.Rearranging.{Rearranged-map, Rearranged-refl}
 use Rattle.re_labels.specs.Rearranging.{Rearranged, chained, kept, swapped}
 use Rattle.re_forests.proofs.Growing.{IsFull}
-use Rattle.re_forests.proofs.Ports.{Has-Rearranged, at_ports, length-Has, near_differ}
+use Rattle.re_forests.proofs.Ports.{Has-Rearranged, at_ports, near_differ}
 use Rattle.re_forests.specs.Flexible.{Joins, side}
 use Rattle.re_forests.specs.OnForests.{SolvesOn, label_towards}
-use Rattle.re_labels.proofs.Membership.{Contains-map_cases}
-use Rattle.re_layers.proofs.Membership.{AllByRecursion-from_contains, Contains-cases, Contains-here, Contains-later, Contains-none}
+use Rattle.re_labels.proofs.Membership.{Contains-map_cases, AllByRecursion-from_contains, Contains-cases, Contains-here, Contains-later, Contains-none}
 use Rattle.re_layers.specs.Networks.{IsForest, Network}
 use Rattle.re_problem.specs.Problems.{IsProblem, Problem}
 use Rattle.re_table.specs.Constraints.{Has}
+use Rattle.re_laws.proofs.Mapping.{count_of}
 
 -- the label on the edge of v and w, which its active node puts there
 abbrev pub label_on : Network → (ℕ → List ℕ) → ℕ → ℕ → ℕ
@@ -67,7 +67,7 @@ module _ (problem : Problem) (N : ℕ) (G : Network) (labels : ℕ → List ℕ)
           let count : length (G.near v) ≡ problem.active.degree = full ∙ ap (λ b. if b then problem.active.degree else problem.passive.degree) e in
           let has : Has problem.active (labels v) = solves.active v e count in
           let all : map (λ w. label_towards G labels w v) (G.near v) ≡ labels v =
-          at_ports (G.near v) (labels v) (near_differ G forest v) (length-Has problem.labels problem.active (labels v) is.active has ∙ sym count) in
+          at_ports (G.near v) (labels v) (near_differ G forest v) (count_of problem.labels problem.active (labels v) is.active has ∙ sym count) in
           subst (λ b. Has problem.active (map (λ w. if b then label_towards G labels w v else label_towards G labels v w) (G.near v))) (sym e)
           (subst (λ l. Has problem.active l) (sym all) has)
       by false e =

@@ -5,7 +5,7 @@ use Rattle.std.specs.List.{AllByRecursion, position_or_len}
 use Rattle.std.proofs.lemmas.Bool.{cond_both, eqb-true, eqb-false, ne_eqb, cases_Bool}
 use Rattle.re_labels.proofs.Rearranging.{Rearranged-refl}
 use Rattle.re_labels.specs.Rearranging.{Rearranged, chained, kept, swapped}
-use Rattle.re_layers.proofs.Membership.{Contains-cases, Contains-none}
+use Rattle.re_labels.proofs.Membership.{Contains-cases, Contains-none}
 
 -- the port that leads to a node
 abbrev pub port : List ℕ → ℕ → ℕ

@@ -2,15 +2,14 @@
 use Rattle.std.proofs.Common.{◌≡◌, ℕ, zero, suc, ◌+◌, ◌-◌, ◌*◌, ◌/◌, ◌%◌, ◌≤◌, ◌<◌, Bool, true, false, cond, eqb, leb, ltb, List, [], ◌∷◌, ◌++◌, map, length, refl, sym, ◌∙◌, ap, ap₂, subst, arith, inl, inr, length-append, append-nil}
 use Rattle.std.specs.Prelude.{Contains, not, if◌then◌else◌}
 use Rattle.std.proofs.Math.Nat.{mod-eq_of_lt}
-use Rattle.std.proofs.lemmas.Bool.{eq-eqb, lt-ltb, ne_eqb}
+use Rattle.std.proofs.lemmas.Bool.{eq-eqb, le-ltb, lt-ltb, ne_eqb}
 use Rattle.std.proofs.lemmas.Bool.Decides.{leb_tells}
 use Rattle.std.proofs.lemmas.List.{length-map}
 use Rattle.std.proofs.lemmas.Nat.{mod-mul-add}
 use Rattle.re_forests.proofs.Cuts.{IsCutting}
 use Rattle.re_forests.proofs.Hung.{IsHanging, Step, active_inner, hung, hung_cutting, inner, up, down, near_hung, near_inner, only, step_of}
-use Rattle.re_labels.proofs.Membership.{Contains-count_from, count_from_range, length-count_from}
+use Rattle.re_labels.proofs.Membership.{Contains-count_from, count_from_range, length-count_from, AllByRecursion-from_contains, Contains-none}
 use Rattle.re_labels.specs.Lists.{count_from}
-use Rattle.re_layers.proofs.Membership.{AllByRecursion-from_contains, Contains-none}
 use Rattle.re_layers.specs.Networks.{AreDifferent, AreSame, Network}
 
 -- ---- stars
@@ -90,9 +89,6 @@ few_single : (b : Bool) (z : ℕ) → length (cond b (z ∷ []) []) ≤ 1
 few_single true z = omega arith
 few_single false z = omega arith
 
-pub ltb_false : (i l : ℕ) → l ≤ i → ltb i l ≡ false
-ltb_false i l le = elim (leb_tells (suc i) l) [ inl (t, h) ↦ absurd (omega arith) | inr (t, h) ↦ t ]
-
 path_same : (j i : ℕ) → (i ≡ j → ⊥) → ltb j (suc i) ≡ ltb j i
 path_same j i ne = elim (leb_tells (suc j) i) [
   | inl (t, le) ↦ lt-ltb j (suc i) (omega arith) ∙ sym t
@@ -109,8 +105,8 @@ IsHanging-path = record {
   root = λ b. refl;
   turn = λ b i. refl;
   self = λ j. lt-ltb j (suc j) (omega arith);
-  top = λ j. ltb_false j 0 (omega arith);
-  above = λ j. ltb_false j j (omega arith);
+  top = λ j. le-ltb j 0 (omega arith);
+  above = λ j. le-ltb j j (omega arith);
   same = path_same;
 }
 

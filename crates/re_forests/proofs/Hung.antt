@@ -7,10 +7,11 @@ use Rattle.std.proofs.lemmas.Bool.Decides.{eqb_tells, leb_tells}
 use Rattle.std.proofs.lemmas.List.{length-map}
 use Rattle.std.proofs.lemmas.List.Elements.{Contains-append_cases, Contains-append_left, Contains-append_right}
 use Rattle.std.proofs.lemmas.Nat.{div-add-mod', div-mul-add, mod-mul-add, mod_below}
-use Rattle.re_forests.proofs.Cuts.{IsCut, IsCutting, different_append}
-use Rattle.re_labels.proofs.Membership.{Contains-map_cases}
-use Rattle.re_layers.proofs.Membership.{Contains-cases, Contains-here, Contains-map, Contains-none}
+use Rattle.std.proofs.Math.Bool.{not-not}
+use Rattle.re_forests.proofs.Cuts.{IsCut, IsCutting}
+use Rattle.re_labels.proofs.Membership.{Contains-map_cases, Contains-cases, Contains-here, Contains-map, Contains-none}
 use Rattle.re_layers.specs.Networks.{AreDifferent, Network}
+use Rattle.re_layers.proofs.Rooted.{Different-append}
 
 -- what hangs where: the numbers that hang on a number of a tree of some size, the kinds of the numbers, and which are below number suc j
 pub record IsHanging (par : ℕ → ℕ) (kids : ℕ → ℕ → List ℕ) (kind : Bool → ℕ → Bool) (under : ℕ → ℕ → Bool) : Type 0 where
@@ -53,10 +54,6 @@ different_map f (x ∷ xs) one h = (
   λ held. (let (y, at, e) = Contains-map_cases f xs (f x) held in h.0 (subst (Contains xs) (one y x e) at)),
   different_map f xs one h.1,
 )
-
-pub not-not : (b : Bool) → not (not b) ≡ b
-not-not true = refl
-not-not false = refl
 
 pub IsCut-back : (G : Network) (v w : ℕ) → IsCut G v w → IsCut G w v
 IsCut-back G v w cut = record {
@@ -279,7 +276,7 @@ module _ (K : Network) (Q : ℕ) (par : ℕ → ℕ) (kids : ℕ → ℕ → Lis
 
       different : (i v : ℕ) → v < Q → AreDifferent (near_hung K Q par kids size i v)
       different i v l =
-          different_append (own K Q par (size v) i v) (map (λ j. j * Q + v) (kids (size v) i)) (different_own i v)
+          Different-append (own K Q par (size v) i v) (map (λ j. j * Q + v) (kids (size v) i)) (different_own i v)
           (different_map (λ j. j * Q + v) (kids (size v) i) (λ i j e. injective v i j l e) (is.once (size v) i)) (λ y first second. apart_own i v y l first second)
 
       cut : (x y : ℕ) → Step K Q par size x y → IsCut (hung K Q par kids kind size) x y

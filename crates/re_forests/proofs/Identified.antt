@@ -1,5 +1,5 @@
 -- Views that fit identifiers: these are below N, and the ports of a node have one; how often one is shown.
-use Rattle.std.proofs.Common.{◌≡◌, ℕ, zero, suc, pred, ◌+◌, ◌≤◌, ◌<◌, List, [], ◌∷◌, ◌++◌, length, refl, sym, ap, ap₂, subst, arith, ◌⊎◌, inl, inr}
+use Rattle.std.proofs.Common.{◌≡◌, ℕ, zero, suc, pred, ◌+◌, ◌≤◌, ◌<◌, List, [], ◌∷◌, ◌++◌, length, refl, sym, ap₂, subst, arith, ◌⊎◌, inl, inr}
 use Rattle.std.specs.Prelude.{Contains, replicate}
 use Rattle.std.proofs.lemmas.List.Elements.{Contains-append_left, Contains-append_right}
 use Rattle.re_labels.proofs.LawsOfRows.{multisets_law}
@@ -13,7 +13,8 @@ use Rattle.re_given.specs.InputViews.{FitsAround, InputView, known, payloads}
 use Rattle.re_labels.proofs.Membership.{AllByRecursion-contains, Contains-here, Contains-map_cases, count_from_range}
 use Rattle.re_labels.specs.Lists.{count_from}
 use Rattle.re_local.proofs.ColouredLocal.{alike, all_alike}
-use Rattle.re_local.specs.LocalAlgorithms.{AreDifferent, behind_active, behind_passive, identified}
+use Rattle.re_layers.specs.Networks.{AreDifferent}
+use Rattle.re_local.specs.LocalAlgorithms.{behind_active, behind_passive, identified}
 use Rattle.re_table.specs.Constraints.{Has}
 use Rattle.re_laws.specs.Trees.{Child, IsTree, cut, end, leaf, more, put}
 
@@ -84,13 +85,6 @@ length-most d e (suc t) zero end tree = omega arith
 length-most d e (suc t) (suc n) end tree = absurd tree
 length-most d e (suc t) zero (more back label branch rest) tree = absurd tree
 length-most d e (suc t) (suc n) (more back label branch rest) tree = let later = length-most d e (suc t) n rest tree.3 in omega arith
-
-pub length-children : (d e t n : ℕ) (x : InputView) → IsTree d e (suc t) n x → length (payloads x) ≡ n
-length-children d e t n leaf tree = absurd tree
-length-children d e t zero end tree = refl
-length-children d e t (suc n) end tree = absurd tree
-length-children d e t zero (more back label branch rest) tree = absurd tree
-length-children d e t (suc n) (more back label branch rest) tree = ap suc (length-children d e t n rest tree.3)
 
 module _ (a p N : ℕ) (some : 1 ≤ a) (some' : 1 ≤ p) where
   below_passive : (labels : List ℕ) (x : ℕ) → Has (identified a p N).passive labels → Contains labels x → x < N

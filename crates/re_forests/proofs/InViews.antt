@@ -5,7 +5,7 @@ use Rattle.std.specs.Prelude.{Contains}
 use Rattle.std.specs.List.{AllByRecursion, list_all}
 use Rattle.std.proofs.lemmas.List.Elements.{Contains-get_or}
 use Rattle.re_labels.specs.Configs.{sorted}
-use Rattle.re_forests.proofs.Ports.{length-Has, placed}
+use Rattle.re_forests.proofs.Ports.{placed}
 use Rattle.re_forests.proofs.Trimming.{around_stands, has_within, left_first, left_next, trimmed_set_trimmed}
 use Rattle.re_forests.specs.Flexible.{side}
 use Rattle.re_forests.specs.TrimmedSets.{held, left_after, stands, trimmed_problem, trimmed_set}
@@ -15,9 +15,10 @@ use Rattle.re_laws.specs.Algorithms.{Plain, SolvesBy, answer, around, at_port, b
 use Rattle.re_problem.specs.Problems.{IsProblem, Problem}
 use Rattle.re_table.specs.Constraints.{Has}
 use Rattle.re_forests.specs.TrimmedWithPorts.{NothingLeftLaw, TrimmedProblemLaw}
-use Rattle.re_laws.proofs.Branchwise.{back-shift, backs-child}
+use Rattle.re_laws.proofs.JoinedBranches.{back-shift, backs-child}
 use Rattle.re_laws.proofs.ViewLaws.{IsTree-full, IsView-pad, IsView-shift, child_of, cut-pad, shift-shift}
 use Rattle.re_laws.specs.Trees.{IsView, full, pad, shift}
+use Rattle.re_laws.proofs.Mapping.{count_of}
 
 module _ (problem : Problem) (is : IsProblem problem) (T : ℕ) (algorithm : Plain → List ℕ) (solves : SolvesBy problem T algorithm) where
   abbrev a : ℕ
@@ -66,7 +67,7 @@ module _ (problem : Problem) (is : IsProblem problem) (T : ℕ) (algorithm : Pla
   has_active v is_v = solves.active v is_v
 
   size : (v : Plain) → IsView a p T v → length (algorithm v) ≡ a
-  size v is_v = length-Has problem.labels problem.active (algorithm v) is.active (has_active v is_v)
+  size v is_v = count_of problem.labels problem.active (algorithm v) is.active (has_active v is_v)
 
   member : (v : Plain) (i : ℕ) → IsView a p T v → 1 ≤ i → i ≤ a → Contains (algorithm v) (at_port (algorithm v) i)
   member v i is_v low high = Contains-get_or (algorithm v) (pred i) 0 (let count = size v is_v in omega (arith, count, low, high))

@@ -54,7 +54,6 @@ pub mod Plants
 pub mod Ports
 pub mod PortsOnForests
 pub mod Rounds
-pub mod SameTowers
 pub mod SeenNear
 pub mod ShownAlike
 pub mod ShownPlaces

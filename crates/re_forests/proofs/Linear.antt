@@ -9,7 +9,7 @@ use Rattle.re_forests.proofs.Levels.{two_levels}
 use Rattle.re_forests.proofs.Link.{back, link, link_cutting, linked_of, Linked, new, old}
 use Rattle.re_forests.specs.OnForests.{SolvableOnForests}
 use Rattle.re_forests.specs.Trimmed.{HasTwoLevels, LinearLaw}
-use Rattle.re_layers.proofs.Membership.{Contains-here, Contains-none}
+use Rattle.re_labels.proofs.Membership.{Contains-here, Contains-none}
 use Rattle.re_layers.specs.Networks.{Network}
 
 -- ---- two edges, from 0 to 1 and from 2 to 3

@@ -4,10 +4,13 @@ use Rattle.std.specs.Prelude.{Contains, not, if◌then◌else◌}
 use Rattle.std.proofs.lemmas.Bool.{eq-eqb, false≢true}
 use Rattle.std.proofs.lemmas.Bool.Decides.{eqb_tells}
 use Rattle.std.proofs.lemmas.List.Elements.{Contains-append_cases, Contains-append_left, Contains-append_right}
-use Rattle.re_forests.proofs.Cuts.{IsCut, IsCutting, different_append}
-use Rattle.re_forests.proofs.Hung.{IsCut-back, not-not, only}
-use Rattle.re_layers.proofs.Membership.{Contains-here, Contains-none}
+use Rattle.std.proofs.Math.Bool.{not-not}
+use Rattle.re_forests.proofs.Cuts.{IsCut, IsCutting}
+use Rattle.re_forests.proofs.Hung.{IsCut-back, only}
+use Rattle.re_labels.proofs.Membership.{Contains-here, Contains-none}
 use Rattle.re_layers.specs.Networks.{AreDifferent, Network}
+use Rattle.re_layers.proofs.Rooted.{Different-append}
+use Rattle.re_labels.proofs.Tests.{eqb-true}
 
 -- the new neighbours of x
 abbrev pub added : ℕ → ℕ → ℕ → List ℕ
@@ -26,15 +29,12 @@ in_single : (b : Bool) (z y : ℕ) → Contains (cond b (z ∷ []) []) y → (b 
 in_single true z y held = (refl, only y z held)
 in_single false z y held = absurd (Contains-none y held)
 
-eqb_true : (x u : ℕ) → eqb x u ≡ true → x ≡ u
-eqb_true x u e = elim (eqb_tells x u) [ inl (t, f) ↦ f | inr (t, f) ↦ absurd (false≢true (sym t ∙ e)) ]
-
 pub linked_of : (G : Network) (u v x y : ℕ) → Contains ((link G u v).near x) y → Linked G u v x y
 linked_of G u v x y held = elim (Contains-append_cases (G.near x) (added u v x) y held) [
   | inl first ↦ old first
   | inr second ↦ elim (Contains-append_cases (cond (eqb x u) (v ∷ []) []) (cond (eqb x v) (u ∷ []) []) y second) [
-    | inl l ↦ (let (t, e) = in_single (eqb x u) v y l in new (eqb_true x u t) e)
-    | inr r ↦ (let (t, e) = in_single (eqb x v) u y r in back (eqb_true x v t) e)
+    | inl l ↦ (let (t, e) = in_single (eqb x u) v y l in new (eqb-true x u t) e)
+    | inr r ↦ (let (t, e) = in_single (eqb x v) u y r in back (eqb-true x v t) e)
   ]
 ]
 
@@ -110,8 +110,8 @@ module _ (G : Network) (u v : ℕ) (part : ℕ → Bool) (first : part u ≡ tru
 
   across_parts : (x y : ℕ) → Contains (G.near x) y → Contains (added u v x) y → ⊥
   across_parts x y at held = elim (Contains-append_cases (cond (eqb x u) (v ∷ []) []) (cond (eqb x v) (u ∷ []) []) y held) [
-    | inl l ↦ (let (t, e) = in_single (eqb x u) v y l in false≢true (sym second ∙ sym (ap part e) ∙ sym (kept x y at) ∙ ap part (eqb_true x u t) ∙ first))
-    | inr r ↦ (let (t, e) = in_single (eqb x v) u y r in false≢true (sym second ∙ sym (ap part (eqb_true x v t)) ∙ kept x y at ∙ ap part e ∙ first))
+    | inl l ↦ (let (t, e) = in_single (eqb x u) v y l in false≢true (sym second ∙ sym (ap part e) ∙ sym (kept x y at) ∙ ap part (eqb-true x u t) ∙ first))
+    | inr r ↦ (let (t, e) = in_single (eqb x v) u y r in false≢true (sym second ∙ sym (ap part (eqb-true x v t)) ∙ kept x y at ∙ ap part e ∙ first))
   ]
 
   single : (b : Bool) (z : ℕ) → AreDifferent (cond b (z ∷ []) [])
@@ -120,7 +120,7 @@ module _ (G : Network) (u v : ℕ) (part : ℕ → Bool) (first : part u ≡ tru
 
   different_added : (x : ℕ) → AreDifferent (added u v x)
   different_added x =
-      different_append (cond (eqb x u) (v ∷ []) []) (cond (eqb x v) (u ∷ []) []) (single (eqb x u) v) (single (eqb x v) u)
+      Different-append (cond (eqb x u) (v ∷ []) []) (cond (eqb x v) (u ∷ []) []) (single (eqb x u) v) (single (eqb x v) u)
       (λ y l r. (let (s, e) = in_single (eqb x u) v y l in let (t, f) = in_single (eqb x v) u y r in false≢true (sym second ∙ ap part (sym e ∙ f) ∙ first)))
 
   pub link_cutting : (a p N : ℕ) → IsCutting a p N G → u < N → v < N → G.active v ≡ not (G.active u)
@@ -130,7 +130,7 @@ module _ (G : Network) (u v : ℕ) (part : ℕ → Bool) (first : part u ≡ tru
     below = λ x y at. below x y (linked_of G u v x y at);
     turns = λ x y at. turned x y (linked_of G u v x y at);
     both = λ x y at. near_of_linked G u v y x (linked_back G u v x y is.both (linked_of G u v x y at));
-    once = λ x. different_append (G.near x) (added u v x) (is.once x) (different_added x) (λ y first second. across_parts x y first second);
+    once = λ x. Different-append (G.near x) (added u v x) (is.once x) (different_added x) (λ y first second. across_parts x y first second);
     cuts = λ x y at. cut x y is.cuts (linked_of G u v x y at);
   }
     where

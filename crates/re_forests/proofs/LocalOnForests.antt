@@ -20,11 +20,10 @@ use Rattle.re_forests.proofs.ShownPlaces.{active_shown, passive_shown}
 use Rattle.re_forests.proofs.Views.{payload, view}
 use Rattle.re_forests.specs.FromViews.{LocalOnForestsLaw}
 use Rattle.re_given.specs.InputViews.{FitsAround, InputView, known}
-use Rattle.re_labels.proofs.Membership.{Contains-count_from, count_from_range}
+use Rattle.re_labels.proofs.Membership.{Contains-count_from, count_from_range, Contains-cases, Contains-filter_cases, Contains-map}
 use Rattle.re_labels.proofs.Tests.{below-true, true-below}
 use Rattle.re_labels.specs.Lists.{count_from}
 use Rattle.re_laws.proofs.Ports.{AllByRecursion-count, length-ports}
-use Rattle.re_layers.proofs.Membership.{Contains-cases, Contains-filter_cases, Contains-map}
 use Rattle.re_layers.specs.Networks.{AreDifferent, IsForest, IsLocal, Network}
 use Rattle.re_local.specs.LocalAlgorithms.{SolvesApart, behind_passive, identified, shown}
 use Rattle.re_problem.specs.Problems.{IsProblem, Problem}

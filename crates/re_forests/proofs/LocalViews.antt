@@ -6,7 +6,7 @@ use Rattle.re_forests.proofs.Filled.{port}
 use Rattle.re_forests.proofs.Places.{Place, back_past, back_real, beyond, by_port, colour_of, kind_of, next_past, next_real, places, real}
 use Rattle.re_forests.proofs.Views.{Ported, child, child-alike, others-alike, view, view-alike}
 use Rattle.re_layers.proofs.Locality.{same_fewer, same_near}
-use Rattle.re_layers.proofs.Membership.{map-alike}
+use Rattle.re_labels.proofs.Membership.{map-alike}
 use Rattle.re_layers.specs.Networks.{AreSame, IsLocal, Network}
 use Rattle.re_laws.specs.Trees.{others}
 

@@ -27,17 +27,6 @@ IsNode (more back name branch rest) = Unit {0}
 abbrev pub moved : ℕ → ℕ → Child ℕ → Tree ℕ → Tree ℕ
 moved r k c t = put (pred c.back) (record { back = suc k; payload = r; branch = others k t }) c.branch
 
-pub IsNode-put : (k : ℕ) (c : Child ℕ) (t : Tree ℕ) → IsNode (put k c t)
-IsNode-put zero c t = tt
-IsNode-put (suc k) c leaf = tt
-IsNode-put (suc k) c end = tt
-IsNode-put (suc k) c (more back name branch rest) = tt
-
-pub IsNode-child : (k : ℕ) (c : Child ℕ) (t : Tree ℕ) → child_at k t ≡ Some c → IsNode t
-IsNode-child k c leaf at = absurd (cc)
-IsNode-child k c end at = tt
-IsNode-child k c (more back name branch rest) at = tt
-
 pub payloads-put : (k : ℕ) (c : Child ℕ) (t : Tree ℕ) → payloads (put k c t) ≡ insert k c.payload (payloads t)
 payloads-put zero c t = refl
 payloads-put (suc k) c leaf = refl

@@ -13,7 +13,7 @@ use Rattle.re_layers.proofs.ExtendedFull.{extended_full, far, real_near}
 use Rattle.re_layers.proofs.Extending.{active_real, extended, id, inside, left, missing, passes, tree}
 use Rattle.re_layers.proofs.Filters.{filter_all}
 use Rattle.re_layers.proofs.Full.{cut, spread}
-use Rattle.re_layers.proofs.Membership.{Contains-cases, Contains-none, map-alike}
+use Rattle.re_labels.proofs.Membership.{Contains-cases, Contains-none, map-alike}
 use Rattle.re_layers.proofs.NodeNumbers.{place}
 use Rattle.re_layers.specs.Full.{IsFull}
 use Rattle.re_layers.specs.Networks.{AreSame, IsForest, IsLocal, Network}

@@ -1,11 +1,11 @@
 -- Lists in which nothing stands twice, put together of pieces, and lists of ports without one.
 use Rattle.std.proofs.Common.{◌≡◌, ℕ, zero, suc, ◌+◌, Bool, true, false, cond, List, [], ◌∷◌, ◌++◌, map, sym, ◌∙◌, subst, arith, ◌⊎◌, inl, inr}
 use Rattle.std.specs.Prelude.{Contains, filter, flat_map}
-use Rattle.std.proofs.lemmas.List.Elements.{Contains-append_cases, Contains-append_right}
-use Rattle.re_labels.proofs.Membership.{count_from_range}
+use Rattle.std.proofs.lemmas.List.Elements.{Contains-append_cases}
+use Rattle.re_labels.proofs.Membership.{count_from_range, Contains-cases, Contains-filter_cases, Contains-flat_map, Contains-flat_map_cases, Contains-here, Contains-later, Contains-none}
 use Rattle.re_labels.specs.Lists.{count_from}
-use Rattle.re_layers.proofs.Membership.{Contains-cases, Contains-filter_cases, Contains-flat_map, Contains-flat_map_cases, Contains-here, Contains-later, Contains-none}
 use Rattle.re_layers.specs.Networks.{AreDifferent}
+use Rattle.re_layers.proofs.Different.{Different-apart}
 
 -- nothing stands twice
 abbrev pub IsOnce : {X : Type 0} → List X → Type 0
@@ -29,13 +29,6 @@ once_pieces f (x ∷ xs) once each apart =
     (let (y, held, at) = Contains-flat_map_cases f xs z there in
     apart x y z (Contains-here x xs) (Contains-later y x xs held) (λ e. once.0 (subst (Contains xs) (sym e) held)) here at))
 
-once_apart : (xs ys : List ℕ) (z : ℕ) → AreDifferent (xs ++ ys) → Contains xs z → Contains ys z → ⊥
-once_apart [] ys z once l r = Contains-none z l
-once_apart (x ∷ xs) ys z once l r = elim (Contains-cases z x xs l) [
-  | inl e ↦ once.0 (subst (Contains (xs ++ ys)) e (Contains-append_right xs ys z r))
-  | inr later ↦ once_apart xs ys z once.1 later r
-]
-
 once_rest : (xs ys : List ℕ) → AreDifferent (xs ++ ys) → AreDifferent ys
 once_rest [] ys once = once
 once_rest (x ∷ xs) ys once = once_rest xs ys once.1
@@ -47,8 +40,8 @@ pieces_apart f (w ∷ xs) x y z once held held' other at at' =
   where
     by : (x ≡ w) ⊎ Contains xs x → (y ≡ w) ⊎ Contains xs y → (Contains xs x → Contains xs y → ⊥) → ⊥
     by (inl e) (inl e') rest = other (e ∙ sym e')
-    by (inl e) (inr later) rest = once_apart (f w) (flat_map f xs) z once (subst (λ v. Contains (f v) z) e at) (Contains-flat_map f xs y z later at')
-    by (inr later) (inl e) rest = once_apart (f w) (flat_map f xs) z once (subst (λ v. Contains (f v) z) e at') (Contains-flat_map f xs x z later at)
+    by (inl e) (inr later) rest = Different-apart (f w) (flat_map f xs) z once (subst (λ v. Contains (f v) z) e at) (Contains-flat_map f xs y z later at')
+    by (inr later) (inl e) rest = Different-apart (f w) (flat_map f xs) z once (subst (λ v. Contains (f v) z) e at') (Contains-flat_map f xs x z later at)
     by (inr later) (inr later') rest = rest later later'
 
 pub once_filter : {X : Type 0} (test : X → Bool) (xs : List X) → IsOnce xs → IsOnce (filter test xs)

@@ -1,48 +1,25 @@
 -- Path networks are forests of degrees 2 and 2.
-use Rattle.std.proofs.Common.{◌++◌, ◌≡◌, ℕ, zero, suc, ◌≤◌, ◌<◌, Bool, true, false, cond, not, List, [], ◌∷◌, length, sym, ap, ◌∙◌, subst, arith, inl, inr, ◌⊎◌}
-use Rattle.std.specs.Prelude.{Contains, ◌==◌, filter, flat_map, if◌then◌else◌, nat_le}
+use Rattle.std.proofs.Common.{◌≡◌, ℕ, zero, suc, ◌≤◌, ◌<◌, Bool, true, false, not, List, [], ◌∷◌, length, sym, ap, ◌∙◌, subst, arith, inl, inr, ◌⊎◌}
+use Rattle.std.specs.Prelude.{Contains, ◌==◌, flat_map, if◌then◌else◌, nat_le}
 use Rattle.std.proofs.lemmas.Bool.Decides.{eqb_tells}
-use Rattle.std.proofs.lemmas.List.Elements.{Contains-append_cases}
 use Rattle.re_forests.proofs.Leads.{after, twice}
 use Rattle.re_forests.proofs.Rounds.{after_not}
 use Rattle.re_labels.proofs.Membership.{Contains-cases, Contains-filter_cases, Contains-flat_map_cases, Contains-here, Contains-later, Contains-none}
-use Rattle.re_labels.proofs.Tests.{eqb-same}
 use Rattle.re_layers.specs.Networks.{AreDifferent, IsForest, Network, ball, branch, others}
+use Rattle.re_layers.proofs.Rooted.{Different-append, others_other}
+use Rattle.re_layers.proofs.Different.{Different-filter}
 use Rattle.re_forests.proofs.PathNetworks.{active_at, beside, near_cases, near_different, near_has, near_of, ordered, path_network, place, place_below}
 
 -- ---- lists in which nothing stands twice
-pub different_append : (xs ys : List ℕ) → AreDifferent xs → AreDifferent ys → ((x : ℕ) → Contains xs x → Contains ys x → ⊥) → AreDifferent (xs ++ ys)
-different_append [] ys d d' apart = d'
-different_append (x ∷ xs) ys d d' apart = (
-  λ held. elim (Contains-append_cases xs ys x held) [ inl own ↦ d.0 own | inr other ↦ apart x (Contains-here x xs) other ],
-  different_append xs ys d.1 d' (λ z own other. apart z (Contains-later z x xs own) other),
-)
-
 pub different_pieces : (f : ℕ → List ℕ) (ws : List ℕ) → AreDifferent ws → ((w : ℕ) → Contains ws w → AreDifferent (f w))
     → ((v w x : ℕ) → Contains ws v → Contains ws w → Contains (f v) x → Contains (f w) x → v ≡ w) → AreDifferent (flat_map f ws)
 different_pieces f [] d each apart = tt
 different_pieces f (w ∷ ws) d each apart =
-    different_append (f w) (flat_map f ws) (each w (Contains-here w ws)) (different_pieces f ws d.1 (λ v held. each v (Contains-later v w ws held))
+    Different-append (f w) (flat_map f ws) (each w (Contains-here w ws)) (different_pieces f ws d.1 (λ v held. each v (Contains-later v w ws held))
     (λ u v x first second left right. apart u v x (Contains-later u w ws first) (Contains-later v w ws second) left right))
     (λ x own other.
     (let (v, held, at) = Contains-flat_map_cases f ws x other in
     d.0 (subst (Contains ws) (sym (apart w v x (Contains-here w ws) (Contains-later v w ws held) own at)) held)))
-
-pub different_filter : (test : ℕ → Bool) (xs : List ℕ) → AreDifferent xs → AreDifferent (filter test xs)
-different_filter test [] d = tt
-different_filter test (x ∷ xs) d = by (test x) (different_filter test xs d.1)
-  where
-    by : (b : Bool) → AreDifferent (filter test xs) → AreDifferent (cond b (x ∷ filter test xs) (filter test xs))
-    by true rest = (λ held. d.0 (Contains-filter_cases test xs x held).0, rest)
-    by false rest = rest
-
--- a neighbour but u isn't u
-others_apart : (G : Network) (u v w : ℕ) → Contains (others G u v) w → w ≡ u → ⊥
-others_apart G u v w held e = by (w == u) (subst (λ z. (w == z) ≡ true) e (eqb-same w)) (Contains-filter_cases (λ w. not (w == u)) (G.near v) w held).1
-  where
-    by : (b : Bool) → b ≡ true → not b ≡ true → ⊥
-    by true is passes = absurd (cc)
-    by false is passes = absurd (cc)
 
 module _ (id : ℕ → ℕ) (n : ℕ) (first : Bool) (two : 2 ≤ n) (different : (p q : ℕ) → p < n → q < n → id p ≡ id q → p ≡ q) where
   abbrev G : Network
@@ -54,13 +31,13 @@ module _ (id : ℕ → ℕ) (n : ℕ) (first : Bool) (two : 2 ≤ n) (different 
       let (q, l, is, which) = near_of id n first two different (suc p) w low (Contains-filter_cases (λ w. not (w == id p)) (G.near (id (suc p))) w held).0 in
       elim which [
         | inl e ↦ (omega (arith, l, e), is ∙ ap id e)
-        | inr e ↦ absurd (others_apart G (id p) (id (suc p)) w held (is ∙ ap id (let f : q ≡ p = omega (arith, e) in f)))
+        | inr e ↦ absurd (others_other G (id p) (id (suc p)) w held (is ∙ ap id (let f : q ≡ p = omega (arith, e) in f)))
       ]
 
   backward : (p w : ℕ) → suc p < n → Contains (others G (id (suc p)) (id p)) w → (q : ℕ) × (p ≡ suc q) × (w ≡ id q)
   backward p w low held =
       let (q, l, is, which) = near_of id n first two different p w (omega arith) (Contains-filter_cases (λ w. not (w == id (suc p))) (G.near (id p)) w held).0 in
-      elim which [ inl e ↦ absurd (others_apart G (id (suc p)) (id p) w held (is ∙ ap id e)) | inr e ↦ (q, e, is) ]
+      elim which [ inl e ↦ absurd (others_other G (id (suc p)) (id p) w held (is ∙ ap id e)) | inr e ↦ (q, e, is) ]
 
   up : (k p w : ℕ) → suc p < n → Contains (branch G k (id p) (id (suc p))) w → (q : ℕ) × (suc p ≤ q) × (q < n) × (w ≡ id q)
   up zero p w low held = elim (Contains-cases w (id (suc p)) [] held) [ inl e ↦ (suc p, omega arith, low, e) | inr none ↦ absurd (Contains-none w none) ]
@@ -93,7 +70,7 @@ module _ (id : ℕ → ℕ) (n : ℕ) (first : Bool) (two : 2 ≤ n) (different 
         let (q, l, short, e) = up k (suc p) (id (suc p)) more (subst (λ z. Contains (branch G k (id (suc p)) z) (id (suc p))) is at) in
         let f : suc p ≡ q = different (suc p) q low short e in
         absurd (omega (arith, f, l))),
-    different_pieces (λ x. branch G k (id (suc p)) x) (others G (id p) (id (suc p))) (different_filter (λ w. not (w == id p)) (G.near (id (suc p))) (near_different id n first two different (suc p) low))
+    different_pieces (λ x. branch G k (id (suc p)) x) (others G (id p) (id (suc p))) (Different-filter (λ w. not (w == id p)) (G.near (id (suc p))) (near_different id n first two different (suc p) low))
         (λ w near. (let (more, is) = onward p w low near in subst (λ z. AreDifferent (branch G k (id (suc p)) z)) (sym is) (up_different k (suc p) more)))
         (λ v w x left right _ _. (onward p v low left).1 ∙ sym (onward p w low right).1),
   )
@@ -107,7 +84,7 @@ module _ (id : ℕ → ℕ) (n : ℕ) (first : Bool) (two : 2 ≤ n) (different 
         let (r, l, e) = down k q (id p) (omega (arith, less, low)) (subst (λ z. Contains (branch G k (id z) (id q)) (id p)) less (subst (λ z. Contains (branch G k (id p) z) (id p)) is at)) in
         let f : p ≡ r = different p r (omega arith) (omega (arith, l, less, low)) e in
         absurd (omega (arith, f, l, less))),
-    different_pieces (λ x. branch G k (id p) x) (others G (id (suc p)) (id p)) (different_filter (λ w. not (w == id (suc p))) (G.near (id p)) (near_different id n first two different p (omega arith)))
+    different_pieces (λ x. branch G k (id p) x) (others G (id (suc p)) (id p)) (Different-filter (λ w. not (w == id (suc p))) (G.near (id p)) (near_different id n first two different p (omega arith)))
         (λ w near.
         (let (q, less, is) = backward p w low near in
         subst (λ z. AreDifferent (branch G k (id p) z)) (sym is) (subst (λ z. AreDifferent (branch G k (id z) (id q))) (sym less) (down_different k q (omega (arith, less, low))))))

@@ -6,7 +6,7 @@ use Rattle.std.proofs.lemmas.List.Sums.{position_or_len_is}
 use Rattle.re_forests.proofs.Filled.{port}
 use Rattle.re_forests.proofs.Walks.{turned, turned-not}
 use Rattle.re_layers.proofs.Balls.{ball_before, ball_most, ball_near, others_cases}
-use Rattle.re_layers.proofs.Membership.{Contains-flat_map, Contains-here, Contains-later}
+use Rattle.re_labels.proofs.Membership.{Contains-flat_map, Contains-here, Contains-later}
 use Rattle.re_layers.specs.Layers.{IsPath}
 use Rattle.re_layers.specs.Networks.{IsForest, Network, ball, branch, others}
 

@@ -6,8 +6,7 @@ use Rattle.std.proofs.lemmas.List.Elements.{Contains-get_or}
 use Rattle.re_forests.proofs.OnceLists.{dropped, dropped_held}
 use Rattle.re_forests.proofs.PlaceWalks.{ports, root, seen, size}
 use Rattle.re_forests.proofs.Places.{IsGood, IsPorted-places, Place, back_of, beyond, by_port, kind_of, next_of, next_past, next_real, real}
-use Rattle.re_labels.proofs.Membership.{count_from_range}
-use Rattle.re_layers.proofs.Membership.{Contains-cases, Contains-flat_map_cases, Contains-none}
+use Rattle.re_labels.proofs.Membership.{count_from_range, Contains-cases, Contains-flat_map_cases, Contains-none}
 use Rattle.re_layers.specs.Networks.{IsForest, Network}
 
 -- the number of a place, where nodes have numbers below N

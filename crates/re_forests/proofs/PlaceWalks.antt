@@ -8,7 +8,7 @@ use Rattle.re_forests.proofs.Ports.{near_differ, port_at}
 use Rattle.re_forests.proofs.OnceLists.{IsOnce, dropped, dropped_other, once_count, once_dropped, once_pieces, pieces_apart}
 use Rattle.re_forests.proofs.Places.{Place, back_of, back_past, back_real, beyond, by_port, kind_of, next_of, next_past, next_real, real}
 use Rattle.re_labels.specs.Lists.{count_from}
-use Rattle.re_layers.proofs.Membership.{Contains-cases, Contains-filter, Contains-flat_map, Contains-flat_map_cases, Contains-here, Contains-later, Contains-none}
+use Rattle.re_labels.proofs.Membership.{Contains-cases, Contains-filter, Contains-flat_map, Contains-flat_map_cases, Contains-here, Contains-later, Contains-none}
 use Rattle.re_layers.specs.Networks.{IsForest, Network, branch, others}
 
 -- how far behind the forest a place is thought, and behind which node

@@ -9,7 +9,7 @@ use Rattle.re_labels.specs.Lists.{count_from}
 use Rattle.re_laws.proofs.Ports.{map-at_port, map-count}
 use Rattle.re_laws.specs.Algorithms.{at_port}
 use Rattle.re_layers.specs.Networks.{IsForest, Network}
-use Rattle.re_laws.proofs.Branchwise.{backs-child}
+use Rattle.re_laws.proofs.JoinedBranches.{backs-child}
 use Rattle.re_laws.specs.Trees.{IsView, Tree, backs, shift}
 
 module _ {E : Type 0} (a p N : ℕ) (colour : Place → E) (G : Network) (forest : IsForest a p N G) (some_active : 0 < a) (some_passive : 0 < p) where

@@ -1,6 +1,7 @@
 -- Whole named trees that a network shows: their names are different, and so it is of the tree as any of its nodes sees it.
-use Rattle.std.proofs.Common.{◌≡◌, ℕ, zero, suc, pred, ◌+◌, ◌≤◌, ◌<◌, Bool, true, false, not, Some, length, refl, sym, ◌∙◌, ap, subst, arith, ◌⊎◌, inl, inr}
+use Rattle.std.proofs.Common.{◌≡◌, ℕ, zero, suc, pred, ◌+◌, ◌≤◌, ◌<◌, Bool, not, Some, length, refl, sym, ◌∙◌, ap, subst, arith, ◌⊎◌, inl, inr}
 use Rattle.std.specs.Prelude.{unwrap_or, if◌then◌else◌}
+use Rattle.std.proofs.Math.Bool.{not-not}
 use Rattle.re_forests.proofs.Counting.{is_at, is_at-cases, zero_or}
 use Rattle.re_forests.proofs.Moving.{Rooted, Rooted-moved}
 use Rattle.re_forests.proofs.NamedTrees.{IsNode, child_at-kept, length-insert, length-others, moved, occurs, occurs-others, occurs-put, payloads-put}
@@ -26,10 +27,6 @@ pub record IsPlant (a p M : ℕ) (G : Network) (act : Bool) (r : ℕ) (t : Tree 
   pub degree : length (payloads t) ≤ ports a p act
   pub shaped : Shaped a p M G act t
   pub apart : (n : ℕ) → is_at n r + occurs n t ≤ 1
-
-not_not : (b : Bool) → not (not b) ≡ b
-not_not true = refl
-not_not false = refl
 
 module _ (a p M : ℕ) (G : Network) where
   Shaped-node : (act : Bool) (t : Tree ℕ) → Shaped a p M G act t → IsNode t
@@ -70,9 +67,9 @@ module _ (a p M : ℕ) (G : Network) where
         below = below;
         kind = kind;
         degree = subst (λ n. n ≤ ports a p (not act)) (sym long) degree;
-        shaped = Shaped-put (not act) (pred c.back) back c.branch h.below (h.kind ∙ sym (not_not act))
-            (subst (λ b. suc (length (payloads (others k t))) ≤ ports a p b) (sym (not_not act)) most)
-            (subst (λ b. Shaped a p M G b (others k t)) (sym (not_not act)) later) behind;
+        shaped = Shaped-put (not act) (pred c.back) back c.branch h.below (h.kind ∙ sym (not-not act))
+            (subst (λ b. suc (length (payloads (others k t))) ≤ ports a p b) (sym (not-not act)) most)
+            (subst (λ b. Shaped a p M G b (others k t)) (sym (not-not act)) later) behind;
         apart = λ n. let one = occurs-put n (pred c.back) back c.branch in let two = occurs-others n k c t at in let three = h.apart n in omega arith;
       }
 

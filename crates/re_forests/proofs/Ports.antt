@@ -7,13 +7,12 @@ use Rattle.std.proofs.lemmas.List.{ext_get_or, get_or-map, length-map, map-id}
 use Rattle.std.proofs.lemmas.List.Concat.{flat_map_single}
 use Rattle.std.proofs.lemmas.List.Elements.{Contains-get_or}
 use Rattle.std.proofs.lemmas.List.Sums.{position_or_len_is}
-use Rattle.re_labels.proofs.Sorting.{length-sorted, sorted-Rearranged}
-use Rattle.re_labels.specs.Configs.{IsConfig, sorted}
+use Rattle.re_labels.proofs.Sorting.{sorted-Rearranged}
 use Rattle.re_labels.specs.Rearranging.{Rearranged}
 use Rattle.re_forests.proofs.Filled.{port}
-use Rattle.re_layers.proofs.Membership.{AllByRecursion-contains}
+use Rattle.re_labels.proofs.Membership.{AllByRecursion-contains}
 use Rattle.re_layers.specs.Networks.{AreDifferent, IsForest, Network}
-use Rattle.re_table.specs.Constraints.{Constraint, Has, IsConstraint}
+use Rattle.re_table.specs.Constraints.{Constraint, Has}
 
 -- the place of a member
 pub placed : (near : List ℕ) (w : ℕ) → Contains near w → (k : ℕ) × (k < length near) × (get_or near k 0 ≡ w)
@@ -57,7 +56,3 @@ near_differ G forest v =
 -- ---- configurations
 pub Has-Rearranged : (constraint : Constraint) {labels others : List ℕ} → Rearranged labels others → Has constraint labels → Has constraint others
 Has-Rearranged constraint moved has = subst (Contains constraint.configs) (sorted-Rearranged moved) has
-
-pub length-Has : (n : ℕ) (constraint : Constraint) (labels : List ℕ) → IsConstraint n constraint → Has constraint labels → length labels ≡ constraint.degree
-length-Has n constraint labels is has =
-    sym (length-sorted labels) ∙ (AllByRecursion-contains (IsConfig constraint.degree n) constraint.configs (sorted labels) is.configs has).count

@@ -8,9 +8,8 @@ use Rattle.re_forests.proofs.PlaceWalks.{piece, ports, seen}
 use Rattle.re_forests.proofs.Places.{IsGood, IsPorted-places, Place, back_of, kind_of, next_of, places, real}
 use Rattle.re_forests.proofs.Views.{payload, row, view}
 use Rattle.re_given.specs.InputViews.{InputView}
-use Rattle.re_labels.proofs.Membership.{count_from_range}
+use Rattle.re_labels.proofs.Membership.{count_from_range, Contains-here, Contains-later}
 use Rattle.re_labels.specs.Lists.{count_from}
-use Rattle.re_layers.proofs.Membership.{Contains-here, Contains-later}
 use Rattle.re_layers.specs.Networks.{IsForest, Network}
 use Rattle.re_local.specs.LocalAlgorithms.{behind_active, behind_passive, shown}
 use Rattle.re_laws.specs.Trees.{Tree, end, leaf, more, others}

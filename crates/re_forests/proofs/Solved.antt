@@ -7,17 +7,18 @@ use Rattle.re_forests.proofs.Agreed.{agreed, along, at_first, at_last, nil_cases
 use Rattle.re_forests.proofs.Filled.{one_given_is, port, two_given_is}
 use Rattle.re_forests.proofs.Given.{given, given_local, given_new, given_old, highest, length-given, seen}
 use Rattle.re_forests.proofs.Paths.{kind_at}
-use Rattle.re_forests.proofs.Ports.{Has-Rearranged, at_ports, length-Has, near_differ}
+use Rattle.re_forests.proofs.Ports.{Has-Rearranged, at_ports, near_differ}
 use Rattle.re_forests.proofs.Walks.{around, around_has, beside, between_has, fixed}
 use Rattle.re_forests.proofs.Fills.{Fills, flexible_fills}
 use Rattle.re_forests.specs.Flexible.{side}
 use Rattle.re_forests.specs.LabelLaws.{LabelsLaw}
 use Rattle.re_forests.specs.OnForests.{SolvableOnForests, SolvesOn, label_towards}
-use Rattle.re_layers.proofs.Membership.{Contains-filter_cases, Contains-here, map-alike}
+use Rattle.re_labels.proofs.Membership.{Contains-filter_cases, Contains-here, map-alike}
 use Rattle.re_layers.specs.Layers.{IsLayered, IsPath, upper}
 use Rattle.re_layers.specs.Networks.{IsForest, IsLocal, Network}
 use Rattle.re_problem.specs.Problems.{IsProblem, Problem}
 use Rattle.re_table.specs.Constraints.{Has, IsConstraint}
+use Rattle.re_laws.proofs.Mapping.{count_of}
 
 first_member : (highers near : List ℕ) → ((w : ℕ) → Contains highers w → Contains near w) → 0 < length near → Contains near (get_or (highers ++ near) 0 0)
 first_member [] near within some = Contains-get_or near 0 0 some
@@ -45,7 +46,7 @@ module _ (problem : Problem) (is_problem : IsProblem problem) (set : List ℕ) (
       let rest : List ℕ = around problem set l fills kind z in
       let has : Has (side problem kind) (fixed problem set l fills z ∷ rest) = around_has problem set l fills kind z in
       let size : length (fixed problem set l fills z ∷ rest) ≡ (side problem kind).degree =
-      length-Has problem.labels (side problem kind) (fixed problem set l fills z ∷ rest) (side_is kind) has in
+      count_of problem.labels (side problem kind) (fixed problem set l fills z ∷ rest) (side_is kind) has in
       let least = (side_is kind).least in
       let held : Contains (G.near v) h =
       first_member (upper G (layer G) v) (G.near v) (λ w at. (Contains-filter_cases (λ u. leb (layer G v) (layer G u)) (G.near v) w at).0) (omega (arith, full, least)) in
@@ -64,7 +65,7 @@ module _ (problem : Problem) (is_problem : IsProblem problem) (set : List ℕ) (
       subst (λ kind. Has (side problem kind) (label i ∷ label (suc i) ∷ rest)) (kind_at G forest l (layer G) (path G) own height on i low)
       (between_has problem set l fills (G.active (get_or own 1 0)) x y i (omega arith)) in
       let size : length (label i ∷ label (suc i) ∷ rest) ≡ (side problem (G.active v)).degree =
-      length-Has problem.labels (side problem (G.active v)) (label i ∷ label (suc i) ∷ rest) (side_is (G.active v)) has in
+      count_of problem.labels (side problem (G.active v)) (label i ∷ label (suc i) ∷ rest) (side_is (G.active v)) has in
       subst (Has (side problem (G.active v))) (sym (path_is problem set l fills layer path G forest is n own height on i low))
       (Has-Rearranged (side problem (G.active v))
       (two_given_is fills.some.0 (get_or own i 0) (get_or own (suc (suc i)) 0) (label i) (label (suc i)) rest (G.near v)

@@ -4,7 +4,7 @@ use Rattle.std.specs.Prelude.{Contains}
 use Rattle.std.proofs.lemmas.Bool.{cases_lt}
 use Rattle.std.proofs.lemmas.List.Elements.{Contains-get_or}
 use Rattle.re_layers.proofs.FreeNumbers.{free, free_other}
-use Rattle.re_layers.proofs.Membership.{Contains-here, Contains-later}
+use Rattle.re_labels.proofs.Membership.{Contains-here, Contains-later}
 
 -- the taken colours and the first j spare ones
 abbrev pub extended : ℕ → List ℕ → ℕ → List ℕ

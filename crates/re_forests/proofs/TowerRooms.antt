@@ -2,8 +2,8 @@
 use Rattle.std.proofs.Common.{◌≡◌, ℕ, zero, suc, ◌+◌, ◌*◌, ◌^◌, ◌≤◌, subst, arith}
 use Rattle.std.proofs.Math.Nat.{mul-le-mul, pow-le-pow_right, pow-succ'}
 use Rattle.std.proofs.lemmas.Nat.{pow-add}
-use Rattle.re_local.proofs.Towers.{above, below_power, power_below, tower-le}
-use Rattle.re_local.specs.Towers.{tower}
+use Rattle.re_layers.proofs.Towers.{above, below_power, power_below, tower-le}
+use Rattle.re_layers.specs.Towers.{tower}
 
 twice : (y : ℕ) → 2 * y ≤ 2 ^ y
 twice zero = omega arith

@@ -1,9 +1,9 @@
 -- Walks that never turn back, and the paths of labels along them.
 use Rattle.std.proofs.Common.{◌≡◌, ℕ, zero, suc, ◌+◌, Bool, List, refl, sym, ◌∙◌, ap, ap₂, subst, arith, suc-add}
 use Rattle.std.specs.Prelude.{Contains, not}
+use Rattle.std.proofs.Math.Bool.{not-not}
 use Rattle.re_forests.proofs.EdgeLabels.{joins_around, label_on, label_turned}
 use Rattle.re_forests.proofs.Growing.{path_kind}
-use Rattle.re_forests.proofs.Hung.{not-not}
 use Rattle.re_forests.proofs.TrimmedEdges.{Fine}
 use Rattle.re_forests.specs.Flexible.{Leads}
 use Rattle.re_forests.specs.OnForests.{SolvesOn}

@@ -4,17 +4,17 @@ use Rattle.std.specs.Prelude.{Contains, not, filter, flat_map}
 use Rattle.std.specs.List.{AllByRecursion, list_any}
 use Rattle.re_forests.proofs.EdgeLabels.{Has_first, label_on, label_turned}
 use Rattle.re_forests.proofs.Growing.{Around, IsFull}
-use Rattle.re_forests.proofs.Ports.{length-Has}
 use Rattle.re_forests.specs.Flexible.{Joins, side}
 use Rattle.re_forests.specs.OnForests.{SolvesOn}
 use Rattle.re_forests.specs.Trimmed.{IsTrimmed}
-use Rattle.re_labels.proofs.Membership.{any_found, any_true, Contains-map_cases}
+use Rattle.re_labels.proofs.Membership.{any_found, any_true, Contains-map_cases, Contains-filter, Contains-filter_cases, Contains-flat_map, Contains-flat_map_cases, Contains-here, Contains-map, Contains-none}
 use Rattle.re_labels.proofs.Tests.{and-true, true-and}
-use Rattle.re_layers.proofs.Membership.{Contains-filter, Contains-filter_cases, Contains-flat_map, Contains-flat_map_cases, Contains-here, Contains-map, Contains-none, length-filter_most}
+use Rattle.re_layers.proofs.Membership.{length-filter_most}
 use Rattle.re_layers.specs.Networks.{IsForest, Network}
 use Rattle.re_problem.specs.Problems.{IsProblem, Problem}
 use Rattle.re_table.proofs.Goodness.{Has-has_config, has_config-Has}
 use Rattle.re_table.specs.Constraints.{Constraint, Has, IsConstraint, has_config}
+use Rattle.re_laws.proofs.Mapping.{count_of}
 
 -- all lists of so many labels of the set
 abbrev pub tuples : ℕ → List ℕ → List (List ℕ)
@@ -69,7 +69,7 @@ module _ (problem : Problem) (is : IsProblem problem) where
   stands_of_has : (b : Bool) (set : List ℕ) (x : ℕ) (rest : List ℕ) → AllByRecursion (λ z. Contains set z) rest → Has (side problem b) (x ∷ rest)
       → stands (side problem b) set x ≡ true
   stands_of_has b set x rest all has =
-      let count : length (x ∷ rest) ≡ (side problem b).degree = length-Has problem.labels (side problem b) (x ∷ rest) (side_is b) has in
+      let count : length (x ∷ rest) ≡ (side problem b).degree = count_of problem.labels (side problem b) (x ∷ rest) (side_is b) has in
       any_true (λ rest. has_config (side problem b) (x ∷ rest)) (tuples (pred (side problem b).degree) set) rest
       (subst (λ d. Contains (tuples d set) rest) (ap pred count) (in_tuples set rest all)) (Has-has_config (side problem b) (x ∷ rest) has)
 

@@ -3,22 +3,23 @@
 use Rattle.std.proofs.Common.{◌≡◌, ℕ, zero, suc, ◌+◌, ◌≤◌, ◌<◌, Bool, true, false, cond, ◌&&◌, eqb, List, [], ◌∷◌, length, refl, sym, ap, ◌∙◌, subst, ◌⊎◌, inl, inr, arith}
 use Rattle.std.specs.Prelude.{Contains, filter}
 use Rattle.std.specs.List.{AllByRecursion, list_all}
-use Rattle.re_labels.proofs.Rearranging.{Contains-Rearranged, Rearranged-refl, length-Rearranged}
+use Rattle.re_labels.proofs.Rearranging.{Contains-Rearranged, length-Rearranged}
 use Rattle.re_labels.proofs.Sorting.{AllByRecursion-Rearranged, Rearranged-sorted, sorted-Rearranged, sorted_again}
 use Rattle.re_labels.specs.Configs.{IsConfig, sorted}
-use Rattle.re_labels.specs.Rearranging.{Rearranged, chained, kept, swapped}
+use Rattle.re_labels.specs.Rearranging.{Rearranged}
 use Rattle.re_forests.specs.Flexible.{Joins, side}
 use Rattle.re_forests.specs.Trimmed.{IsTrimmed}
 use Rattle.re_forests.specs.TrimmedSets.{TrimmedSetLaw, held, left_after, stands, stays, trimmed_set, within}
 use Rattle.re_labels.proofs.Before.{IsBefore-trans}
-use Rattle.re_labels.proofs.Membership.{Contains-In, Contains-count_from, Contains-filter, Contains-filter_cases, Contains-here, all-In, all-In_from, In-Contains, any_found, any_true, length-count_from}
+use Rattle.re_labels.proofs.Membership.{Contains-In, Contains-count_from, Contains-filter, Contains-filter_cases, Contains-here, all-In, all-In_from, In-Contains, any_found, any_true, length-count_from, AllByRecursion-contains, AllByRecursion-from_contains, AllByRecursion-weaker, Contains-cases, Contains-none}
 use Rattle.re_labels.proofs.Rising.{rising-filter}
 use Rattle.re_labels.proofs.Tests.{and-true, eqb-same, eqb-true, true-and}
 use Rattle.re_labels.specs.Lists.{IsBefore}
 use Rattle.re_layers.proofs.Filters.{filter_all}
-use Rattle.re_layers.proofs.Membership.{AllByRecursion-contains, AllByRecursion-from_contains, AllByRecursion-weaker, Contains-cases, Contains-none, length-filter_most}
+use Rattle.re_layers.proofs.Membership.{length-filter_most}
 use Rattle.re_problem.specs.Problems.{IsProblem, Problem}
 use Rattle.re_table.specs.Constraints.{Constraint, Has, IsConstraint}
+use Rattle.re_given.proofs.GrownInputs.{without_one}
 
 -- ---- labels of a set, and of its configurations
 pub held_Contains : (set : List ℕ) (x : ℕ) → held set x ≡ true → Contains set x
@@ -29,14 +30,6 @@ Contains_held set x on = any_true (eqb x) set x on (eqb-same x)
 
 abbrev stands_in : List ℕ → ℕ → List ℕ → Bool
 stands_in set x config = held config x && list_all (held set) config
-
--- a member of a list comes to its front
-fronted : (xs : List ℕ) (x : ℕ) → Contains xs x → (rest : List ℕ) × Rearranged xs (x ∷ rest)
-fronted [] x on = absurd (Contains-none x on)
-fronted (y ∷ xs) x on = elim (Contains-cases x y xs on) [
-  | inl e ↦ (xs, subst (λ z. Rearranged (y ∷ xs) (z ∷ xs)) (sym e) (Rearranged-refl (y ∷ xs)))
-  | inr later ↦ (let (rest, moved) = fronted xs x later in (y ∷ rest, chained (kept moved) swapped))
-]
 
 -- labels around a node
 pub all_held : (set labels : List ℕ) → AllByRecursion (Contains set) labels → list_all (held set) (sorted labels) ≡ true
@@ -60,7 +53,7 @@ pub stands_joined : (n : ℕ) (constraint : Constraint) (set : List ℕ) (x : �
 stands_joined n constraint set x is stood =
     let (config, on, passes) = any_found (stands_in set x) constraint.configs stood in
     let (at, all) = and-true (held config x) (list_all (held set) config) passes in
-    let (rest, moved) = fronted config x (held_Contains config x at) in
+    let (rest, moved) = without_one config x (held_Contains config x at) in
     let good : IsConfig constraint.degree n config = AllByRecursion-contains (IsConfig constraint.degree n) constraint.configs config is.configs on in
     let inside : AllByRecursion (Contains set) config =
     AllByRecursion-from_contains (Contains set) config (λ y here. held_Contains set y (all-In (held set) config all y (Contains-In y config here))) in

@@ -9,7 +9,7 @@ use Rattle.re_forests.proofs.Unsolvable.{around_active, around_passive, no_solut
 use Rattle.re_forests.specs.Flexible.{side}
 use Rattle.re_forests.specs.OnForests.{label_towards}
 use Rattle.re_forests.specs.TrimmedSets.{FullSurroundingsLaw, SolvedOrNotLaw, StillSolvedLaw, held, trimmed_set}
-use Rattle.re_layers.proofs.Membership.{Contains-filter_cases, Contains-here, Contains-none}
+use Rattle.re_labels.proofs.Membership.{Contains-filter_cases, Contains-here, Contains-none}
 
 nil_cases : (xs : List ℕ) → ((x : ℕ) × Contains xs x) ⊎ (xs ≡ [])
 nil_cases [] = inr refl

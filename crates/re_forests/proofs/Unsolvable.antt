@@ -2,20 +2,20 @@
 use Rattle.std.proofs.Common.{◌≡◌, ℕ, zero, suc, pred, ◌+◌, ◌≤◌, ◌<◌, Bool, true, false, List, length, map, refl, sym, ap, ◌∙◌, subst, arith}
 use Rattle.std.specs.Prelude.{Contains, not}
 use Rattle.std.specs.List.{AllByRecursion}
-use Rattle.re_forests.proofs.Ports.{at_ports, length-Has, near_differ}
+use Rattle.re_forests.proofs.Ports.{at_ports, near_differ}
 use Rattle.re_forests.proofs.Trimming.{around_stands, left_first, left_next, side_is, trimmed_set_trimmed}
 use Rattle.re_forests.specs.Flexible.{side}
 use Rattle.re_forests.specs.OnForests.{SolvesOn, label_towards}
 use Rattle.re_forests.specs.Trimmed.{NoSolutionLaw}
 use Rattle.re_forests.specs.TrimmedSets.{left_after, stands, trimmed_set}
-use Rattle.re_labels.proofs.Membership.{Contains-map_cases}
+use Rattle.re_labels.proofs.Membership.{Contains-map_cases, AllByRecursion-from_contains, Contains-map}
 use Rattle.re_layers.proofs.Full.{cut, cut_held, full_cut, full_here, full_less, spread}
-use Rattle.re_layers.proofs.Membership.{AllByRecursion-from_contains, Contains-map}
 use Rattle.re_layers.proofs.RegularTrees.{forest, reach, reach_more, whole, whole_edge, whole_full, whole_low}
 use Rattle.re_layers.specs.Full.{IsFull}
 use Rattle.re_layers.specs.Networks.{IsForest, Network}
 use Rattle.re_problem.specs.Problems.{IsProblem, Problem}
 use Rattle.re_table.specs.Constraints.{Has}
+use Rattle.re_laws.proofs.Mapping.{count_of}
 
 module _ (problem : Problem) (is : IsProblem problem) (count : Bool → ℕ) (ports : (k : Bool) → count k ≡ (side problem k).degree)
     {a p N : ℕ} (G : Network) (is_forest : IsForest a p N G) (labels : ℕ → List ℕ) (solves : SolvesOn problem G labels) where
@@ -30,7 +30,7 @@ module _ (problem : Problem) (is : IsProblem problem) (count : Bool → ℕ) (po
   at_active r v kind full =
       let size : length (G.near v) ≡ problem.active.degree = full_here count G r v full ∙ ap count kind ∙ ports true in
       let has : Has problem.active (labels v) = solves.active v kind size in
-      (has, at_ports (G.near v) (labels v) (near_differ G is_forest v) (length-Has problem.labels problem.active (labels v) is.active has ∙ sym size))
+      (has, at_ports (G.near v) (labels v) (near_differ G is_forest v) (count_of problem.labels problem.active (labels v) is.active has ∙ sym size))
 
   has_mine : (r v : ℕ) → G.active v ≡ true → IsFull count G r v → Has problem.active (mine v)
   has_mine r v kind full = let (has, same) = at_active r v kind full in subst (Has problem.active) (sym same) has

@@ -2,8 +2,9 @@
 use Rattle.std.proofs.Common.{◌≡◌, ℕ, zero, suc, pred, ◌+◌, ◌≤◌, ◌<◌, Bool, true, false, not, Some, refl, sym, ◌∙◌, ap, subst, arith}
 use Rattle.std.specs.Prelude.{if◌then◌else◌}
 use Rattle.std.proofs.Math.Bool.{not-not}
-use Rattle.re_laws.proofs.ViewLaws.{IsTree-others, others-cut, put-others, shift-at}
+use Rattle.re_laws.proofs.ViewLaws.{others-cut, put-others, shift-at}
 use Rattle.re_laws.specs.Trees.{Child, IsTree, IsView, Tree, child_at, cut, end, leaf, more, others, shift}
+use Rattle.re_given.proofs.LabelledViews.{others-shown}
 
 -- a graph: the kinds and colours of its nodes, how many ports each kind has, and for each port, from 0 on, the neighbour and the number of its port to here
 pub record Ported (X E : Type 0) : Type 0 where
@@ -65,13 +66,6 @@ cut-view P zero r x l = refl
 cut-view P (suc t) zero x l = absurd (omega arith)
 cut-view P (suc t) (suc r) x l = cut-row P t (λ y. view P r y) (λ y. view P t y) (λ y. cut-view P t r y (omega arith)) x 0 (P.degree (P.active x))
 
-IsTree-less : {E : Type 0} (d e t k : ℕ) (x : Tree E) → IsTree d e t d x → k < d → IsTree d e t (pred d) (others k x)
-IsTree-less d e zero k leaf h l = tt
-IsTree-less d e zero k end h l = absurd h
-IsTree-less d e zero k (more back payload branch rest) h l = absurd h
-IsTree-less zero e (suc t) k x h l = absurd (omega arith)
-IsTree-less (suc d) e (suc t) k x h l = IsTree-others (suc d) e t d k x h l
-
 IsTree-row : {X E : Type 0} (P : Ported X E) (good : X → Type 0) → IsPorted P good → (t : ℕ) (f : X → Tree E)
     → ((y : X) → good y → IsView (P.degree (P.active y)) (P.degree (not (P.active y))) t (f y))
     → (x : X) → good x → (k n : ℕ) → k + n ≤ P.degree (P.active x) → IsTree (P.degree (P.active x)) (P.degree (not (P.active x))) (suc t) n (row P f x k n)
@@ -81,7 +75,7 @@ IsTree-row {X} {E} P good is t f each x ok k (suc n) l =
     let turns : P.active (P.next x k) ≡ not (P.active x) = is.turns x k ok low in
     let less : P.back x k < P.degree (P.active (P.next x k)) = subst (λ b. P.back x k < P.degree b) (sym turns) (is.within x k ok low) in
     let tree : IsTree (P.degree (P.active (P.next x k))) (P.degree (not (P.active (P.next x k)))) t (pred (P.degree (P.active (P.next x k)))) (others (P.back x k) (f (P.next x k))) =
-    IsTree-less (P.degree (P.active (P.next x k))) (P.degree (not (P.active (P.next x k)))) t (P.back x k) (f (P.next x k)) (each (P.next x k) (is.stays x k ok low)) less in (
+    others-shown (P.degree (P.active (P.next x k))) (P.degree (not (P.active (P.next x k)))) t (P.back x k) (f (P.next x k)) (each (P.next x k) (is.stays x k ok low)) less in (
       omega arith,
       is.within x k ok low,
       subst (λ b. IsTree (P.degree (not (P.active x))) (P.degree b) t (pred (P.degree (not (P.active x)))) (others (P.back x k) (f (P.next x k)))) (not-not (P.active x))

@@ -7,7 +7,7 @@ use Rattle.std.proofs.lemmas.List.Elements.{Contains-append_left}
 use Rattle.re_forests.specs.OnForests.{SolvesOn, label_towards}
 use Rattle.re_forests.proofs.Counting.{is_at, is_at-same, often}
 use Rattle.re_forests.proofs.Edges.{skip}
-use Rattle.re_forests.proofs.Identified.{alike_seen, below_active, cut-known, fine_active, fine_passive, first_label, first_label-known, first_label-put, length-children, often-different, shown_active-often, shown_passive-often}
+use Rattle.re_forests.proofs.Identified.{alike_seen, below_active, cut-known, fine_active, fine_passive, first_label, first_label-known, first_label-put, often-different, shown_active-often, shown_passive-often}
 use Rattle.re_forests.proofs.NamedCuts.{child_at-named, named_child, payloads-cut}
 use Rattle.re_forests.proofs.NamedPlants.{forest_active, forest_passive}
 use Rattle.re_forests.proofs.NamedTrees.{length-insert, occurs, occurs-others, often-payloads, payloads-put}
@@ -18,14 +18,15 @@ use Rattle.re_forests.proofs.TreeNetworks.{Rooted-network, network_of}
 use Rattle.re_given.proofs.Fitting.{FitsAround-others, Has-around}
 use Rattle.re_given.specs.Given.{around_known}
 use Rattle.re_given.specs.InputViews.{Fits, InputView, known, payloads}
+use Rattle.re_given.proofs.SlowGiven.{length-payloads}
 use Rattle.re_labels.proofs.Membership.{Contains-here}
 use Rattle.re_laws.proofs.Ports.{map-at_port, map-count}
 use Rattle.re_laws.specs.Algorithms.{at_port}
-use Rattle.re_layers.specs.Networks.{IsForest, IsLocal, Network}
-use Rattle.re_local.specs.LocalAlgorithms.{AreDifferent, behind_passive, identified, shown}
+use Rattle.re_layers.specs.Networks.{AreDifferent, IsForest, IsLocal, Network}
+use Rattle.re_local.specs.LocalAlgorithms.{behind_passive, identified, shown}
 use Rattle.re_problem.specs.Problems.{Problem}
 use Rattle.re_table.specs.Constraints.{Has}
-use Rattle.re_laws.proofs.Branchwise.{backs-child}
+use Rattle.re_laws.proofs.JoinedBranches.{backs-child}
 use Rattle.re_laws.proofs.ViewLaws.{HasRoom, HasRoom-tree, IsChild, child_of, shift-at}
 use Rattle.re_laws.specs.Trees.{Child, IsView, Tree, backs, child_at, cut, end, leaf, more, others, shift}
 
@@ -72,7 +73,7 @@ module _ (a p N T : ℕ) (A : Network → ℕ → List ℕ) (local : IsLocal T A
       let split = occurs-others n0 k (named_child a N c) (named_passive a N w) (child_at-named a N k c w at) in
       let fewer = often-payloads n0 inner in
       let none : often n0 (payloads inner) ≡ 0 = omega (arith, one, all, split, fewer) in
-      let count : length (payloads inner) ≡ pred a = length-named_active a N c.payload (skip (pred c.back)) c.branch ∙ length-children a p (suc T) (pred a) c.branch child.branch in
+      let count : length (payloads inner) ≡ pred a = length-named_active a N c.payload (skip (pred c.back)) c.branch ∙ length-payloads a p (suc T) (pred a) c.branch child.branch in
       ap (position_or_len (λ y. y == n0)) (near_there a N k c w at apart) ∙ position-insert n0 (pred c.back) (payloads inner) none (omega arith)
 
   label_is : (k : ℕ) (c : Child ℕ) (at : child_at k w ≡ Some c) → IsChild a p (suc (suc T)) c → ((y : ℕ) → Contains (payloads c.branch) y → y ≡ c.payload)
@@ -96,14 +97,14 @@ module _ (problem : Problem) (N T : ℕ) (some : 1 ≤ problem.active.degree) (s
   pub solves_active : (v : InputView) → IsView a p (suc (suc T)) v → Fits (identified a p N).active (identified a p N).passive v → AreDifferent (shown v)
       → Has problem.active (on_views a N T A (known (suc T) v))
   solves_active leaf view fits apart = absurd view
-  solves_active end view fits apart = absurd (let none = length-children a p (suc T) a end view in omega arith)
+  solves_active end view fits apart = absurd (let none = length-payloads a p (suc T) a end view in omega arith)
   solves_active (more back label branch rest) view fits apart =
       let v : InputView = more back label branch rest in
       let t : InputView = cut (suc T) v in
       let fine : FineActive a p N t = FineActive-cut a p N (suc T) v (fine_active a p N some some' (suc (suc T)) a [] v view fits) in
       let low : label < N = below_active a p N some some' (payloads v ++ []) label (Has-around (identified a p N).active (identified a p N).passive a p (suc T) a [] v view fits)
       (Contains-append_left (payloads v) [] label (Contains-here label (payloads rest))) in
-      let count : length (payloads t) ≡ a = ap length (payloads-cut T v) ∙ length-children a p (suc T) a v view in
+      let count : length (payloads t) ≡ a = ap length (payloads-cut T v) ∙ length-payloads a p (suc T) a v view in
       let once : (y : ℕ) → is_at y label + shown_active y t ≤ 1 = λ y. (let most = often-different y (shown v) apart in let same = shown_active-often y v in let fewer = shown_active-cut y (suc T) v in omega arith) in
       let few : length (payloads t) ≤ a = omega arith in
       let tree : Tree ℕ = named_active a N label (λ k. k) t in
@@ -115,14 +116,14 @@ module _ (problem : Problem) (N T : ℕ) (some : 1 ≤ problem.active.degree) (s
   pub solves_passive : (w : InputView) → IsView p a (suc (suc (suc T))) w → Fits (identified a p N).passive (identified a p N).active w → AreDifferent (behind_passive w)
       → Has problem.passive (around_known p (suc T) (on_views a N T A) w)
   solves_passive leaf view fits apart = absurd view
-  solves_passive end view fits apart = absurd (let none = length-children p a (suc (suc T)) p end view in omega arith)
+  solves_passive end view fits apart = absurd (let none = length-payloads p a (suc (suc T)) p end view in omega arith)
   solves_passive (more back label branch rest) view fits apart =
       let w : InputView = more back label branch rest in
       let n0 : ℕ = N + first_edge a 0 w in
       let tree : Tree ℕ = named_passive a N w in
       let G : Network = network_of N n0 tree in
       let fine : FinePassive a p N w = fine_passive a p N some some' (suc (suc (suc T))) p [] w view fits in
-      let count : length (payloads w) ≡ p = length-children p a (suc (suc T)) p w view in
+      let count : length (payloads w) ≡ p = length-payloads p a (suc (suc T)) p w view in
       let few : length (payloads w) ≤ p = omega arith in
       let once : (y : ℕ) → shown_passive y w ≤ 1 = λ y. (let most = often-different y (behind_passive w) apart in let same = shown_passive-often y w in omega arith) in
       let names : (n : ℕ) → is_at n n0 + occurs n tree ≤ 1 = apart_passive a p N back label branch rest some fine once in

@@ -20,10 +20,6 @@ pub turned-not : (i : ℕ) (active : Bool) → turned i (not active) ≡ not (tu
 turned-not zero active = refl
 turned-not (suc i) active = turned-not i (not active)
 
-pub not-not : (active : Bool) → not (not active) ≡ active
-not-not true = refl
-not-not false = refl
-
 -- ---- the labels of a walk by their places, and the other labels around its nodes
 module _ (problem : Problem) (set : List ℕ) where
   abbrev pub label_on : (active : Bool) (m x y : ℕ) → Leads problem set active m x y → ℕ → ℕ

@@ -2,14 +2,12 @@
 use Rattle.std.proofs.Common.{◌≡◌, ℕ, suc, ◌+◌, ◌*◌, ◌^◌, ◌≤◌, sym, subst, arith}
 use Rattle.std.proofs.Math.Nat.{pow-le-pow_right}
 use Rattle.re_forests.specs.OnForests.{SolvableOnForests}
-use Rattle.re_forests.proofs.SameTowers.{same_tower}
 use Rattle.re_forests.proofs.TowerRooms.{power_room}
 use Rattle.re_forests.specs.Classes.{HasNoSolution, IsAboveLinear, IsAboveLogOnForests, IsAboveLogStarOnForests, IsBelowLinear, IsBelowLogOnForests, IsBelowLogStarOnForests, IsConstantOnForests}
 use Rattle.re_forests.specs.ClassLaws.{WeakerLaw}
 use Rattle.re_layers.proofs.Locality.{local_most}
 use Rattle.re_layers.specs.Towers.{tower}
-use Rattle.re_local.proofs.Towers.{above, below_power, power_of}
-use Rattle.re_local.specs.Towers as local
+use Rattle.re_layers.proofs.Towers.{above, below_power, power_of}
 use Rattle.re_problem.specs.Problems.{Problem}
 
 pub later : (problem : Problem) (N T more : ℕ) → T ≤ more → SolvableOnForests problem N T → SolvableOnForests problem N more
@@ -22,9 +20,9 @@ log_star_below : (problem : Problem) → IsBelowLogStarOnForests problem → IsB
 log_star_below problem (c, K, solved) = (
   c + K,
   λ N b few. (
-      let high : suc b ≤ local.tower b = above b in
-      let power : 2 ^ b ≤ 2 ^ local.tower b = pow-le-pow_right (omega arith) (omega (arith, high)) in
-      let room : N ≤ tower (suc b) = subst (λ t. N ≤ t) (sym (same_tower (suc b))) (omega (arith, few, power)) in
+      let high : suc b ≤ tower b = above b in
+      let power : 2 ^ b ≤ 2 ^ tower b = pow-le-pow_right (omega arith) (omega (arith, high)) in
+      let room : N ≤ tower (suc b) = omega (arith, few, power) in
       later problem N (c * suc b + K) ((c + K) * suc b) (omega arith) (solved (suc b) N room)
       ),
 )
@@ -53,8 +51,8 @@ log_above : (problem : Problem) → IsAboveLogOnForests problem → IsAboveLogSt
 log_above problem (C, beyond) = (
   C + 1,
   λ T N many solvable. (
-      let room : C ^ (T + 1) ≤ local.tower (T + (C + 1)) = power_room C T in
-      let enough : local.tower (T + (C + 1)) ≤ N = subst (λ t. t ≤ N) (same_tower (T + (C + 1))) many in
+      let room : C ^ (T + 1) ≤ tower (T + (C + 1)) = power_room C T in
+      let enough : tower (T + (C + 1)) ≤ N = many in
       beyond T N (omega (arith, room, enough)) solvable
       ),
 )

@@ -1,55 +1,20 @@
 -- Branches of a forest of degrees 2 and 2 are paths; behind a node with two neighbours they have at most N - 2 nodes, so all of them is seen.
-use Rattle.std.proofs.Common.{◌++◌, ◌≡◌, ℕ, zero, suc, ◌+◌, ◌≤◌, ◌<◌, Bool, true, false, cond, not, List, [], ◌∷◌, length, get_or, length-append, refl, sym, ap, ◌∙◌, subst, arith, inl, inr, ◌⊎◌}
+use Rattle.std.proofs.Common.{◌++◌, ◌≡◌, ℕ, zero, suc, ◌+◌, ◌≤◌, ◌<◌, Bool, true, false, cond, not, List, [], ◌∷◌, length, length-append, refl, sym, ap, ◌∙◌, subst, arith, inl, inr, ◌⊎◌}
 use Rattle.std.specs.Prelude.{Contains, ◌==◌, filter, flat_map}
-use Rattle.std.proofs.lemmas.Bool.Decides.{eqb_tells, leb_tells}
+use Rattle.std.proofs.lemmas.Bool.Decides.{eqb_tells}
 use Rattle.std.proofs.lemmas.List.{append-nil}
-use Rattle.std.proofs.lemmas.List.Elements.{Contains-append_cases, Contains-append_left, Contains-append_right}
-use Rattle.re_forests.proofs.TwoAlike.{two_alike}
+use Rattle.std.proofs.lemmas.List.Elements.{Contains-append_cases, Contains-append_right}
 use Rattle.re_labels.proofs.Membership.{Contains-cases, Contains-filter_cases, Contains-flat_map_cases, Contains-here, Contains-later, Contains-none}
 use Rattle.re_labels.proofs.Tests.{eqb-apart, eqb-same}
 use Rattle.re_layers.specs.Networks.{AreDifferent, IsForest, Network, branch, others}
+use Rattle.re_layers.proofs.Different.{pigeonhole}
 
--- ---- how many different numbers there are below N
-get_or-any : (xs : List ℕ) (i d e : ℕ) → i < length xs → get_or xs i d ≡ get_or xs i e
-get_or-any [] i d e low = absurd (omega (arith, low))
-get_or-any (x ∷ xs) zero d e low = refl
-get_or-any (x ∷ xs) (suc i) d e low = get_or-any xs i d e (omega (arith, low))
-
-different_places : (xs : List ℕ) → AreDifferent xs → (i j : ℕ) → i < j → j < length xs → get_or xs i 0 ≡ get_or xs j 0 → ⊥
-different_places [] d i j less low same = absurd (omega (arith, low))
-different_places (x ∷ xs) d i zero less low same = absurd (omega (arith, less))
-different_places (x ∷ xs) d zero (suc j) less low same =
-    d.0 (j, omega (arith, low), get_or-any xs j x 0 (omega (arith, low)) ∙ sym same)
-different_places (x ∷ xs) d (suc i) (suc j) less low same = different_places xs d.1 i j (omega (arith, less)) (omega (arith, low)) same
-
-length-different : (N : ℕ) (xs : List ℕ) → AreDifferent xs → ((x : ℕ) → Contains xs x → x < N) → length xs ≤ N
-length-different N xs d below = elim (leb_tells (suc N) (length xs)) [
-  | inl t ↦
-      let (i, j, less, low, same) = two_alike N (λ i. get_or xs i 0) (λ i l. below (get_or xs i 0) (i, omega (arith, l, t.1), get_or-any xs i (get_or xs i 0) 0 (omega (arith, l, t.1)))) in
-      absurd (different_places xs d i j less (omega (arith, low, t.1)) same)
-  | inr t ↦ omega (arith, t.1)
-]
-
+-- ---- lists in which nothing stands twice
 pub different_apart : (xs ys : List ℕ) → AreDifferent (xs ++ ys) → (x : ℕ) → Contains xs x → Contains ys x → ⊥
 different_apart [] ys d x left right = Contains-none x left
 different_apart (z ∷ xs) ys d x left right = elim (Contains-cases x z xs left) [
   | inl e ↦ d.0 (subst (Contains (xs ++ ys)) e (Contains-append_right xs ys x right))
   | inr there ↦ different_apart xs ys d.1 x there right
-]
-
-different_left : (xs ys : List ℕ) → AreDifferent (xs ++ ys) → AreDifferent xs
-different_left [] ys d = tt
-different_left (x ∷ xs) ys d = (λ held. d.0 (Contains-append_left xs ys x held), different_left xs ys d.1)
-
-different_right : (xs ys : List ℕ) → AreDifferent (xs ++ ys) → AreDifferent ys
-different_right [] ys d = d
-different_right (x ∷ xs) ys d = different_right xs ys d.1
-
-different_piece : (f : ℕ → List ℕ) (xs : List ℕ) (x : ℕ) → Contains xs x → AreDifferent (flat_map f xs) → AreDifferent (f x)
-different_piece f [] x held d = absurd (Contains-none x held)
-different_piece f (y ∷ xs) x held d = elim (Contains-cases x y xs held) [
-  | inl e ↦ subst (λ z. AreDifferent (f z)) (sym e) (different_left (f y) (flat_map f xs) d)
-  | inr there ↦ different_piece f xs x there (different_right (f y) (flat_map f xs) d)
 ]
 
 -- ---- the neighbours but one of at most two
@@ -130,7 +95,7 @@ module _ (N : ℕ) (G : Network) (forest : IsForest 2 2 N G) where
     -- both branches and the node itself have at most N nodes
     count : (k : ℕ) → suc (length (branch G k x a) + length (branch G k x b)) ≤ N
     count k =
-        let all : length (x ∷ (branch G k x a ++ (branch G k x b ++ []))) ≤ N = length-different N (x ∷ (branch G k x a ++ (branch G k x b ++ [])))
+        let all : length (x ∷ (branch G k x a ++ (branch G k x b ++ []))) ≤ N = pigeonhole N (x ∷ (branch G k x a ++ (branch G k x b ++ [])))
         (subst (λ l. AreDifferent (x ∷ flat_map (λ w. branch G k x w) l)) near (forest.acyclic x (suc k))) low in
         let sum : length (branch G k x a ++ (branch G k x b ++ [])) ≡ length (branch G k x a) + length (branch G k x b ++ []) = length-append (branch G k x a) (branch G k x b ++ []) in
         let same : length (branch G k x b ++ []) ≡ length (branch G k x b) = ap length (append-nil (branch G k x b)) in

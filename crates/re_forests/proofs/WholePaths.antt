@@ -12,9 +12,8 @@ use Rattle.re_forests.specs.Flexible.{Joins, side}
 use Rattle.re_forests.specs.LabelLaws.{TwoColouredPathsLaw, WholePathsLaw}
 use Rattle.re_forests.specs.OnForests.{SolvableOnForests, SolvesOn, label_towards}
 use Rattle.re_forests.specs.Trimmed.{IsTrimmed}
-use Rattle.re_labels.proofs.Membership.{Contains-cases, Contains-here, Contains-later, Contains-none}
+use Rattle.re_labels.proofs.Membership.{Contains-cases, Contains-here, Contains-later, Contains-none, map-alike}
 use Rattle.re_layers.proofs.Locality.{same_active, same_branch, same_fewer, same_near}
-use Rattle.re_layers.proofs.Membership.{map-alike}
 use Rattle.re_layers.specs.Networks.{AreSame, IsForest, IsLocal, Network, branch}
 use Rattle.re_problem.specs.Problems.{IsProblem, Problem}
 use Rattle.re_table.specs.Constraints.{Has}

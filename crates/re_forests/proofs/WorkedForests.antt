@@ -1,8 +1,7 @@
 -- Worked problems: 3-colouring and 2-colouring of paths, and the relaxation of sinkless orientation, both of whose labels are a flexible set.
 use Rattle.std.proofs.Common.{ℕ, suc, ◌*◌, Bool, true, false, not, List, [], ◌∷◌, refl, sym, subst, arith, inl, inr}
 use Rattle.std.specs.Prelude.{Contains}
-use Rattle.re_classes.proofs.WorkedClasses.{path_colouring, sinkless_class}
-use Rattle.re_local.proofs.ColouredHops.{IsProblem-colouring}
+use Rattle.re_classes.proofs.WorkedClasses.{is_three, path_colouring, sinkless_class}
 use Rattle.re_forests.proofs.TwoColours.{not_fast}
 use Rattle.re_forests.proofs.WholePaths.{two_colours_order}
 use Rattle.re_forests.specs.TwoColours.{two_colours}
@@ -15,10 +14,6 @@ use Rattle.re_given.specs.Unavoidable.{colouring}
 use Rattle.re_labels.proofs.Membership.{Contains-cases, Contains-here, Contains-later, Contains-none}
 use Rattle.re_problem.proofs.Examples.{IsProblem-relaxed_sinkless}
 use Rattle.re_problem.specs.Examples.{relaxed_sinkless}
-use Rattle.re_problem.specs.Problems.{IsProblem}
-
-is_three : IsProblem (colouring 2 2 3)
-is_three = IsProblem-colouring 2 2 3 (omega arith) (omega arith) (omega arith) (omega arith)
 
 pub three_colours : ThreeColoursLaw
 three_colours = ((above (colouring 2 2 3) is_three).0 path_colouring.0, below (colouring 2 2 3) is_three path_colouring.1)

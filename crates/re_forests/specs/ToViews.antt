@@ -1,9 +1,9 @@
 -- The laws that carry over what is proved of local algorithms on views to those on finite forests.
-use Rattle.std.specs.Prelude.{ℕ, ◌+◌, ◌*◌, ◌^◌, ◌≤◌}
+use Rattle.std.specs.Prelude.{ℕ, ◌+◌, ◌*◌, ◌≤◌}
 use Rattle.re_classes.specs.Classes.{IsAboveLog, IsAboveLogStar, IsMoreThanConstant}
+use Rattle.re_forests.specs.Classes.{IsAboveLogOnForests, IsAboveLogStarOnForests}
 use Rattle.re_forests.specs.OnForests.{SolvableOnForests}
 use Rattle.re_local.specs.LocalAlgorithms.{SolvableLocal}
-use Rattle.re_local.specs.Towers.{tower}
 use Rattle.re_problem.specs.Problems.{IsProblem, Problem}
 
 -- what a local algorithm solves in T rounds on forests, whose nodes all have identifiers, is solved in T + 1 rounds where only active nodes have
@@ -23,14 +23,6 @@ IsBeyondForests problem T = (N : ℕ) × ((more : ℕ) → N ≤ more → Solvab
 -- on forests it takes more than any constant number of rounds, with enough identifiers
 abbrev pub IsMoreThanConstantOnForests : Problem → Type 0
 IsMoreThanConstantOnForests problem = (T : ℕ) → IsBeyondForests problem T
-
--- on forests it takes at least log* N - c rounds with N identifiers, for some constant c
-abbrev pub IsAboveLogStarOnForests : Problem → Type 0
-IsAboveLogStarOnForests problem = (c : ℕ) × ((T N : ℕ) → tower (T + c) ≤ N → SolvableOnForests problem N T → ⊥)
-
--- on forests it takes more than log N / log C - 1 rounds with N identifiers, for some constant C
-abbrev pub IsAboveLogOnForests : Problem → Type 0
-IsAboveLogOnForests problem = (C : ℕ) × ((T N : ℕ) → C ^ (T + 1) ≤ N → SolvableOnForests problem N T → ⊥)
 
 -- bounds below carry over
 abbrev pub MoreThanConstantOnForestsLaw : Type 0

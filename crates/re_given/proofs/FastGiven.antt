@@ -18,16 +18,16 @@ use Rattle.re_given.proofs.GrownInputs.{grown_children, passive_sides}
 use Rattle.re_given.proofs.JoinedInputs.{FitsAround-joined, IsNeighbour, IsTree-joined, Neighbour, around-joined, joined, known-joined, known-neighbour, label_of, no_neighbour, payloads-joined, same_behind}
 use Rattle.re_given.proofs.KnownViews.{HasCount, HasCount-tree, payloads-known}
 use Rattle.re_given.proofs.SlowGiven.{Has-root}
-use Rattle.re_given.proofs.ZeroGiven.{beside, beside_at, beside_from, beside_set, count_is, some}
+use Rattle.re_given.proofs.ZeroGiven.{beside, beside_at, beside_from, beside_set, count_is}
 use Rattle.re_given.specs.Given.{SolvableGiven, SolvesGivenBy, answer_known, around_known, same_input_view}
 use Rattle.re_given.specs.InputViews.{Fits, InputView, known, payloads}
 use Rattle.re_given.specs.Inputs.{IsInput, exchanged}
 use Rattle.re_labels.proofs.Membership.{AllByRecursion-contains, Contains-filter, Contains-map, first_found, get_or-count_from, length-count_from}
-use Rattle.re_labels.proofs.Places.{map-get-place_of}
+use Rattle.re_labels.proofs.LabelPlaces.{map-get-place_of}
 use Rattle.re_labels.proofs.Tests.{and-true, eqb-same, eqb-true, true-and}
 use Rattle.re_labels.specs.Lists.{count_from, place_of}
 use Rattle.re_labels.specs.Sets.{IsIn, IsLabelSet, IsWithin}
-use Rattle.re_laws.proofs.FastRounds.{collected, fitted_is}
+use Rattle.re_laws.proofs.FastRounds.{collected, fitted_is, some_member}
 use Rattle.re_laws.proofs.Ports.{AllByRecursion-count, AllZip-count, length-ports, map-count}
 use Rattle.re_laws.specs.Algorithms.{at_port}
 use Rattle.re_laws.specs.Fast.{fitted}
@@ -41,7 +41,7 @@ use Rattle.re_table.proofs.MaxRows.{dominated}
 use Rattle.re_table.proofs.MaxSets.{max_sets-row}
 use Rattle.re_table.specs.Constraints.{Has}
 use Rattle.re_table.specs.GoodRows.{IsGood, is_allowed, max_rows, max_sets}
-use Rattle.re_laws.proofs.Branchwise.{back-shift, backs-child}
+use Rattle.re_laws.proofs.JoinedBranches.{back-shift, backs-child}
 use Rattle.re_laws.proofs.ViewLaws.{IsChild, IsView-shift, child_of, shift-shift}
 use Rattle.re_laws.specs.Trees.{Child, IsTree, IsView, Tree, backs, child_at, cut, shift}
 
@@ -112,7 +112,7 @@ module _ (problem input : Problem) (is : IsProblem problem) (is_input : IsInput 
               let u_view : IsView problem.active.degree problem.passive.degree (suc (suc T)) u = IsView-shift problem.passive.degree problem.active.degree (suc (suc T)) s (suc k) c s_view (omega arith) (omega arith) at child in
               let u_fits : Fits input.active input.passive u = FitsAround-shift input.passive input.active problem.passive.degree problem.active.degree (suc (suc T)) s (suc k) c at child s_fits in
               let over : known T (shift (suc T) u c.back) ≡ known T w = ap (known T) (shift-shift problem.passive.degree problem.active.degree (suc T) s (suc k) c s_view at child ∙ s_cut) in
-              some (seen (known T w) (suc k)) (at_port (f (known (suc T) u)) c.back) (seen_at (known T w) u (suc k) c.back u_view u_fits child.least child.most (back-shift problem.passive.degree problem.active.degree (suc T) s (suc k) c at child) over)
+              some_member (seen (known T w) (suc k)) (at_port (f (known (suc T) u)) c.back) (seen_at (known T w) u (suc k) c.back u_view u_fits child.least child.most (back-shift problem.passive.degree problem.active.degree (suc T) s (suc k) c at child) over)
 
   -- whatever is chosen from what is seen stands together at some passive node
   seen_choice : (w : InputView) → IsView problem.passive.degree problem.active.degree (suc T) w → Fits input.passive input.active w → (labels : List ℕ) → IsChoice labels (seen_row (known T w)) → Has problem.passive labels

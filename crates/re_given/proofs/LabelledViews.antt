@@ -14,7 +14,7 @@ use Rattle.re_laws.proofs.Mapping.{count_of}
 use Rattle.re_problem.specs.Problems.{IsProblem, Problem}
 use Rattle.re_table.proofs.Goodness.{Has-Rearranged}
 use Rattle.re_table.specs.Constraints.{Constraint, Has}
-use Rattle.re_laws.proofs.Branchwise.{back-shift, backs-child}
+use Rattle.re_laws.proofs.JoinedBranches.{back-shift, backs-child}
 use Rattle.re_laws.proofs.ViewLaws.{IsChild, IsTree-others, child_of, others-cut, put-others, shift-at, shift-cut, shift-shift}
 use Rattle.re_laws.specs.Trees.{Child, IsTree, IsView, Tree, backs, child_at, cut, end, leaf, more, others, put, shift}
 
@@ -61,7 +61,7 @@ FitsAround-listed own other seen i f (suc n) has each =
     )
 
 -- the children but one show a port less
-others-shown : {E : Type 0} (d e t k : ℕ) (x : Tree E) → IsTree d e t d x → k < d → IsTree d e t (pred d) (others k x)
+pub others-shown : {E : Type 0} (d e t k : ℕ) (x : Tree E) → IsTree d e t d x → k < d → IsTree d e t (pred d) (others k x)
 others-shown zero e t k x h l = absurd (omega arith)
 others-shown (suc d) e zero k leaf h l = tt
 others-shown (suc d) e zero k end h l = absurd h

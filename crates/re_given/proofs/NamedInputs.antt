@@ -8,7 +8,7 @@ use Rattle.re_given.proofs.FastGiven.{IsInput-exchanged}
 use Rattle.re_given.specs.InputExamples.{coloured_edges, edge_colouring, one_out, oriented, oriented_both, sides, tested}
 use Rattle.re_given.specs.Inputs.{IsInput, exchanged}
 use Rattle.re_given.specs.Unavoidable.{colouring}
-use Rattle.re_labels.proofs.Places.{each_degree}
+use Rattle.re_labels.proofs.LabelPlaces.{each_degree}
 use Rattle.re_labels.specs.Lists.{count_from}
 use Rattle.re_problem.proofs.Building.{occurs-fact}
 use Rattle.re_problem.proofs.UsedLabels.{counted_all}

@@ -6,7 +6,6 @@ use Rattle.std.proofs.lemmas.List.{get_or-map, length-map}
 use Rattle.re_labels.proofs.Rearranging.{Rearranged-sym}
 use Rattle.re_labels.specs.Configs.{IsConfig}
 use Rattle.re_labels.specs.Rows.{IsChoice, set_at}
-use Rattle.re_given.proofs.ZeroGiven.{some}
 use Rattle.re_given.proofs.AllInputViews.{Has-below}
 use Rattle.re_given.proofs.Fitting.{Rearranged-front}
 use Rattle.re_given.specs.Given.{ZeroGiven}
@@ -16,6 +15,7 @@ use Rattle.re_labels.proofs.Membership.{AllByRecursion-contains, Contains-count_
 use Rattle.re_labels.proofs.Numbers.{IsLabelSet-count_from, IsLabelSet-filter}
 use Rattle.re_labels.specs.Lists.{count_from}
 use Rattle.re_laws.proofs.Ports.{AllByRecursion-count, length-ports}
+use Rattle.re_laws.proofs.FastRounds.{some_member}
 use Rattle.re_problem.specs.Problems.{IsProblem, Problem}
 use Rattle.re_problem.specs.Steps.{IsUpper}
 use Rattle.re_table.proofs.Goodness.{Has-Rearranged}
@@ -92,7 +92,7 @@ module _ (problem input : Problem) (is : IsProblem problem) (is_input : IsInput 
   filled_by : (config labels : List ℕ) → IsChoice labels (map closed config) → AllByRecursion (λ (s : List ℕ). 0 < length s) (map closed config)
   filled_by [] labels chosen = tt
   filled_by (z ∷ config) [] chosen = absurd chosen
-  filled_by (z ∷ config) (x ∷ labels) chosen = (some (closed z) x chosen.0, filled_by config labels chosen.1)
+  filled_by (z ∷ config) (x ∷ labels) chosen = (some_member (closed z) x chosen.0, filled_by config labels chosen.1)
 
   good_closed : (config : List ℕ) → Contains input.passive.configs config → IsGood problem.passive (map closed config)
   good_closed config held =

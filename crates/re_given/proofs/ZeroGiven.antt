@@ -23,7 +23,7 @@ use Rattle.re_labels.proofs.Tests.{and-true, eqb-same, eqb-true, true-and}
 use Rattle.re_labels.specs.Lists.{count_from}
 use Rattle.re_labels.specs.Sets.{IsIn, IsLabelSet}
 use Rattle.re_laws.proofs.Mapping.{count_of}
-use Rattle.re_laws.proofs.FastRounds.{collected}
+use Rattle.re_laws.proofs.FastRounds.{collected, some_member}
 use Rattle.re_laws.proofs.Ports.{AllZip-count, map-at_port}
 use Rattle.re_laws.specs.Algorithms.{at_port}
 use Rattle.re_problem.specs.Problems.{IsProblem, Problem}
@@ -44,11 +44,6 @@ pub config-Has : (n : ℕ) (constraint : Constraint) (config : List ℕ) → IsC
 config-Has n constraint config is held =
     let config_is : IsConfig constraint.degree n config = AllByRecursion-contains (IsConfig constraint.degree n) constraint.configs config is.configs held in
     rw (sorted_again config config_is.ascends) held
-
--- a set with a label isn't empty
-pub some : (set : List ℕ) (x : ℕ) → Contains set x → 0 < length set
-some [] x (j, m, e) = absurd (omega arith)
-some (y ∷ set) x held = omega arith
 
 module _ (problem input : Problem) (is : IsProblem problem) (is_input : IsInput problem input) (r : ℕ) (f : InputView → List ℕ) (solves : SolvesGivenBy problem input r f) where
   pub count_is : (u : InputView) → IsView problem.active.degree problem.passive.degree (suc r) u → Fits input.active input.passive u → length (f (known r u)) ≡ problem.active.degree
@@ -138,7 +133,7 @@ module _ (problem input : Problem) (is : IsProblem problem) (is_input : IsInput 
   given_some : (z : ℕ) → OccursIn input.active z → 0 < length (sets_given z)
   given_some z (config, held, (k, l, e)) =
       let at : get_or config k 0 ≡ z = get_or_default config k 0 z l ∙ e in
-      some (sets_given z) (at_port (f (known 0 (list_view config))) (suc k)) (subst (λ y. Contains (sets_given y) (at_port (f (known 0 (list_view config))) (suc k))) at (put_beside config held k (omega (arith, ports_count config held))))
+      some_member (sets_given z) (at_port (f (known 0 (list_view config))) (suc k)) (subst (λ y. Contains (sets_given y) (at_port (f (known 0 (list_view config))) (suc k))) at (put_beside config held k (omega (arith, ports_count config held))))
 
   allowed_given : (config : List ℕ) → Contains input.active.configs config → IsAllowed problem.active (map sets_given config)
   allowed_given config held =

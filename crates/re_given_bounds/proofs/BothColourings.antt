@@ -14,7 +14,7 @@ use Rattle.re_given.specs.Unavoidable.{colouring}
 use Rattle.re_local.proofs.ComposedLocal.{SolvableLocal-composed}
 use Rattle.re_local.proofs.MoreLocal.{SolvableLocal-later}
 use Rattle.re_local.specs.LocalAlgorithms.{SolvableLocal}
-use Rattle.re_local.specs.Towers.{tower}
+use Rattle.re_layers.specs.Towers.{tower}
 use Rattle.re_problem.specs.Problems.{IsProblem, Problem}
 
 module _ (problem : Problem) (is : IsProblem problem) where

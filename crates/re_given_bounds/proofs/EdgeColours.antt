@@ -19,31 +19,22 @@ use Rattle.re_given.specs.Given.{around_known}
 use Rattle.re_given.specs.InputExamples.{edge_colouring}
 use Rattle.re_given.specs.InputViews.{Fits, FitsAround, InputView, known, payloads}
 use Rattle.re_labels.proofs.Membership.{Contains-cases, Contains-here, Contains-later, Contains-none}
-use Rattle.re_labels.proofs.Places.{get-place_of, place_of-below}
+use Rattle.re_labels.proofs.LabelPlaces.{get-place_of, place_of-below}
 use Rattle.re_labels.specs.Lists.{count_from, place_of}
 use Rattle.re_laws.proofs.Ports.{map-count}
 use Rattle.re_laws.specs.Algorithms.{at_port}
 use Rattle.re_local.proofs.ColouredLocal.{alike, different_Rearranged, part_right, rising_strictly}
 use Rattle.re_local.proofs.Complete.{alike_choice, length-alike}
 use Rattle.re_local.proofs.FewerRounds.{held, part_different}
-use Rattle.re_local.specs.LocalAlgorithms.{AreDifferent, SolvableLocal, behind_active, behind_passive, identified, shown}
+use Rattle.re_layers.specs.Networks.{AreDifferent}
+use Rattle.re_local.specs.LocalAlgorithms.{SolvableLocal, behind_active, behind_passive, identified, shown}
 use Rattle.re_table.specs.Constraints.{Has}
-use Rattle.re_laws.proofs.Branchwise.{backs-child}
+use Rattle.re_laws.proofs.JoinedBranches.{backs-child}
 use Rattle.re_laws.proofs.ViewLaws.{HasRoom, HasRoom-tree, IsChild, child_at-put, child_of, shift-at}
 use Rattle.re_laws.specs.Trees.{Child, IsTree, IsView, backs, child_at, cut, end, leaf, more, others, put, shift}
+use Rattle.re_layers.proofs.Different.{Different-apart}
 
 -- ---- lists of labels
-not_both : (xs ys : List ℕ) (y : ℕ) → AreDifferent (xs ++ ys) → Contains xs y → Contains ys y → ⊥
-not_both [] ys y apart here there = absurd (Contains-none y here)
-not_both (x ∷ xs) ys y apart here there = elim (Contains-cases y x xs here) [
-  | inl e ↦ apart.0 (subst (Contains (xs ++ ys)) e (right xs))
-  | inr later ↦ not_both xs ys y apart.1 later there
-]
-  where
-    right : (zs : List ℕ) → Contains (zs ++ ys) y
-    right [] = there
-    right (z ∷ zs) = Contains-later y z (zs ++ ys) (right zs)
-
 in_append : (xs ys : List ℕ) (y : ℕ) → Contains (xs ++ ys) y → (Contains xs y → ⊥) → Contains ys y
 in_append [] ys y at none = at
 in_append (x ∷ xs) ys y at none = elim (Contains-cases y x (xs ++ ys) at) [
@@ -208,7 +199,7 @@ module _ (a p N : ℕ) (a_some : 1 ≤ a) (p_low : 2 ≤ p) where
           Contains-Rearranged y (Rearranged-sym (Rearranged-sorted (payloads it.branch ++ it.label ∷ []))) (subst (λ (ids : List ℕ). Contains ids y) same there) in
           let behind : Contains (behind_passive branch) y = payloads_behind branch y at in
           let mine : Contains (it.label ∷ []) y =
-          in_append (payloads it.branch) (it.label ∷ []) y other (λ near. not_both (behind_passive branch) (behind_active rest) y apart.1 behind (it.behind y near)) in
+          in_append (payloads it.branch) (it.label ∷ []) y other (λ near. Different-apart (behind_passive branch) (behind_active rest) y apart.1 behind (it.behind y near)) in
           let is_own : y ≡ z = elim (Contains-cases y it.label [] mine) [
             | inl e ↦ e ∙ own it.label (Contains-later it.label label (payloads rest) it.own)
             | inr none ↦ absurd (Contains-none y none)

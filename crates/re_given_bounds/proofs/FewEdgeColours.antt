@@ -16,9 +16,9 @@ use Rattle.re_given.specs.Inputs.{IsInput}
 use Rattle.re_given.specs.Unavoidable.{colouring}
 use Rattle.re_local.proofs.ComposedLocal.{SolvableLocal-composed}
 use Rattle.re_local.proofs.LocalGiven.{SolvableLocal-fewer}
-use Rattle.re_local.proofs.Towers.{cube_below, own_power, power_below, tower-le}
+use Rattle.re_layers.proofs.Towers.{cube_below, own_power, power_below, tower-le}
 use Rattle.re_local.specs.LocalAlgorithms.{SolvableLocal}
-use Rattle.re_local.specs.Towers.{tower}
+use Rattle.re_layers.specs.Towers.{tower}
 use Rattle.re_problem.specs.Problems.{IsProblem, Problem}
 
 -- a power with at most six factors of a tower is below the tower of two more

@@ -13,4 +13,4 @@ pub mod LocalMeaning
 pub mod OnlyUnavoidable
 pub mod Products
 pub mod RandomMeaning
-mod Sides
+pub mod Sides

@@ -12,7 +12,7 @@ use Rattle.re_labels.specs.Orders.{multisets}
 use Rattle.re_labels.specs.Rows.{IsChoice}
 use Rattle.re_given.proofs.AvoidedInputs.{Zero-from_given}
 use Rattle.re_given.proofs.Colourings.{filtered_constraint}
-use Rattle.re_given.proofs.ZeroGiven.{config-Has, some}
+use Rattle.re_given.proofs.ZeroGiven.{config-Has}
 use Rattle.re_given.specs.Given.{ZeroGiven}
 use Rattle.re_given.specs.Inputs.{IsInput}
 use Rattle.re_given.specs.Unavoidable.{IsMet, IsUnavoidable}
@@ -23,6 +23,7 @@ use Rattle.re_labels.proofs.Tests.{and-true, eqb-same, eqb-true, true-and}
 use Rattle.re_labels.specs.ListSets.{list_set}
 use Rattle.re_labels.specs.Lists.{count_from}
 use Rattle.re_laws.proofs.Mapping.{AllZip-beside, count_of}
+use Rattle.re_laws.proofs.FastRounds.{some_member}
 use Rattle.re_problem.specs.Problems.{IsProblem, Problem}
 use Rattle.re_problem.specs.Steps.{Becomes}
 use Rattle.re_problem.specs.Zero.{Zero}
@@ -157,7 +158,7 @@ module _ (input : Problem) (n : ℕ) (is : IsInput input input) (image : List �
       let (config, held, (k, m, e)) = (is.occurs x l).0 in
       let y : ℕ = get_or (image config) k 0 in
       let m' : k < length (image config) = omega (arith, m, (config_is config held).count, (counts config held).0) in
-      some (sets x) y (in_sets y x (config, held, (k, m, m', e, get_or_default (image config) k y 0 m')))
+      some_member (sets x) y (in_sets y x (config, held, (k, m, m', e, get_or_default (image config) k y 0 m')))
 
   whole_given : ZeroGiven whole input
   whole_given = (

@@ -20,12 +20,13 @@ use Rattle.re_labels.specs.Lists.{count_from}
 use Rattle.re_laws.proofs.Mapping.{count_of}
 use Rattle.re_laws.proofs.Ports.{map-count}
 use Rattle.re_laws.specs.Algorithms.{at_port}
-use Rattle.re_local.specs.LocalAlgorithms.{AreDifferent, SolvableLocal, SolvesApart, behind_passive, identified, shown}
+use Rattle.re_layers.specs.Networks.{AreDifferent}
+use Rattle.re_local.specs.LocalAlgorithms.{SolvableLocal, SolvesApart, behind_passive, identified, shown}
 use Rattle.re_problem.specs.NamedProblems.{OccursIn}
 use Rattle.re_problem.specs.Problems.{IsProblem, Problem}
 use Rattle.re_table.proofs.Goodness.{Has-Rearranged}
 use Rattle.re_table.specs.Constraints.{Constraint, Has, IsConstraint}
-use Rattle.re_laws.proofs.Branchwise.{backs-child}
+use Rattle.re_laws.proofs.JoinedBranches.{backs-child}
 use Rattle.re_laws.proofs.ViewLaws.{IsChild, child_of}
 use Rattle.re_laws.specs.Trees.{Child, IsView, backs, child_at, shift}
 

@@ -7,10 +7,10 @@ use Rattle.re_given_bounds.specs.Telling.{TellsConfig, TellsPassive}
 use Rattle.re_problem.specs.Problems.{Problem}
 use Rattle.re_table.specs.Constraints.{Constraint}
 
-even_itself : (k : ℕ) (problem : Problem) → k % 2 ≡ 0 → exchanged_by k problem ≡ problem
+pub even_itself : (k : ℕ) (problem : Problem) → k % 2 ≡ 0 → exchanged_by k problem ≡ problem
 even_itself k problem even = let halves : k / 2 + k / 2 ≡ k = omega (arith, even) in subst (λ n. exchanged_by n problem ≡ problem) halves (exchanged_by-twice (k / 2) problem)
 
-odd_exchanged : (k : ℕ) (problem : Problem) → (k % 2 ≡ 0 → ⊥) → exchanged_by k problem ≡ exchanged problem
+pub odd_exchanged : (k : ℕ) (problem : Problem) → (k % 2 ≡ 0 → ⊥) → exchanged_by k problem ≡ exchanged problem
 odd_exchanged k problem odd =
     let halves : suc (k / 2 + k / 2) ≡ k = omega (arith, odd) in
     subst (λ n. exchanged_by n problem ≡ exchanged problem) halves (ap exchanged (exchanged_by-twice (k / 2) problem))

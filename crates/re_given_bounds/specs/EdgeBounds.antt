@@ -8,7 +8,7 @@ use Rattle.re_given_bounds.specs.EdgeClasses.{IsSolvableEdgeColoured}
 use Rattle.re_given.specs.InputExamples.{edge_colouring}
 use Rattle.re_given_bounds.specs.GivenBounds.{IsOver, IsValidGiven}
 use Rattle.re_local.specs.LocalAlgorithms.{SolvableLocal}
-use Rattle.re_local.specs.Towers.{tower}
+use Rattle.re_layers.specs.Towers.{tower}
 use Rattle.re_problem.specs.NamedProblems.{unnamed}
 
 -- an upper bound of k steps that is valid given a proper colouring of the passive nodes with one colour more than a passive node meets others has a

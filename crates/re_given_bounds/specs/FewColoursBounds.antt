@@ -5,7 +5,7 @@ use Rattle.re_cert.specs.declared.certificate.Kind.TheVariants.{Upper}
 use Rattle.re_given.specs.Unavoidable.{colouring}
 use Rattle.re_given_bounds.specs.GivenBounds.{IsOver, IsValidGiven}
 use Rattle.re_local.specs.LocalAlgorithms.{SolvableLocal}
-use Rattle.re_local.specs.Towers.{tower}
+use Rattle.re_layers.specs.Towers.{tower}
 use Rattle.re_problem.specs.NamedProblems.{unnamed}
 
 -- an upper bound of k steps that is valid given a proper colouring with one colour more than a node has neighbours has a local algorithm of

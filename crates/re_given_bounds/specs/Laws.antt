@@ -5,7 +5,7 @@ use Rattle.re_given.specs.InputExamples.{edge_colouring}
 use Rattle.re_given.specs.Inputs.{IsInput}
 use Rattle.re_given.specs.Products.{product}
 use Rattle.re_local.specs.LocalAlgorithms.{SolvableLocal}
-use Rattle.re_local.specs.Towers.{tower}
+use Rattle.re_layers.specs.Towers.{tower}
 use Rattle.re_problem.specs.Problems.{IsProblem, Problem}
 
 -- in one hop active nodes with unique identifiers below N colour the passive nodes, of edges where p is 2, properly with N^p colours

@@ -10,7 +10,7 @@ use Rattle.re_chains.specs.Chains.{IsOverProblems}
 use Rattle.re_chains.specs.OverChains.{or_refusal, refusal_of}
 use Rattle.re_check.specs.Verdicts.{meets_back, steps_fault}
 use Rattle.re_check.specs.declared.verdict.ClauseFault.{ClauseFault}
-use Rattle.re_shaping.proofs.Continued.{built-bound, whole}
+use Rattle.re_shaping.proofs.Continued.{behind, built-bound, whole}
 use Rattle.re_shaping.specs.Extensions.{AreSmall}
 use Rattle.re_fit.specs.InputProblems.{input_fault}
 use Rattle.re_fit.specs.declared.inputs.InputFault.{InputFault}
@@ -86,10 +86,6 @@ taken_law input bound most labels names fits problems taken = record {
   accepted = taken;
   means = taken_means input bound names fits problems taken;
 }
-
--- the bound of a chain and the steps behind it
-abbrev pub behind : Kind → ℕ → Bound → List BoundStep → List (ℕ × ℕ) → Bound
-behind kind back chain more renaming = record { kind = kind; back = back; first = chain.first; steps = chain.steps ++ more; renaming = renaming }
 
 pub goes_on : (input : NamedProblem) (kind : Kind) (most labels back : ℕ) (chain bound : Bound) (more : List BoundStep) (renaming : List (ℕ × ℕ)) → IsNamedProblem input
     → built (behind kind back chain more renaming) ≡ Some bound → IsOverProblems bound → length more ≤ most → AreSmall labels more → IsTaken input bound → GoesOnGiven input kind most labels chain bound

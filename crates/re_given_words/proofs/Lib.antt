@@ -1,14 +1,14 @@
 mod AheadCounts
 mod Answered
 pub mod CountingMeans
-mod EndNumbers
+pub mod EndNumbers
 mod EndsAfter
 mod GivenCuts
 mod GivenMeans
 pub mod GoingOn
 mod Held
 pub mod OneRound
-mod ProductMeaning
+pub mod ProductMeaning
 mod RoundsAnswers
 pub mod RoundsLaws
 pub mod RowTests

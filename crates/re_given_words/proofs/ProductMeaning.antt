@@ -27,7 +27,7 @@ limit_isnt : Limit ≡ Done → ⊥
 limit_isnt e = cc
 
 -- without a product nothing is done
-reason_not_done : (problem input : NamedProblem) (fault : ProductFault) → (product_refusal problem input fault).status ≡ Done → ⊥
+pub reason_not_done : (problem input : NamedProblem) (fault : ProductFault) → (product_refusal problem input fault).status ≡ Done → ⊥
 reason_not_done problem input TooManyLabels e = limit_isnt e
 reason_not_done problem input (Nameless pair) e = no_isnt e
 reason_not_done problem input TooManyConfigurations e = limit_isnt e

@@ -6,7 +6,7 @@ use Rattle.std.proofs.lemmas.List.Elements.{Contains-get_or}
 use Rattle.std.proofs.lemmas.List.Quantifiers.{position-Some}
 use Rattle.std.specs.List.{list_any, position}
 use Rattle.re_labels.proofs.Membership.{Contains-In, Contains-map_cases, In-Contains, all-In, all-In_from}
-use Rattle.re_labels.proofs.Places.{map-get-place_of}
+use Rattle.re_labels.proofs.LabelPlaces.{map-get-place_of}
 use Rattle.re_labels.specs.Lists.{place_of}
 use Rattle.re_labels.proofs.LawsOfRows.{multisets_law}
 use Rattle.re_labels.specs.Configs.{IsConfig}

@@ -4,7 +4,7 @@ use Rattle.std.specs.Prelude.{Contains}
 use Rattle.std.specs.List.{AllZip}
 use Rattle.re_labels.proofs.Membership.{Contains-In, Contains-cases, Contains-flat_map, Contains-flat_map_cases, Contains-here, Contains-map, Contains-map_cases, Contains-none, In-Contains}
 use Rattle.std.proofs.lemmas.List.Elements.{Contains-append_cases, Contains-append_left, Contains-append_right}
-use Rattle.re_labels.proofs.Places.{map-get-place_of}
+use Rattle.re_labels.proofs.LabelPlaces.{map-get-place_of}
 use Rattle.re_labels.specs.Lists.{count_from, place_of}
 use Rattle.re_labels.proofs.LawsOfRows.{multisets_law}
 use Rattle.re_labels.proofs.Placing.{Rearranged-placed, placed-Rearranged}

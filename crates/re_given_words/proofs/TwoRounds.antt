@@ -6,7 +6,7 @@ use Rattle.std.proofs.lemmas.List.{get_or-map, get_or_default, length-map, lengt
 use Rattle.std.proofs.lemmas.List.Elements.{Contains-get_or}
 use Rattle.re_labels.proofs.Membership.{AllByRecursion-from_contains, Contains-count_from, Contains-filter, Contains-filter_cases, Contains-flat_map, Contains-flat_map_cases, Contains-map, Contains-map_cases, count_from_range, get_or-count_from, length-count_from}
 use Rattle.re_labels.proofs.Tests.{eqb-same, eqb-true}
-use Rattle.re_labels.specs.Lists.{IsRising, count_from}
+use Rattle.re_labels.specs.Lists.{count_from}
 use Rattle.re_labels.specs.Sets.{IsIn}
 use Rattle.re_labels.proofs.LawsOfRows.{multisets_law}
 use Rattle.re_labels.proofs.NextMultisets.{below-replicate}
@@ -22,6 +22,7 @@ use Rattle.re_table.specs.Constraints.{Has}
 use Rattle.re_table.specs.GoodRows.{IsAllowed, IsGood, allowed, is_good}
 use Rattle.re_problem.specs.Problems.{Problem}
 use Rattle.re_problem.specs.Steps.{IsUpper}
+use Rattle.re_families.proofs.Whole.{alike_rise}
 use Rattle.re_given_words.proofs.OneRound.{HasDegrees, allowed-labels}
 use Rattle.re_given_words.specs.Ahead.{HaveChoices, ShowsOne, ShowsTwo, SolvableByRows, StandsAt}
 use Rattle.re_given_words.specs.declared.standing.Standing.{Standing}
@@ -127,11 +128,6 @@ swapped_degrees problem standing degrees = record {
   passive_most = degrees.active_most;
 }
 
-alike-rises : (k x : ℕ) → IsRising (λ x y. x ≤ y) (replicate k x)
-alike-rises zero x = tt
-alike-rises (suc zero) x = tt
-alike-rises (suc (suc k)) x = (omega arith, alike-rises (suc k) x)
-
 module _ (problem : Problem) (degrees : HasDegrees problem) (standing : List Standing) (shows : ShowsTwo problem standing) where
   abbrev a : ℕ
   a = problem.active.degree
@@ -227,7 +223,7 @@ module _ (problem : Problem) (degrees : HasDegrees problem) (standing : List Sta
 
   -- some set stands at each port
   filled : (i : ℕ) → i < a → 0 < length (places i)
-  filled i low = go p degrees.passive_least (shows.rows (replicate p i) (record { count = length-replicate p i; below = below-replicate p i a low; ascends = alike-rises p i }))
+  filled i low = go p degrees.passive_least (shows.rows (replicate p i) (record { count = length-replicate p i; below = below-replicate p i a low; ascends = alike_rise p i }))
     where
       some : (xs : List ℕ) (k : ℕ) → Contains xs k → 0 < length xs
       some xs k (j, l, e) = omega (arith, l)

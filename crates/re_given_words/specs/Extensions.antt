@@ -1,9 +1,11 @@
 -- Bounds that go on from a chain, and that `given` accepts.
-use Rattle.std.specs.Prelude.{◌≡◌, ◌≤◌, ℕ, true, List, ◌++◌, length}
+use Rattle.std.specs.Prelude.{◌≡◌, ◌≤◌, ℕ, true, List, ◌++◌, length, Option, None, Some}
 use Rattle.re_cert.specs.Bounds.{Bound, BoundStep, is_bound}
 use Rattle.re_cert.specs.declared.certificate.Kind.{Kind}
 use Rattle.re_chains.specs.Chains.{IsOverProblems}
 use Rattle.re_shaping.specs.Extensions.{AreSmall}
+use Rattle.re_frame.specs.Outcomes.{outcome_of}
+use Rattle.re_frame.specs.declared.output.Output.{Output}
 use Rattle.re_given.specs.Given.{ZeroGiven}
 use Rattle.re_given.specs.Inputs.{IsInput}
 use Rattle.re_given_bounds.specs.GivenBounds.{MeansGiven}
@@ -17,6 +19,11 @@ use Rattle.re_given_words.specs.declared.words.BoundWord.TheVariants.{Given}
 -- `given` accepts the bound given the input problem
 abbrev pub IsTaken : NamedProblem → Bound → Type 0
 IsTaken input bound = given_outcome Given input bound ≡ accepted bound
+
+-- the answer of `given` to a bound, and nothing exactly where it accepts it
+abbrev pub Refuses : NamedProblem → Bound → Option Output → Type 0
+Refuses input bound None = IsTaken input bound
+Refuses input bound (Some output) = (IsTaken input bound → ⊥) × (outcome_of output ≡ given_outcome Given input bound)
 
 -- a bound of this kind goes on from the chain given the input problem: its parts make a bound over problems; it has the same first problem and, behind the
 -- chain's steps, at most so many more, each to a problem of at most so many labels; `given` accepts it, and what that says of algorithms holds of the chain's

@@ -2,15 +2,13 @@
 ghost use Rattle.re_given_words.specs.Ahead.{HaveChoices, StandsAt};
 ghost use Rattle.re_given_words.specs.Searching.{AreAllowed, IsAdded, IsMissed, IsRefused};
 ghost use Rattle.re_given_words.specs.declared.standing.Standing.{Standing as Stands};
-ghost use Rattle.re_labels.specs.Sets.{IsLabelSet};
-ghost use Rattle.re_labels.specs.declared.TheConstants.{MAX_LABELS};
 ghost use Rattle.re_table.specs.GoodRows.{is_allowed};
-ghost use Rattle.std.specs.List.{AllByRecursion};
 ghost use Rattle.std.specs.Prelude.{◌≡◌, ◌++◌, ◌∷◌, ◌<◌, ◌≤◌, [], IfOk, IfSome, IsTrue, List, None, false, length, true};
 
 use crate::standing::Standing;
 use crate::stopping::{TryFault, spend};
 use arrayvec::ArrayVec;
+use re_algo::are_sets;
 use re_labels::{LabelSet, Row};
 use re_table::Constraint;
 use std::alloc::Global;
@@ -26,17 +24,6 @@ fn with_behind(sets: &[LabelSet], set: LabelSet) -> ArrayVec<LabelSet, 6>
     }
     more.push(set);
     more
-}
-
-// That each set is one.
-fn are_sets(sets: &[LabelSet])
-    ensures { AllByRecursion (IsLabelSet MAX_LABELS) sets.now }
-{
-    let [first, others @ ..] = sets else {
-        return;
-    };
-    let _count = first.count();
-    are_sets(others)
 }
 
 // Whether some choice of the sets is a configuration.

@@ -2,7 +2,7 @@
 ghost use Rattle.re_shaping.specs.Extensions.{continued};
 ghost use Rattle.re_frame.specs.Outcomes.{outcome_of, status_of};
 ghost use Rattle.re_frame.specs.declared.status.Status.TheVariants.{Done};
-ghost use Rattle.re_given_words.specs.Extensions.{GoesOnGiven, IsTaken, TakenLaw};
+ghost use Rattle.re_given_words.specs.Extensions.{GoesOnGiven, IsTaken, Refuses, TakenLaw};
 ghost use Rattle.re_given_words.specs.Verdicts.{given_outcome};
 ghost use Rattle.re_given_words.specs.declared.words.BoundWord.TheVariants.{Given};
 ghost use Rattle.std.specs.Prelude.{◌≡◌, ◌↔◌, IfOk, IfSome, IsTrue, None};
@@ -41,6 +41,22 @@ pub fn is_accepted(alloc: Global, bound: &Certificate, input: &Problem) -> Resul
 {
     let output = given_verdict(alloc, bound, input)?;
     Ok(is_done(output.answer))
+}
+
+/// The answer of `given` to the bound, where that isn't that it accepts it.
+pub fn given_refusal(
+    alloc: Global,
+    bound: &Certificate,
+    input: &Problem,
+) -> Result<Option<Output>, NoMemory>
+    ensures { IfOk result (Refuses input.now bound.now) }
+{
+    let output = given_verdict(alloc, bound, input)?;
+    if is_done(output.answer) {
+        Ok(None)
+    } else {
+        Ok(Some(output))
+    }
 }
 
 /// A bound that `given` accepts goes on from itself.

@@ -33,7 +33,7 @@ pub use counting::{Counted, RoundsTexts, count, count_within};
 pub use ends::{Ends, FEW_TRIES, ends_after};
 pub use faults::input_fault_output;
 pub use fitting::MAX_TRIES;
-pub use going_on::{extended_given, given_verdict, is_accepted, is_done, taken_law};
+pub use going_on::{extended_given, given_refusal, given_verdict, is_accepted, is_done, taken_law};
 pub use looking::{Ahead, look_ahead};
 pub use one::find_row;
 pub use standing::Standing;

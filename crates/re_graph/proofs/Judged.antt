@@ -1,14 +1,15 @@
 -- Labels that are a solution, and labels that are none.
-use Rattle.std.proofs.Common.{◌≡◌, ℕ, ◌<◌, Bool, true, false, not, List, [], ◌∷◌, length, map, get_or, refl, sym, ap, ◌∙◌, subst, Option, None, Some, position, nat_lt, true≢false, arith}
-use Rattle.std.proofs.lemmas.Bool.Decides.{nat_tests}
+use Rattle.std.proofs.Common.{◌≡◌, ℕ, Bool, true, false, not, List, [], length, map, get_or, refl, sym, ap, ◌∙◌, subst, Option, None, Some, position, nat_lt, true≢false}
 use Rattle.std.proofs.lemmas.Bool.{false≢true}
 use Rattle.std.specs.List.{AllByRecursion, list_all}
 use Rattle.re_cover.proofs.Outputs.{all-at, all-places}
 use Rattle.re_cover.specs.Graphs.{IsSolution, PortGraph, label_at}
 use Rattle.re_cover.specs.declared.ends.GraphEnd.{GraphEnd}
+use Rattle.re_problem.proofs.FedLines.{unnot}
+use Rattle.re_algo.proofs.JudgeCode.{all-below}
 use Rattle.re_graph.proofs.Meaning.{config-of}
 use Rattle.re_graph.specs.Judging.{IsJudged, fault_in, first_active, first_passive, labels_fault}
-use Rattle.re_labels.proofs.Tests.{and-true, eqb-same, true-and}
+use Rattle.re_labels.proofs.Tests.{eqb-same}
 use Rattle.std.specs.Prelude.{◌==◌}
 use Rattle.re_labels.specs.declared.TheConstants.{MAX_LABELS}
 use Rattle.re_problem.proofs.ZeroPlaces.{none-fails}
@@ -29,29 +30,11 @@ pub other-count : (n : ℕ) (constraint : Constraint) (labels : List ℕ) → Is
 other-count n constraint labels is other =
     no-config constraint labels (λ has. false≢true (other ∙ ap (λ d. d == constraint.degree) (config-of n constraint labels is has).0 ∙ eqb-same constraint.degree))
 
-pub below-all : (n : ℕ) (labels : List ℕ) → list_all (λ label. nat_lt label n) labels ≡ true → AllByRecursion (λ label. label < n) labels
-below-all n [] all = tt
-below-all n (x ∷ labels) all =
-    let both = and-true (nat_lt x n) (list_all (λ label. nat_lt label n) labels) all in
-    let first : nat_lt x n ≡ true = both.0 in
-    (grind (arith, nat_tests), below-all n labels both.1)
-
-all-below : (n : ℕ) (labels : List ℕ) → AllByRecursion (λ label. label < n) labels → list_all (λ label. nat_lt label n) labels ≡ true
-all-below n [] below = refl
-all-below n (x ∷ labels) below =
-    let here : x < n = below.0 in
-    let first : nat_lt x n ≡ true = grind (arith, nat_tests) in
-    true-and (nat_lt x n) (list_all (λ label. nat_lt label n) labels) first (all-below n labels below.1)
-
 pub too-great : (constraint : Constraint) (labels : List ℕ) → IsConstraint MAX_LABELS constraint → false ≡ list_all (λ label. nat_lt label MAX_LABELS) labels → false ≡ has_config constraint labels
 too-great constraint labels is great =
     no-config constraint labels (λ has. absurd (false≢true (great ∙ all-below MAX_LABELS labels (config-of MAX_LABELS constraint labels is has).1)))
 
 -- ---- what is a solution
-unnot : (b : Bool) → not b ≡ false → b ≡ true
-unnot true e = refl
-unnot false e = absurd (true≢false e)
-
 module _ (problem : Problem) (graph : PortGraph) (labels : List (List ℕ)) where
   abbrev at-ends : List GraphEnd → List ℕ
   at-ends ends = map (label_at labels) ends

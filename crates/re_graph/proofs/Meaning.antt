@@ -7,7 +7,8 @@ use Rattle.re_cover.specs.Graphs.{IsEndOf, IsSolution, label_at}
 use Rattle.re_labels.proofs.Rearranging.{Rearranged-sym}
 use Rattle.re_labels.proofs.Sorting.{AllByRecursion-Rearranged, Rearranged-sorted, length-sorted}
 use Rattle.re_labels.specs.Configs.{IsConfig, sorted}
-use Rattle.re_graph.proofs.Fronts.{active-front, all-kept-front, kept-has, long-parts, not-below}
+use Rattle.re_walks.proofs.ConfigBeginnings.{not_less}
+use Rattle.re_graph.proofs.Fronts.{active-front, all-kept-front, kept-has, long-parts}
 use Rattle.re_graph.specs.Solving.{SolutionWalkLaw, are_active, are_kept, have_labels, is_kept, labels_at, labels_of, passes_on, place_of}
 use Rattle.re_labels.proofs.Membership.{AllByRecursion-contains, AllByRecursion-weaker}
 use Rattle.re_labels.proofs.Tests.{and-true, or-right, true-and, true-below}
@@ -99,7 +100,7 @@ active-joined active n (labels ∷ lists) all has =
     let here : take active.degree (labels ++ joined lists) ≡ labels = take_at labels (joined lists) active.degree all.0 in
     let behind : drop active.degree (labels ++ joined lists) ≡ joined lists = drop_at labels (joined lists) active.degree all.0 in
     let long : active.degree ≤ length (labels ++ joined lists) = omega (arith, length-append labels (joined lists), all.0) in
-    ap (λ b. cond b (is_begun active n (labels ++ joined lists)) (has_config active (take active.degree (labels ++ joined lists)) && are_active active n (length lists) (drop active.degree (labels ++ joined lists)))) (not-below (length (labels ++ joined lists)) active.degree long)
+    ap (λ b. cond b (is_begun active n (labels ++ joined lists)) (has_config active (take active.degree (labels ++ joined lists)) && are_active active n (length lists) (drop active.degree (labels ++ joined lists)))) (not_less (length (labels ++ joined lists)) active.degree long)
     ∙ true-and (has_config active (take active.degree (labels ++ joined lists))) (are_active active n (length lists) (drop active.degree (labels ++ joined lists)))
     (ap (has_config active) here ∙ Has-has_config active labels has.0) (ap (are_active active n (length lists)) behind ∙ active-joined active n lists all.1 has.1)
 

@@ -3,14 +3,15 @@ ghost use Rattle.re_cover.specs.Graphs.{IsSolution, label_at as label_there};
 ghost use Rattle.re_graph.specs.Judging.{IsJudged, labels_fault as fault_of};
 ghost use Rattle.re_problem.specs.NamedProblems.{unnamed};
 ghost use Rattle.re_table.specs.Constraints.{has_config as holds};
-ghost use Rattle.std.specs.List.{list_all, position};
-ghost use Rattle.std.specs.Prelude.{◌≡◌, ◌≤◌, ◌<◌, ◌==◌, IfSome, length, map, nat_lt, not, slice_index};
+ghost use Rattle.std.specs.List.{position};
+ghost use Rattle.std.specs.Prelude.{◌≡◌, ◌≤◌, ◌<◌, ◌==◌, IfSome, length, map, not, slice_index};
 
 use crate::graph::{Graph, PassiveEnds};
 use crate::passing::is_config;
 use arrayvec::ArrayVec;
+use re_algo::are_labels;
 use re_cover::GraphEnd;
-use re_labels::{MAX_LABELS, PortLabels};
+use re_labels::PortLabels;
 use re_problem::Problem;
 use re_table::Constraint;
 
@@ -21,13 +22,6 @@ pub enum LabelsFault {
     Active(usize),
     /// Those of all active nodes are, and the ones at the ends of this passive node aren't.
     Passive(usize),
-}
-
-// Whether each label is one that a problem may have.
-fn are_labels(labels: &[u8]) -> bool
-    ensures { result ≡ list_all (λ label. nat_lt label MAX_LABELS) labels.now }
-{
-    labels.iter().all(|label| *label < MAX_LABELS)
 }
 
 // Whether there are as many labels as the degree.

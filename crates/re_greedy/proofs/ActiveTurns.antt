@@ -1,6 +1,6 @@
 -- The turn of one colour, at active nodes: those of the colour put out labels that fit what they are told, and the others keep what they have.
-use Rattle.std.proofs.Common.{◌≡◌, ℕ, zero, suc, ◌+◌, ◌-◌, ◌≤◌, ◌<◌, Bool, true, false, eqb, List, [], ◌∷◌, map, length, refl, sym, ◌∙◌, subst, arith, inl, inr}
-use Rattle.std.specs.Prelude.{Contains, replicate}
+use Rattle.std.proofs.Common.{◌≡◌, ℕ, suc, ◌+◌, ◌-◌, ◌≤◌, ◌<◌, Bool, true, false, eqb, List, [], ◌∷◌, map, length, refl, sym, ◌∙◌, subst, arith, inl, inr}
+use Rattle.std.specs.Prelude.{Contains}
 use Rattle.std.specs.List.{AllByRecursion, AllZip}
 use Rattle.std.proofs.lemmas.Bool.Decides.{nat_tests}
 use Rattle.std.proofs.lemmas.List.{length-map}
@@ -9,16 +9,17 @@ use Rattle.re_labels.proofs.Rearranging.{Contains-Rearranged, length-AllZip}
 use Rattle.re_labels.proofs.Sorting.{Rearranged-sorted, length-sorted}
 use Rattle.re_labels.specs.Configs.{IsConfig, sorted}
 use Rattle.re_labels.specs.Rows.{IsChoice}
-use Rattle.re_greedy.proofs.Parts.{choice_only, chosen_in, chosen_itself}
+use Rattle.re_greedy.proofs.Parts.{choice_only, chosen_itself}
 use Rattle.re_greedy.proofs.Stages.{Acts, active_there, stage, stage_active}
 use Rattle.re_greedy.proofs.Told.{L, sets, sets_itself, sets_there, told, wide, wide_cases, wide_only}
 use Rattle.re_greedy.specs.Greedy.{IsGreedy}
-use Rattle.re_labels.proofs.Membership.{AllByRecursion-contains, AllByRecursion-from_contains, Contains-cases, Contains-here, Contains-later, Contains-map_cases, Contains-none}
+use Rattle.re_labels.proofs.Membership.{AllByRecursion-contains, AllByRecursion-from_contains, Contains-here, Contains-later, Contains-map_cases}
 use Rattle.re_labels.proofs.Tests.{eqb-same, eqb-true}
 use Rattle.re_labels.specs.Sets.{IsIn, has}
 use Rattle.re_problem.specs.Problems.{IsProblem, Problem}
 use Rattle.re_table.specs.Constraints.{Constraint, Has}
 use Rattle.re_table.specs.GoodRows.{IsAllowed}
+use Rattle.re_local.proofs.ColouredHops.{chosen_in, in_replicate}
 
 -- labels of a configuration are below the number of labels
 pub has_below : (problem : Problem) (labels : List ℕ) → IsProblem problem → Has problem.active labels → (z : ℕ) → Contains labels z → z < problem.labels
@@ -32,10 +33,6 @@ has_count problem labels is has =
     let config : IsConfig problem.active.degree problem.labels (sorted labels) =
     AllByRecursion-contains (IsConfig problem.active.degree problem.labels) problem.active.configs (sorted labels) is.active.configs has in
     sym (length-sorted labels) ∙ config.count
-
-pub in_replicate : (k w y : ℕ) → Contains (replicate k w) y → y ≡ w
-in_replicate zero w y held = absurd (Contains-none y held)
-in_replicate (suc k) w y held = elim (Contains-cases y w (replicate k w) held) [ inl e ↦ e | inr later ↦ in_replicate k w y later ]
 
 module _ (problem : Problem) (partial : List (List ℕ)) (c q : ℕ) (is : IsProblem problem) (greedy : IsGreedy problem partial) (turn : q < c) where
   abbrev n : ℕ

@@ -10,7 +10,7 @@ use Rattle.re_greedy.proofs.GreedyClasses.{greedy_class, passive_greedy_class}
 use Rattle.re_greedy.proofs.GreedyTest.{greedy_test}
 use Rattle.re_greedy.specs.Examples.{EdgesLaw, independent_partial, independent_sets}
 use Rattle.re_greedy.specs.Greedy.{is_greedy}
-use Rattle.re_labels.proofs.Places.{each_degree}
+use Rattle.re_labels.proofs.LabelPlaces.{each_degree}
 use Rattle.re_problem.specs.Problems.{IsProblem}
 
 -- ---- independent sets

@@ -5,7 +5,7 @@ use Rattle.std.specs.List.{AllByRecursion}
 use Rattle.std.proofs.lemmas.List.{length-map, map-id}
 use Rattle.re_labels.proofs.Sorting.{length-sorted}
 use Rattle.re_labels.specs.Configs.{IsConfig, sorted}
-use Rattle.re_local.proofs.ColouredHops.{IsProblem-colouring}
+use Rattle.re_local.proofs.ColouredHops.{IsProblem-colouring, in_replicate}
 use Rattle.re_given.proofs.Colourings.{IsInput-colouring}
 use Rattle.re_given.proofs.Itself.{SolvableGiven-itself}
 use Rattle.re_given.proofs.MappingGiven.{SolvableGiven-relaxed}
@@ -15,7 +15,6 @@ use Rattle.re_given.specs.Unavoidable.{colouring}
 use Rattle.re_greedy.proofs.Colours.{colour_around, colours_around}
 use Rattle.re_greedy.proofs.Parts.{all_alike, put_out, put_out_all, put_out_none, waiting_all}
 use Rattle.re_greedy.proofs.Stages.{Acts, IsProblem-stage, active_there, passive_there, stage, stage_active, stage_passive}
-use Rattle.re_greedy.proofs.ActiveTurns.{in_replicate}
 use Rattle.re_greedy.proofs.Turns.{SolvableGiven-turn}
 use Rattle.re_greedy.specs.Greedy.{IsGreedy}
 use Rattle.re_labels.proofs.Membership.{AllByRecursion-contains, AllByRecursion-from_contains, Contains-map_cases, Distinct, Distinct-map}

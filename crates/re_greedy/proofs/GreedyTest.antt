@@ -11,13 +11,14 @@ use Rattle.re_labels.specs.Orders.{multisets}
 use Rattle.re_labels.specs.Rows.{IsChoice, placed, set_at}
 use Rattle.re_greedy.proofs.ActiveTurns.{has_below}
 use Rattle.re_greedy.specs.Greedy.{IsGreedy, is_greedy, joining, wanting}
-use Rattle.re_labels.proofs.Before.{same_list-refl, same_list-same}
-use Rattle.re_labels.proofs.Membership.{AllByRecursion-contains, AllByRecursion-from_contains, Contains-In, Contains-count_from, Contains-filter, Contains-filter_cases, Contains-here, Contains-later, Contains-map_cases, In-Contains, all-In, all-In_from, any_found, any_true, map-alike}
-use Rattle.re_labels.proofs.Places.{map-get-place_of, place_of-below}
+use Rattle.re_labels.proofs.Before.{same_list-same}
+use Rattle.re_labels.proofs.Membership.{AllByRecursion-contains, AllByRecursion-from_contains, Contains-In, Contains-count_from, Contains-filter, Contains-filter_cases, Contains-here, Contains-later, Contains-map_cases, In-Contains, all-In, all-In_from, any_found, map-alike}
+use Rattle.re_labels.proofs.LabelPlaces.{map-get-place_of, place_of-below}
 use Rattle.re_labels.proofs.Tests.{and-true, below-true, eqb-same, eqb-true, or-left, or-right, or-true, true-and, true-below}
 use Rattle.re_labels.specs.Lists.{count_from, place_of, same_list}
 use Rattle.re_problem.proofs.StepLaws.{map-map}
 use Rattle.re_problem.specs.Problems.{IsProblem, Problem}
+use Rattle.re_problem.proofs.HeldLabels.{is_held}
 use Rattle.re_table.proofs.Goodness.{IsAllowed-Rearranged, IsAllowed-is_allowed, is_allowed-IsAllowed}
 use Rattle.re_table.specs.Constraints.{Has}
 use Rattle.re_table.specs.GoodRows.{IsAllowed, is_allowed}
@@ -27,9 +28,6 @@ use Rattle.std.proofs.lemmas.List.{get_or-map}
 -- ---- lists of lists
 listed : (lists : List (List ℕ)) (v : List ℕ) → list_any (same_list v) lists ≡ true → Contains lists v
 listed lists v h = let (w, at, same) = any_found (same_list v) lists h in subst (Contains lists) (sym (same_list-same v w same)) at
-
-listed_test : (lists : List (List ℕ)) (v : List ℕ) → Contains lists v → list_any (same_list v) lists ≡ true
-listed_test lists v at = any_true (same_list v) lists v at (same_list-refl v)
 
 module _ (problem : Problem) (partial : List (List ℕ)) (is : IsProblem problem) where
   abbrev n : ℕ
@@ -53,7 +51,7 @@ module _ (problem : Problem) (partial : List (List ℕ)) (is : IsProblem problem
   may_join : (seen : List ℕ) (label : ℕ) → label < n → Contains partial (sorted (label ∷ seen)) → Contains (joining n partial seen) label
   may_join seen label low held =
       Contains-filter (λ label. list_any (same_list (sorted (label ∷ seen))) partial) (count_from 0 n) label (Contains-count_from 0 n label (omega arith) (omega (arith, low)))
-      (listed_test partial (sorted (label ∷ seen)) held)
+      (is_held partial (sorted (label ∷ seen)) held)
 
   joined : (labels : List ℕ) (around : List (List ℕ)) → IsChoice labels (map (joining n partial) around) → AllZip (λ label seen. Contains partial (sorted (label ∷ seen))) labels around
   joined [] [] chosen = tt
@@ -126,7 +124,7 @@ module _ (problem : Problem) (partial : List (List ℕ)) (is : IsProblem problem
   to_test : IsGreedy problem partial → is_greedy problem partial ≡ true
   to_test greedy =
       true-and (list_any (same_list []) partial) (list_all whole partial && list_all answered (multisets problem.active.degree 0 (length wanted)))
-      (listed_test partial [] greedy.none)
+      (is_held partial [] greedy.none)
       (true-and (list_all whole partial) (list_all answered (multisets problem.active.degree 0 (length wanted)))
       (all-In_from whole partial (λ labels i. there labels (eqb (length labels) problem.passive.degree) refl (In-Contains labels partial i)))
       (all-In_from answered (multisets problem.active.degree 0 (length wanted)) (λ places i. answer places (In-Contains places (multisets problem.active.degree 0 (length wanted)) i))))
@@ -134,7 +132,7 @@ module _ (problem : Problem) (partial : List (List ℕ)) (is : IsProblem problem
       there : (labels : List ℕ) (b : Bool) → eqb (length labels) problem.passive.degree ≡ b → Contains partial labels → whole labels ≡ true
       there labels true e at =
           or-right (not (eqb (length labels) problem.passive.degree)) (list_any (same_list labels) problem.passive.configs)
-          (listed_test problem.passive.configs labels (greedy.full labels at (eqb-true (length labels) problem.passive.degree e)))
+          (is_held problem.passive.configs labels (greedy.full labels at (eqb-true (length labels) problem.passive.degree e)))
       there labels false e at =
           or-left (not (eqb (length labels) problem.passive.degree)) (list_any (same_list labels) problem.passive.configs) (ap not e)
 

@@ -9,7 +9,7 @@ use Rattle.re_greedy.proofs.GreedyTest.{greedy_test}
 use Rattle.re_greedy.specs.Examples.{has_matched, is_edge, is_node, joins, matched, matched_partial, matchings}
 use Rattle.re_greedy.specs.Greedy.{is_greedy}
 use Rattle.re_labels.proofs.Membership.{Contains-In, all-In}
-use Rattle.re_labels.proofs.Places.{each_degree}
+use Rattle.re_labels.proofs.LabelPlaces.{each_degree}
 use Rattle.re_laws.specs.Chains as chain
 use Rattle.re_problem.specs.Problems.{IsProblem}
 use Rattle.re_problem.specs.Steps.{IsUpper}

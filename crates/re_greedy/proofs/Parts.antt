@@ -1,7 +1,7 @@
 -- The labels below a number in a list, and those from it on; lists in which nothing stands twice; choices from sets of one label.
 use Rattle.std.proofs.Common.{◌≡◌, ℕ, suc, ◌+◌, ◌≤◌, ◌<◌, Bool, true, false, cond, ltb, ◌&&◌, List, [], ◌∷◌, filter, map, length, refl, sym, ◌∙◌, ap, subst, arith, inl, inr}
 use Rattle.std.specs.Prelude.{Contains, not, replicate}
-use Rattle.std.proofs.lemmas.Bool.Decides.{nat_tests}
+use Rattle.std.proofs.lemmas.Bool.{le-ltb}
 use Rattle.re_labels.proofs.Rearranging.{Rearranged-refl}
 use Rattle.re_labels.specs.Rearranging.{Rearranged, chained, kept, swapped, unmoved}
 use Rattle.re_labels.specs.Rows.{IsChoice}
@@ -19,24 +19,17 @@ put_out n zs = filter (λ z. ltb z n) zs
 abbrev pub waiting : ℕ → List ℕ → List ℕ
 waiting n zs = filter (λ z. not (ltb z n)) zs
 
-pub not_below : (z n : ℕ) → n ≤ z → ltb z n ≡ false
-not_below z n high = at (ltb z n) refl
-  where
-    at : (b : Bool) → ltb z n ≡ b → b ≡ false
-    at true e = absurd (let low : z < n = grind (arith, nat_tests) in omega (arith, low, high))
-    at false e = refl
-
 pub put_out_low : (n z : ℕ) (zs : List ℕ) → z < n → put_out n (z ∷ zs) ≡ z ∷ put_out n zs
 put_out_low n z zs low = subst (λ b. cond b (z ∷ put_out n zs) (put_out n zs) ≡ z ∷ put_out n zs) (sym (true-below z n low)) refl
 
 pub put_out_high : (n z : ℕ) (zs : List ℕ) → n ≤ z → put_out n (z ∷ zs) ≡ put_out n zs
-put_out_high n z zs high = subst (λ b. cond b (z ∷ put_out n zs) (put_out n zs) ≡ put_out n zs) (sym (not_below z n high)) refl
+put_out_high n z zs high = subst (λ b. cond b (z ∷ put_out n zs) (put_out n zs) ≡ put_out n zs) (sym (le-ltb z n high)) refl
 
 pub waiting_low : (n z : ℕ) (zs : List ℕ) → z < n → waiting n (z ∷ zs) ≡ waiting n zs
 waiting_low n z zs low = subst (λ b. cond (not b) (z ∷ waiting n zs) (waiting n zs) ≡ waiting n zs) (sym (true-below z n low)) refl
 
 pub waiting_high : (n z : ℕ) (zs : List ℕ) → n ≤ z → waiting n (z ∷ zs) ≡ z ∷ waiting n zs
-waiting_high n z zs high = subst (λ b. cond (not b) (z ∷ waiting n zs) (waiting n zs) ≡ z ∷ waiting n zs) (sym (not_below z n high)) refl
+waiting_high n z zs high = subst (λ b. cond (not b) (z ∷ waiting n zs) (waiting n zs) ≡ z ∷ waiting n zs) (sym (le-ltb z n high)) refl
 
 pub put_out_all : (n : ℕ) (zs : List ℕ) → ((z : ℕ) → Contains zs z → z < n) → put_out n zs ≡ zs
 put_out_all n [] each = refl
@@ -127,20 +120,6 @@ chosen_each g h (z ∷ zs) each = (each z (Contains-here z zs), chosen_each g h 
 pub chosen_itself : (f : ℕ → List ℕ) (zs : List ℕ) → ((z : ℕ) → Contains zs z → Contains (f z) z) → IsChoice zs (map f zs)
 chosen_itself f [] each = tt
 chosen_itself f (z ∷ zs) each = (each z (Contains-here z zs), chosen_itself f zs (λ w at. each w (Contains-later w z zs at)))
-
--- what is chosen is in the set of some label
-pub chosen_in : (f : ℕ → List ℕ) (ys xs : List ℕ) (y : ℕ) → IsChoice ys (map f xs) → Contains ys y → (x : ℕ) × Contains xs x × Contains (f x) y
-chosen_in f [] xs y chosen held = absurd (Contains-none y held)
-chosen_in f (z ∷ ys) [] y chosen held = absurd chosen
-chosen_in f (z ∷ ys) (x ∷ xs) y chosen held = elim (Contains-cases y z ys held) [
-  | inl e ↦ (x, Contains-here x xs, subst (Contains (f x)) (sym e) chosen.0)
-  | inr there ↦ (let (w, at, in_set) = chosen_in f ys xs y chosen.1 there in (w, Contains-later w x xs at, in_set))
-]
-
--- one label from all sets
-pub chosen_alike : (f : ℕ → List ℕ) (y : ℕ) (xs : List ℕ) → ((x : ℕ) → Contains xs x → Contains (f x) y) → IsChoice (replicate (length xs) y) (map f xs)
-chosen_alike f y [] each = tt
-chosen_alike f y (x ∷ xs) each = (each x (Contains-here x xs), chosen_alike f y xs (λ w held. each w (Contains-later w x xs held)))
 
 pub all_alike : (f : ℕ → ℕ) (x : ℕ) (labels : List ℕ) → ((y : ℕ) → Contains labels y → f y ≡ x) → map f labels ≡ replicate (length labels) x
 all_alike f x [] each = refl

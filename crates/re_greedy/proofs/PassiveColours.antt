@@ -10,7 +10,7 @@ use Rattle.re_labels.proofs.Sorting.{AllByRecursion-Rearranged, Rearranged-sorte
 use Rattle.re_labels.specs.Configs.{IsConfig, sorted}
 use Rattle.re_labels.specs.Rows.{IsChoice}
 use Rattle.re_families.proofs.Whole.{alike_rise}
-use Rattle.re_local.proofs.ColouredHops.{IsProblem-colouring}
+use Rattle.re_local.proofs.ColouredHops.{IsProblem-colouring, chosen_in, one_chosen}
 use Rattle.re_local.proofs.DifferentLabels.{Distinct-Rearranged, rising_strictly}
 use Rattle.re_given.proofs.Colourings.{IsInput-colouring, colour_there, colours_there}
 use Rattle.re_given.specs.Given.{SolvableGiven}
@@ -18,10 +18,10 @@ use Rattle.re_given.specs.Inputs.{IsInput, exchanged}
 use Rattle.re_given.specs.Unavoidable.{colouring}
 use Rattle.re_greedy.proofs.Colours.{colours_around}
 use Rattle.re_greedy.proofs.Hops.{SolvableGiven-hops}
-use Rattle.re_greedy.proofs.Parts.{choice_only, chosen_alike, chosen_in, chosen_itself, known_by}
+use Rattle.re_greedy.proofs.Parts.{choice_only, chosen_itself, known_by}
 use Rattle.re_greedy.proofs.Ported.{IsProblem-ported, SolvableGiven-ported, colour_of, number_below, ported, ported_active, ported_passive, ported_passive_there}
 use Rattle.re_labels.proofs.Membership.{AllByRecursion-contains, AllByRecursion-from_contains, Contains-cases, Contains-count_from, Contains-filter, Contains-filter_cases, Contains-here, Contains-later, Contains-map, Contains-map_cases, Contains-none, Distinct, Distinct-count_from, count_from_range, map-alike}
-use Rattle.re_labels.proofs.Places.{get-place_of, place_of-below}
+use Rattle.re_labels.proofs.LabelPlaces.{get-place_of, place_of-below}
 use Rattle.re_labels.proofs.Sets.{IsIn-has, has-IsIn}
 use Rattle.re_labels.specs.Lists.{count_from, place_of}
 use Rattle.re_labels.specs.Sets.{IsIn, has}
@@ -151,7 +151,7 @@ module _ (a p N : ℕ) (a_low : 2 ≤ a) (a_high : a ≤ 6) (p_low : 2 ≤ p) (p
       let low : y < length rows = place_of-below rows config held in
       let each : (z : ℕ) → Contains config z → Contains (wide z) y =
       λ z at. wide_there z y low (subst (λ r. Contains r z) (sym (get-place_of rows config held)) at) in
-      let chosen : IsChoice (replicate p y) (map wide config) = subst (λ k. IsChoice (replicate k y) (map wide config)) config_is.count (chosen_alike wide y config each) in
+      let chosen : IsChoice (replicate p y) (map wide config) = subst (λ k. IsChoice (replicate k y) (map wide config)) config_is.count (one_chosen wide y config each) in
       let has : Has target.passive (replicate p y) =
       subst (Contains (colouring p a passive_colours).active.configs) (sym (sorted_again (replicate p y) (alike_rise p y)))
       (colour_there p a passive_colours y (omega (arith, p_low)) (omega (arith, low))) in (

@@ -4,6 +4,7 @@ use Rattle.std.specs.Prelude.{Contains, not, replicate}
 use Rattle.std.specs.List.{AllByRecursion, AllZip}
 use Rattle.std.proofs.lemmas.Bool.Decides.{nat_tests}
 use Rattle.std.proofs.lemmas.List.{length-map, length-replicate}
+use Rattle.std.proofs.lemmas.Bool.{le-ltb}
 use Rattle.re_labels.proofs.ChoicesOfRows.{IsChoice-Rearranged}
 use Rattle.re_labels.proofs.Rearranging.{Contains-Rearranged, Rearranged-map, Rearranged-sym, length-Rearranged}
 use Rattle.re_labels.proofs.Sorting.{Rearranged-sorted, length-sorted}
@@ -12,13 +13,13 @@ use Rattle.re_labels.specs.Rearranging.{Rearranged, chained, kept}
 use Rattle.re_labels.specs.Rows.{IsChoice}
 use Rattle.re_local.proofs.DifferentLabels.{Distinct-Rearranged}
 use Rattle.re_given.proofs.GrownInputs.{without_one}
-use Rattle.re_greedy.proofs.Parts.{Rearranged-filter, choice_only, chosen_each, not_below, put_out, put_out_high, put_out_low, put_out_most, waiting, waiting_high, waiting_low}
+use Rattle.re_greedy.proofs.Parts.{Rearranged-filter, choice_only, chosen_each, put_out, put_out_high, put_out_low, put_out_most, waiting, waiting_high, waiting_low}
 use Rattle.re_greedy.proofs.Stages.{Stands, passive_there, stage}
 use Rattle.re_greedy.proofs.ActiveTurns.{has_below}
 use Rattle.re_greedy.proofs.Told.{L, sets, sets_cases, sets_itself, sets_only, sets_there, told, wide, wide_below, wide_itself, wide_there}
 use Rattle.re_greedy.specs.Greedy.{IsGreedy}
 use Rattle.re_labels.proofs.Membership.{AllByRecursion-contains, AllByRecursion-from_contains, Contains-cases, Contains-filter, Contains-here, Contains-later, Contains-map_cases, Distinct}
-use Rattle.re_labels.proofs.Places.{get-place_of, place_of-below}
+use Rattle.re_labels.proofs.LabelPlaces.{get-place_of, place_of-below}
 use Rattle.re_labels.proofs.Sets.{IsIn-has, has-IsIn}
 use Rattle.re_labels.proofs.Tests.{eqb-apart, eqb-same, eqb-true}
 use Rattle.re_labels.specs.Lists.{place_of}
@@ -94,7 +95,7 @@ module _ (problem : Problem) (partial : List (List ℕ)) (c q : ℕ) (is : IsPro
         subst Distinct (waiting_high n (n + q) rest (omega arith)) (Distinct-Rearranged (Rearranged-filter (λ z. not (ltb z n)) order) around.different) in (
           rest,
           order,
-          λ z there e. apart.0 (Contains-filter (λ z. not (ltb z n)) rest (n + q) (subst (Contains rest) e there) (ap not (not_below (n + q) n (omega arith)))),
+          λ z there e. apart.0 (Contains-filter (λ z. not (ltb z n)) rest (n + q) (subst (Contains rest) e there) (ap not (le-ltb (n + q) n (omega arith)))),
           apart.1,
         )
 

@@ -3,6 +3,7 @@ use Rattle.std.proofs.Common.{◌≡◌, ℕ, ◌+◌, ◌-◌, ◌≤◌, ◌<�
 use Rattle.std.specs.Prelude.{Contains, not, replicate}
 use Rattle.std.specs.List.{AllByRecursion, list_all, list_any}
 use Rattle.std.proofs.lemmas.Bool.Decides.{nat_tests}
+use Rattle.std.proofs.lemmas.Bool.{le-ltb}
 use Rattle.re_labels.proofs.LawsOfRows.{multisets_law}
 use Rattle.re_labels.proofs.Rearranging.{Contains-Rearranged, Rearranged-sym}
 use Rattle.re_labels.proofs.Sorting.{IsConfig-sorted, Rearranged-sorted, sorted_again}
@@ -12,7 +13,7 @@ use Rattle.re_labels.specs.Rearranging.{Rearranged}
 use Rattle.re_families.proofs.Whole.{alike_rise}
 use Rattle.re_local.proofs.DifferentLabels.{Distinct-Rearranged}
 use Rattle.re_given.proofs.Colourings.{filtered_constraint}
-use Rattle.re_greedy.proofs.Parts.{Distinct-is_distinct, Rearranged-filter, is_distinct, is_distinct-Distinct, not_below, put_out, waiting}
+use Rattle.re_greedy.proofs.Parts.{Distinct-is_distinct, Rearranged-filter, is_distinct, is_distinct-Distinct, put_out, waiting}
 use Rattle.re_labels.proofs.Before.{same_list-refl, same_list-same}
 use Rattle.re_labels.proofs.Membership.{Contains-In, Contains-count_from, Contains-filter, Contains-filter_cases, Distinct, In-Contains, all-In, all-In_from, any_found, any_true, count_from_range}
 use Rattle.re_labels.proofs.Tests.{and-true, below-true, or-left, or-right, or-true, true-and, true-below}
@@ -93,7 +94,7 @@ Stands-stands member n q zs s =
   where
     side : (z : ℕ) → (z < n) ⊎ (n + q ≤ z) → (ltb z n || not (ltb z (n + q))) ≡ true
     side z (inl l) = or-left (ltb z n) (not (ltb z (n + q))) (true-below z n l)
-    side z (inr h) = or-right (ltb z n) (not (ltb z (n + q))) (subst (λ b. not b ≡ true) (sym (not_below z (n + q) h)) refl)
+    side z (inr h) = or-right (ltb z n) (not (ltb z (n + q))) (subst (λ b. not b ≡ true) (sym (le-ltb z (n + q) h)) refl)
 
 -- ---- the problems
 -- where nodes of colours below q have put out their labels

@@ -2,7 +2,7 @@
 use Rattle.std.proofs.Common.{◌≡◌, ℕ, ◌+◌, ◌-◌, ◌≤◌, ◌<◌, Bool, true, cond, eqb, ltb, ◌&&◌, List, [], ◌∷◌, filter, length, get_or, sym, ap, subst, arith}
 use Rattle.std.specs.Prelude.{Contains, not}
 use Rattle.std.proofs.lemmas.Bool.Decides.{nat_tests}
-use Rattle.re_greedy.proofs.Parts.{not_below}
+use Rattle.std.proofs.lemmas.Bool.{le-ltb}
 use Rattle.re_labels.proofs.Membership.{Contains-count_from, Contains-filter, Contains-filter_cases, count_from_range}
 use Rattle.re_labels.proofs.Tests.{and-true, below-true, eqb-apart, eqb-same, eqb-true, true-and, true-below}
 use Rattle.re_labels.specs.Lists.{count_from}
@@ -65,7 +65,7 @@ module _ (problem : Problem) (partial : List (List ℕ)) (c q : ℕ) where
   wide_there y high low fewer =
       Contains-filter (wide_test (n + q)) (count_from 0 L) y (Contains-count_from 0 L y (omega arith) (omega (arith, low)))
       (subst (λ b. cond b (not (ltb y (n + c)) && ltb (length (told y)) problem.passive.degree) (eqb y (n + q)) ≡ true) (sym (eqb-same (n + q)))
-      (true-and (not (ltb y (n + c))) (ltb (length (told y)) problem.passive.degree) (ap not (not_below y (n + c) high)) (true-below (length (told y)) problem.passive.degree fewer)))
+      (true-and (not (ltb y (n + c))) (ltb (length (told y)) problem.passive.degree) (ap not (le-ltb y (n + c) high)) (true-below (length (told y)) problem.passive.degree fewer)))
 
   pub sets_only : (y z : ℕ) → y < n + c → Contains (sets y) z → z ≡ y
   sets_only y z low held =
@@ -81,12 +81,12 @@ module _ (problem : Problem) (partial : List (List ℕ)) (c q : ℕ) where
   sets_cases y z high held =
       let (listed, passes) = Contains-filter_cases (sets_test y) (count_from 0 (n + c)) z held in
       let both : (ltb z n && has_config member (z ∷ told y)) ≡ true =
-      subst (λ b. cond b (eqb z y) (ltb z n && has_config member (z ∷ told y)) ≡ true) (not_below y (n + c) high) passes in
+      subst (λ b. cond b (eqb z y) (ltb z n && has_config member (z ∷ told y)) ≡ true) (le-ltb y (n + c) high) passes in
       let (low, has) = and-true (ltb z n) (has_config member (z ∷ told y)) both in
       (below-true z n low, has_config-Has member (z ∷ told y) has)
 
   pub sets_there : (y z : ℕ) → n + c ≤ y → z < n → Has member (z ∷ told y) → Contains (sets y) z
   sets_there y z high low has =
       Contains-filter (sets_test y) (count_from 0 (n + c)) z (Contains-count_from 0 (n + c) z (omega arith) (omega (arith, low)))
-      (subst (λ b. cond b (eqb z y) (ltb z n && has_config member (z ∷ told y)) ≡ true) (sym (not_below y (n + c) high))
+      (subst (λ b. cond b (eqb z y) (ltb z n && has_config member (z ∷ told y)) ≡ true) (sym (le-ltb y (n + c) high))
       (true-and (ltb z n) (has_config member (z ∷ told y)) (true-below z n low) (Has-has_config member (z ∷ told y) has)))

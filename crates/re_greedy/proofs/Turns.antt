@@ -10,7 +10,7 @@ use Rattle.re_greedy.proofs.PassiveTurns.{tell}
 use Rattle.re_greedy.proofs.Told.{L, sets, told, wide, wide_itself, wide_there}
 use Rattle.re_greedy.specs.Greedy.{IsGreedy}
 use Rattle.re_labels.proofs.Membership.{AllByRecursion-contains}
-use Rattle.re_labels.proofs.Places.{get-place_of, place_of-below}
+use Rattle.re_labels.proofs.LabelPlaces.{get-place_of, place_of-below}
 use Rattle.re_labels.proofs.Tests.{eqb-same, eqb-true}
 use Rattle.re_labels.specs.Lists.{place_of}
 use Rattle.re_problem.specs.Problems.{IsProblem, Problem}

@@ -12,7 +12,7 @@ use Rattle.re_given.specs.InputExamples as examples
 use Rattle.re_given.specs.Inputs.{IsInput, exchanged, nothing}
 use Rattle.re_given.specs.Unavoidable.{colouring}
 use Rattle.re_labels.proofs.Membership.{length-count_from, length-map'}
-use Rattle.re_labels.proofs.Places.{each_degree}
+use Rattle.re_labels.proofs.LabelPlaces.{each_degree}
 use Rattle.re_labels.proofs.Tests.{and-true, eqb-true, true-and}
 use Rattle.re_labels.specs.Lists.{count_from}
 use Rattle.re_labels.specs.Names.{IsNames}
@@ -23,6 +23,7 @@ use Rattle.re_table.specs.Constraints.{Constraint}
 use Rattle.re_inputs.specs.NamedInputs.{ColouringFamilyLaw, InputsLaw, NamedInputsLaw, edge_colours, fits, input_of, named, oriented, named_exchanged}
 use Rattle.re_inputs.specs.declared.kinds.InputKind.{InputKind}
 use Rattle.re_inputs.specs.declared.kinds.InputKind.TheVariants.{Both, Colouring, Edges, Nothing, Orientation, Sides}
+use Rattle.re_families.proofs.Whole.{degree_range}
 
 -- ---- parameters
 pub in_family : (kind : Family) (a p n : ℕ) → is_degree a ≡ true → passive_fits kind p ≡ true → number_fits kind n ≡ true → out_of_range kind a p n ≡ None
@@ -97,9 +98,6 @@ degrees_of Edges a p n e = two a p (eqb n 0 || (nat_le a n && nat_le n 16)) e
 degrees_of Orientation a p n e = two a p (eqb n 0) e
 degrees_of Both a p n e = two a p (eqb n 0) e
 degrees_of Nothing a p n e = two a p (eqb n 0) e
-
-pub degree_range : (degree : ℕ) → is_degree degree ≡ true → (2 ≤ degree) × (degree ≤ 6)
-degree_range degree h = let both = and-true (nat_le 2 degree) (nat_le degree 6) h in (leb-true 2 degree both.0, leb-true degree 6 both.1)
 
 -- how many colours there may be
 pub colours_range : (a p n : ℕ) → fits Colouring a p n ≡ true → (p ≤ n) × (n ≤ 16)

@@ -8,7 +8,7 @@ use Rattle.std.proofs.lemmas.List.{map-append}
 use Rattle.re_labels.proofs.Before.{same_list-refl, same_list-same}
 use Rattle.re_labels.proofs.ListSets.{In-list_set, list_set-In}
 use Rattle.re_labels.proofs.Membership.{AllByRecursion-from_In, Contains-In, In, In-Contains, In-map, In-map_from, any-In, any-In_from, count_from-last, count_from_range, Contains-count_from, length-count_from, length-map'}
-use Rattle.re_labels.proofs.Places.{place_of-below}
+use Rattle.re_labels.proofs.LabelPlaces.{place_of-below}
 use Rattle.re_labels.proofs.Tests.{below-cases}
 use Rattle.re_labels.specs.ListSets.{list_set}
 use Rattle.re_labels.specs.Lists.{count_from, place_of, same_list}

@@ -19,7 +19,7 @@ use Rattle.re_given.specs.Products.{firsts, pairs_of, product, seconds}
 use Rattle.re_labels.proofs.Before.{same_list-refl, same_list-same}
 use Rattle.re_labels.proofs.ListSets.{In-list_set, rising-list_set}
 use Rattle.re_labels.proofs.Membership.{AllByRecursion-contains, AllByRecursion-from_In, Contains-In, In, In-Contains, In-map, In-map_from, any-In, Contains-count_from, Contains-map, count_from_range, get_or-count_from, length-count_from, length-map', map-alike}
-use Rattle.re_labels.proofs.Places.{get-place_of, place_of-below}
+use Rattle.re_labels.proofs.LabelPlaces.{get-place_of, place_of-below}
 use Rattle.re_labels.proofs.Searching.{place_of-at}
 use Rattle.re_labels.specs.Lists.{count_from, place_of, same_list}
 use Rattle.re_labels.specs.Names.{IsName, IsNames, is_name}

@@ -1,72 +1,21 @@
 //! The input problems.
-ghost use Rattle.re_labels.specs.Configs.{sorted};
 ghost use Rattle.re_labels.specs.Orders.{multisets};
-ghost use Rattle.re_families.specs.Families.{family_of, out_of_range};
 ghost use Rattle.re_inputs.specs.NamedInputs.{edge_colours, fits, input_of, may_stand, named, oriented, oriented_constraint, named_exchanged};
-ghost use Rattle.re_labels.specs.ListSets.{with_list};
 ghost use Rattle.re_problem.specs.NamedProblems.{IsNamedProblem};
-ghost use Rattle.std.specs.List.{AllByRecursion};
-ghost use Rattle.std.specs.Prelude.{◌≡◌, ◌≤◌, ◌<◌, IfOk, None, OnOk, length, true};
+ghost use Rattle.std.specs.Prelude.{◌≡◌, ◌≤◌, IfOk, true};
 
 use crate::kinds::InputKind;
-use arrayvec::ArrayVec;
-use re_families::{Family, FamilyFault, family};
-use re_labels::{Config, MAX_LABELS, Multisets, Names, NoMemory};
+use re_families::{Family, config_of, family_problem, put};
+use re_labels::{Config, Multisets, Names, NoMemory};
 use re_problem::Problem;
-use re_table::{Constraint, InsertFault, MAX_CONFIGURATIONS};
+use re_table::Constraint;
 use std::alloc::Global;
-
-// The problem of a family with these degrees and this number.
-fn family_problem(
-    alloc: Global,
-    kind: Family,
-    active: u8,
-    passive: u8,
-    number: u8,
-) -> Result<Problem, NoMemory>
-    requires { out_of_range kind active passive number ≡ None }
-    ensures { IfOk result (λ problem. problem ≡ family_of kind active passive number) }
-{
-    match family(alloc, kind, active, passive, number) {
-        Ok(problem) => Ok(problem),
-        Err(FamilyFault::OutOfRange(_)) => unreachable!(),
-        Err(FamilyFault::NoMemory) => Err(NoMemory),
-    }
-}
 
 // Whether the edges of an active node may be directed so: in any way, or edges lead into it and out of it.
 fn may_stand(mixed: bool, config: &Config) -> bool
     ensures { result ≡ may_stand mixed config.now }
 {
     !mixed || config.support().count() == 2
-}
-
-// The configuration of these labels.
-fn config_of(labels: &[u16]) -> Config
-    requires two { 2 ≤ length labels.now }
-    requires six { length labels.now ≤ 6 }
-    requires below { AllByRecursion (λ label. label < MAX_LABELS) labels.now }
-    ensures { result ≡ sorted labels.now }
-{
-    let mut held: ArrayVec<u8, 6> = ArrayVec::new();
-    for label in labels {
-        held.push(*label as u8);
-    }
-    Config::from_labels(held.as_slice())
-}
-
-// One configuration more, where there is room.
-fn put(constraint: &mut Constraint, config: Config) -> Result<(), NoMemory>
-    requires degree { length config ≡ constraint.old.degree }
-    requires room { length constraint.old.configs < MAX_CONFIGURATIONS }
-    ensures degree { constraint.new.degree ≡ constraint.old.degree }
-    ensures configs { OnOk result (constraint.new.configs ≡ with_list constraint.old.configs config) }
-{
-    match constraint.insert(config) {
-        Ok(_) => Ok(()),
-        Err(InsertFault::NoMemory) => Err(NoMemory),
-        Err(InsertFault::TooManyConfigurations) => unreachable!(),
-    }
 }
 
 // How the edges of an active node may be directed.

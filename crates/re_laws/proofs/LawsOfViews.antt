@@ -1,7 +1,7 @@
 -- The laws of views, put together.
 use Rattle.std.proofs.Common.{◌≡◌, suc, pred, subst, sym, arith, get_or, Some}
 use Rattle.re_laws.proofs.AllViewsLemmas.{Contains-all_views, all_views-IsView}
-use Rattle.re_laws.proofs.Branchwise.{IsView-branchwise, backs-child, cut-branchwise_all, shift-branchwise}
+use Rattle.re_laws.proofs.JoinedBranches.{IsView-branchwise, backs-child, cut-branchwise_all, shift-branchwise}
 use Rattle.re_laws.proofs.Preorder.{rising-all_views}
 use Rattle.re_laws.proofs.ViewLaws.{IsChild, IsTree-cut, IsView-pad, IsView-shift, child_of, cut-cut, cut-pad, cut-same, shift-cut, shift-shift}
 use Rattle.re_laws.specs.ViewLaws.{AllViewsLaw, BranchwiseLaw, CommuteLaw, CutLaw, NeighbourLaw, PadLaw, ShiftLaw}

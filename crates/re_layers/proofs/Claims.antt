@@ -5,8 +5,8 @@ use Rattle.std.proofs.lemmas.Bool.{false≢true}
 use Rattle.re_layers.specs.Networks.{Network, ball}
 use Rattle.re_layers.proofs.Peeling.{any_below, claim, claim_on, clear, nonempty, leading, living, owned, trail, walk_from}
 use Rattle.re_layers.proofs.Trails.{length-trail}
-use Rattle.re_layers.proofs.Membership.{Contains-cases, Contains-filter, Contains-filter_cases, Contains-flat_map, Contains-flat_map_cases, Contains-here, Contains-none}
-use Rattle.re_layers.proofs.Filters.{and-true, eqb-same, eqb-true, true-and}
+use Rattle.re_labels.proofs.Membership.{Contains-cases, Contains-filter, Contains-filter_cases, Contains-flat_map, Contains-flat_map_cases, Contains-here, Contains-none}
+use Rattle.re_labels.proofs.Tests.{and-true, eqb-same, eqb-true, true-and}
 
 pub any_true : (test : ℕ → Bool) (n i : ℕ) → i < n → test i ≡ true → any_below test n ≡ true
 any_true test zero i l h = absurd (omega arith)

@@ -2,10 +2,11 @@
 use Rattle.std.proofs.Common.{◌++◌, ◌≡◌, ℕ, zero, suc, ◌+◌, ◌≤◌, ◌<◌, Bool, true, false, cond, eqb, List, [], ◌∷◌, length, refl, sym, ap, ◌∙◌, subst, arith, inl, inr, length-append}
 use Rattle.std.specs.Prelude.{Contains, flat_map, filter, not}
 use Rattle.std.proofs.lemmas.Bool.Decides.{eqb_tells}
-use Rattle.std.proofs.lemmas.List.Elements.{Contains-append_left}
+use Rattle.std.proofs.lemmas.List.Elements.{Contains-append_left, Contains-append_right}
 use Rattle.re_layers.specs.Networks.{AreDifferent, IsForest, Network, branch, others}
-use Rattle.re_layers.proofs.Membership.{Contains-cases, Contains-filter_cases, Contains-flat_map, Contains-flat_map_cases, Contains-here, Contains-later, Contains-none}
-use Rattle.re_layers.proofs.Filters.{eqb-true, not-true}
+use Rattle.re_labels.proofs.Membership.{Contains-cases, Contains-filter_cases, Contains-flat_map, Contains-flat_map_cases, Contains-here, Contains-later, Contains-none}
+use Rattle.re_labels.proofs.Tests.{eqb-true}
+use Rattle.re_layers.proofs.Filters.{not-true}
 use Rattle.re_layers.proofs.Balls.{others_near}
 
 -- ---- lists in which nothing stands twice
@@ -30,6 +31,14 @@ Different-piece f [] x held d = absurd (Contains-none x held)
 Different-piece f (y ∷ xs) x held d = elim (Contains-cases x y xs held) [
   | inl e ↦ subst (λ z. AreDifferent (f z)) (sym e) (Different-left (f y) (flat_map f xs) d)
   | inr later ↦ Different-piece f xs x later (Different-right (f y) (flat_map f xs) d)
+]
+
+-- what stands in one part stands not in the other
+pub Different-apart : (xs ys : List ℕ) (z : ℕ) → AreDifferent (xs ++ ys) → Contains xs z → Contains ys z → ⊥
+Different-apart [] ys z d here there = Contains-none z here
+Different-apart (x ∷ xs) ys z d here there = elim (Contains-cases z x xs here) [
+  | inl e ↦ d.0 (subst (Contains (xs ++ ys)) e (Contains-append_right xs ys z there))
+  | inr later ↦ Different-apart xs ys z d.1 later there
 ]
 
 -- without one number a list has at most one less

@@ -9,7 +9,7 @@ use Rattle.re_layers.proofs.Different.{near_different}
 use Rattle.re_layers.proofs.Extending.{active_id, apart_at, both_at, extended, few_at, id, missing, near_at, near_cases, near_id, of_kind, passes, tree, turns_at, zero_id}
 use Rattle.re_layers.proofs.Full.{cut, cut_cases, cut_different, cut_fewer, cut_held}
 use Rattle.re_layers.proofs.Locality.{same_less, same_near}
-use Rattle.re_layers.proofs.Membership.{AllByRecursion-from_contains}
+use Rattle.re_labels.proofs.Membership.{AllByRecursion-from_contains}
 use Rattle.re_layers.proofs.NodeNumbers.{kind}
 use Rattle.re_layers.proofs.RegularTrees.{up, up_lower, whole_ups}
 use Rattle.re_layers.proofs.Rooted.{ball_different}

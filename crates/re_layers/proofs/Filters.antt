@@ -1,9 +1,8 @@
 -- Filters of lists, and tests.
-use Rattle.std.proofs.Common.{◌≡◌, ℕ, zero, suc, ◌≤◌, Bool, true, false, cond, eqb, List, [], ◌∷◌, length, get_or, refl, sym, ap, ◌∙◌, arith, ◌⊎◌, inl, inr}
-use Rattle.std.specs.Prelude.{Contains, filter, ◌&&◌, not}
+use Rattle.std.proofs.Common.{◌≡◌, ℕ, zero, suc, ◌≤◌, Bool, true, false, cond, List, [], ◌∷◌, length, get_or, refl, sym, ap, ◌∙◌, arith, ◌⊎◌, inl, inr}
+use Rattle.std.specs.Prelude.{Contains, filter, not}
 use Rattle.std.proofs.lemmas.Bool.{false≢true}
-use Rattle.std.proofs.lemmas.Bool.Decides.{eqb_tells}
-use Rattle.re_layers.proofs.Membership.{Contains-here, Contains-later}
+use Rattle.re_labels.proofs.Membership.{Contains-here, Contains-later}
 
 -- a filter that lets through less keeps no more
 pub length-filter_le : {A : Type 0} (less more : A → Bool) (xs : List A) → ((x : A) → Contains xs x → less x ≡ true → more x ≡ true)
@@ -47,24 +46,6 @@ single (x ∷ []) d e = refl
 single (x ∷ y ∷ xs) d e = absurd (omega (arith, e))
 
 -- ---- tests
-pub eqb-same : (x : ℕ) → eqb x x ≡ true
-eqb-same x = elim (eqb_tells x x) [ inl t ↦ t.0 | inr t ↦ absurd (t.1 refl) ]
-
-pub eqb-apart : (x y : ℕ) → (x ≡ y → ⊥) → eqb x y ≡ false
-eqb-apart x y h = elim (eqb_tells x y) [ inl t ↦ absurd (h t.1) | inr t ↦ t.0 ]
-
-pub eqb-true : (x y : ℕ) → eqb x y ≡ true → x ≡ y
-eqb-true x y h = elim (eqb_tells x y) [ inl t ↦ t.1 | inr t ↦ absurd (false≢true (sym t.0 ∙ h)) ]
-
-pub and-true : (a b : Bool) → (a && b) ≡ true → (a ≡ true) × (b ≡ true)
-and-true true b e = (refl, e)
-and-true false true e = (e, refl)
-and-true false false e = (e, e)
-
-pub true-and : (a b : Bool) → a ≡ true → b ≡ true → (a && b) ≡ true
-true-and true b d e = e
-true-and false b d e = d
-
 pub not-true : (a : Bool) → not a ≡ true → a ≡ false
 not-true true e = absurd (false≢true e)
 not-true false e = refl

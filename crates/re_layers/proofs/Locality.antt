@@ -2,7 +2,8 @@
 use Rattle.std.proofs.Common.{◌≡◌, ℕ, zero, suc, ◌+◌, ◌≤◌, Bool, not, List, [], ◌∷◌, map, refl, sym, ap, ap₂, ◌∙◌, subst, arith, inl, inr, suc-add}
 use Rattle.std.specs.Prelude.{Contains, ◌==◌, filter, flat_map}
 use Rattle.re_layers.proofs.Balls.{others_near}
-use Rattle.re_layers.proofs.Membership.{AllByRecursion-contains, AllByRecursion-weaker, Contains-cases, Contains-filter_cases, Contains-flat_map_cases, Contains-none, flat_map-alike, map-alike}
+use Rattle.re_labels.proofs.Membership.{AllByRecursion-contains, AllByRecursion-weaker, Contains-cases, Contains-filter_cases, Contains-flat_map_cases, Contains-none, map-alike}
+use Rattle.re_layers.proofs.Membership.{flat_map-alike}
 use Rattle.re_layers.specs.Networks.{AreSame, IsLocal, Network, ball, branch, others}
 
 -- ---- fewer hops show less

@@ -5,11 +5,12 @@ use Rattle.std.proofs.Math.Nat.{mod-lt}
 use Rattle.std.proofs.lemmas.Bool.{false≢true}
 use Rattle.re_layers.proofs.Claims.{claim_cases, owned_cases}
 use Rattle.re_layers.proofs.Different.{Different-filter, branch_short, branch_some, left_most, length-piece, near_different}
-use Rattle.re_layers.proofs.Filters.{either, eqb-true}
+use Rattle.re_labels.proofs.Tests.{eqb-true}
+use Rattle.re_layers.proofs.Filters.{either}
 use Rattle.re_layers.proofs.LastSteps.{layer, path}
 use Rattle.re_layers.proofs.Layered.{layered}
 use Rattle.re_layers.proofs.LocalRounds.{layer_local, path_local}
-use Rattle.re_layers.proofs.Membership.{Contains-here}
+use Rattle.re_labels.proofs.Membership.{Contains-here}
 use Rattle.re_layers.proofs.Peeling.{living, onward}
 use Rattle.re_layers.proofs.Rounds.{Plan, alive, chosen, dead_later, path_at, round_rakes}
 use Rattle.re_layers.proofs.Ways.{onward_cases}

@@ -4,8 +4,9 @@ use Rattle.std.specs.Prelude.{Contains, flat_map, not}
 use Rattle.std.proofs.lemmas.List.Elements.{Contains-append_cases}
 use Rattle.re_layers.proofs.Balls.{others_near}
 use Rattle.re_layers.proofs.Different.{Different-filter}
-use Rattle.re_layers.proofs.Filters.{eqb-same, not-true}
-use Rattle.re_layers.proofs.Membership.{Contains-cases, Contains-filter_cases, Contains-flat_map_cases, Contains-here, Contains-later, Contains-none}
+use Rattle.re_labels.proofs.Tests.{eqb-same}
+use Rattle.re_layers.proofs.Filters.{not-true}
+use Rattle.re_labels.proofs.Membership.{Contains-cases, Contains-filter_cases, Contains-flat_map_cases, Contains-here, Contains-later, Contains-none}
 use Rattle.re_layers.specs.Networks.{AreDifferent, Network, ball, branch, others}
 use Rattle.std.proofs.lemmas.Bool.{false≢true}
 
@@ -27,7 +28,7 @@ Different-flat_map f (x ∷ xs) d each apart =
     (λ z here later. (let (y, held, there) = Contains-flat_map_cases f xs z later in
     apart x y z (Contains-here x xs) (Contains-later y x xs held) (λ e. d.0 (subst (Contains xs) (sym e) held)) here there))
 
-others_other : (G : Network) (u v w : ℕ) → Contains (others G u v) w → w ≡ u → ⊥
+pub others_other : (G : Network) (u v w : ℕ) → Contains (others G u v) w → w ≡ u → ⊥
 others_other G u v w held e =
     let passes : not (eqb w u) ≡ true = (Contains-filter_cases (λ x. not (eqb x u)) (G.near v) w held).1 in
     let same : eqb w u ≡ true = subst (λ x. eqb w x ≡ true) e (eqb-same w) in

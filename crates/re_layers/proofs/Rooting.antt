@@ -2,7 +2,7 @@
 use Rattle.std.proofs.Common.{◌≡◌, ℕ, zero, suc, ◌-◌, ◌*◌, ◌≤◌, ◌<◌, leb, List, [], ◌∷◌, length, refl, sym, ap, ◌⊎◌, inl, inr, arith}
 use Rattle.std.specs.Prelude.{Contains}
 use Rattle.std.proofs.lemmas.Bool.{cases_lt, le-leb, leb-true}
-use Rattle.re_layers.proofs.Membership.{AllByRecursion-contains, Contains-filter, Contains-filter_cases, Contains-here}
+use Rattle.re_labels.proofs.Membership.{AllByRecursion-contains, Contains-filter, Contains-filter_cases, Contains-here}
 use Rattle.re_layers.proofs.Raking.{raked_layers}
 use Rattle.re_layers.specs.Layers.{IsLayered, upper}
 use Rattle.re_layers.specs.Networks.{IsForest, Network}

@@ -8,8 +8,9 @@ use Rattle.re_layers.proofs.Claims.{IsClaim, claim_cases, claim_some, owned_some
 use Rattle.re_layers.proofs.Growth.{Shrinking}
 use Rattle.re_layers.proofs.Peeling.{clear, nonempty, living, owned, removed}
 use Rattle.re_layers.proofs.Trails.{node, node_second}
-use Rattle.re_layers.proofs.Membership.{Contains-filter}
-use Rattle.re_layers.proofs.Filters.{and-true, either, eqb-same, le_cases, length-filter_le, not-true, true-and}
+use Rattle.re_labels.proofs.Membership.{Contains-filter}
+use Rattle.re_labels.proofs.Tests.{and-true, eqb-same, true-and}
+use Rattle.re_layers.proofs.Filters.{either, le_cases, length-filter_le, not-true}
 use Rattle.re_layers.proofs.Balls.{ball_own}
 
 -- a colouring, the number of its colours, and how many inner nodes a path has

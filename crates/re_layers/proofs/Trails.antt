@@ -5,7 +5,7 @@ use Rattle.re_layers.specs.Networks.{IsForest, Network, ball, branch, others}
 use Rattle.re_layers.proofs.Different.{never_back}
 use Rattle.re_layers.proofs.Peeling.{clear, next, onward, trail}
 use Rattle.re_layers.proofs.Ways.{clear_alive, clear_next, onward_cases}
-use Rattle.re_layers.proofs.Membership.{Contains-flat_map, Contains-here, Contains-later}
+use Rattle.re_labels.proofs.Membership.{Contains-flat_map, Contains-here, Contains-later}
 use Rattle.re_layers.proofs.Balls.{ball_before, ball_own, others_near}
 
 module _ (G : Network) (alive : ℕ → Bool) where

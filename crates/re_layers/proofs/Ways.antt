@@ -3,8 +3,9 @@ use Rattle.std.proofs.Common.{◌≡◌, ℕ, zero, suc, Bool, true, false, eqb,
 use Rattle.std.specs.Prelude.{Contains, filter, ◌&&◌, not}
 use Rattle.re_layers.specs.Networks.{Network, others}
 use Rattle.re_layers.proofs.Peeling.{clear, living, next, onward}
-use Rattle.re_layers.proofs.Membership.{Contains-filter, Contains-filter_cases}
-use Rattle.re_layers.proofs.Filters.{and-true, eqb-apart, eqb-true, filter_all, filter_through, single, true-and}
+use Rattle.re_labels.proofs.Membership.{Contains-filter, Contains-filter_cases}
+use Rattle.re_labels.proofs.Tests.{and-true, eqb-apart, eqb-true, true-and}
+use Rattle.re_layers.proofs.Filters.{filter_all, filter_through, single}
 
 -- ---- ways on
 module _ (G : Network) where

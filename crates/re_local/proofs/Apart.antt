@@ -17,7 +17,8 @@ use Rattle.re_labels.proofs.Membership.{Contains-In, Contains-filter_cases, Cont
 use Rattle.re_labels.specs.Lists.{count_from}
 use Rattle.re_local.proofs.ColouredLocal.{different_Rearranged}
 use Rattle.re_local.proofs.Complete.{different_distinct}
-use Rattle.re_local.specs.LocalAlgorithms.{AreDifferent, behind_active, behind_passive, shown}
+use Rattle.re_layers.specs.Networks.{AreDifferent}
+use Rattle.re_local.specs.LocalAlgorithms.{behind_active, behind_passive, shown}
 use Rattle.re_local.specs.Separating.{AreApart}
 use Rattle.re_local.proofs.Walks.{joined, turned}
 use Rattle.re_local.specs.Hypergraphs.{Hyper, IsHyper, IsSparse, On, Walk, one, step}

@@ -18,7 +18,7 @@ use Rattle.re_given.proofs.Colourings.{IsInput-colouring, colour_there, colours_
 use Rattle.re_given.specs.Given.{SolvableGiven}
 use Rattle.re_given.specs.Unavoidable.{colouring}
 use Rattle.re_labels.proofs.Membership.{AllByRecursion-contains, AllByRecursion-from_contains, Contains-In, Contains-cases, Contains-count_from, Contains-filter, Contains-filter_cases, Contains-flat_map, Contains-flat_map_cases, Contains-here, Contains-later, Contains-map_cases, Contains-none, Distinct, In-Contains, all-In, all-In_from, count_from_range}
-use Rattle.re_labels.proofs.Places.{get-place_of, place_of-below}
+use Rattle.re_labels.proofs.LabelPlaces.{get-place_of, place_of-below}
 use Rattle.re_labels.proofs.Tests.{and-true, eqb-apart, eqb-same, eqb-true, true-and}
 use Rattle.re_labels.specs.Lists.{count_from, place_of}
 use Rattle.re_labels.specs.Sets.{IsIn}
@@ -37,12 +37,12 @@ alike_cases n (suc k) (x ∷ labels) h =
     let range = (count_from_range 0 n x h.0).1 in
     (ap suc count, (omega (arith, range), below))
 
-in_replicate : (k w y : ℕ) → Contains (replicate k w) y → y ≡ w
+pub in_replicate : (k w y : ℕ) → Contains (replicate k w) y → y ≡ w
 in_replicate zero w y held = absurd (Contains-none y held)
 in_replicate (suc k) w y held = elim (Contains-cases y w (replicate k w) held) [ inl e ↦ e | inr later ↦ in_replicate k w y later ]
 
 -- what is chosen is in the set of some label
-chosen_in : (f : ℕ → List ℕ) (ys xs : List ℕ) (y : ℕ) → IsChoice ys (map f xs) → Contains ys y → (x : ℕ) × Contains xs x × Contains (f x) y
+pub chosen_in : (f : ℕ → List ℕ) (ys xs : List ℕ) (y : ℕ) → IsChoice ys (map f xs) → Contains ys y → (x : ℕ) × Contains xs x × Contains (f x) y
 chosen_in f [] xs y chosen held = absurd (Contains-none y held)
 chosen_in f (z ∷ ys) [] y chosen held = absurd chosen
 chosen_in f (z ∷ ys) (x ∷ xs) y chosen held = elim (Contains-cases y z ys held) [
@@ -51,7 +51,7 @@ chosen_in f (z ∷ ys) (x ∷ xs) y chosen held = elim (Contains-cases y z ys he
 ]
 
 -- one label from all sets
-one_chosen : (f : ℕ → List ℕ) (z : ℕ) (ys : List ℕ) → ((y : ℕ) → Contains ys y → Contains (f y) z) → IsChoice (replicate (length ys) z) (map f ys)
+pub one_chosen : (f : ℕ → List ℕ) (z : ℕ) (ys : List ℕ) → ((y : ℕ) → Contains ys y → Contains (f y) z) → IsChoice (replicate (length ys) z) (map f ys)
 one_chosen f z [] each = tt
 one_chosen f z (y ∷ ys) each = (each y (Contains-here y ys), one_chosen f z ys (λ w held. each w (Contains-later w y ys held)))
 

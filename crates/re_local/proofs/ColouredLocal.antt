@@ -18,7 +18,8 @@ use Rattle.re_labels.proofs.Before.{three_ways}
 use Rattle.re_labels.proofs.Membership.{AllByRecursion-contains, Contains-cases, Contains-here, Contains-later, Contains-map_cases, Contains-none, count_from_range}
 use Rattle.re_labels.specs.Lists.{IsRising, count_from}
 use Rattle.re_local.proofs.FewerRounds.{IsPart, held, left_out, none, part_different, part_empty}
-use Rattle.re_local.specs.LocalAlgorithms.{AreDifferent, SolvableLocal, behind_active, behind_passive, identified, shown}
+use Rattle.re_layers.specs.Networks.{AreDifferent}
+use Rattle.re_local.specs.LocalAlgorithms.{SolvableLocal, behind_active, behind_passive, identified, shown}
 use Rattle.re_problem.specs.Problems.{IsProblem, Problem}
 use Rattle.re_table.specs.Constraints.{Has}
 use Rattle.re_laws.specs.Trees.{IsTree, IsView, end, leaf, more}

@@ -13,23 +13,25 @@ use Rattle.re_labels.specs.Configs.{IsConfig, sorted, support_of}
 use Rattle.re_labels.specs.Orders.{multisets}
 use Rattle.re_labels.specs.Rearranging.{Rearranged}
 use Rattle.re_labels.specs.Rows.{IsChoice, choices}
-use Rattle.re_given.proofs.Colourings.{colours_there, first_below, pigeonhole}
+use Rattle.re_given.proofs.Colourings.{colours_there, pigeonhole}
 use Rattle.re_given.proofs.Fitting.{Has-around}
 use Rattle.re_given.proofs.GrownInputs.{Has-occurs}
 use Rattle.re_given.specs.InputViews.{Fits, InputView, payloads}
 use Rattle.re_given.specs.Unavoidable.{colouring}
 use Rattle.re_labels.proofs.Membership.{AllByRecursion-contains, AllByRecursion-from_contains, Contains-count_from, Contains-filter_cases, Contains-here, Contains-none, Distinct, Distinct-count_from, count_from_range, length-count_from}
-use Rattle.re_labels.proofs.Numbers.{IsLabelSet-count_from, rising_tail}
+use Rattle.re_labels.proofs.Numbers.{IsLabelSet-count_from}
 use Rattle.re_labels.proofs.Tests.{eqb-true}
-use Rattle.re_labels.specs.Lists.{IsRising, count_from}
+use Rattle.re_labels.specs.Lists.{count_from}
 use Rattle.re_labels.specs.Sets.{IsLabelSet}
 use Rattle.re_local.proofs.ColouredLocal.{different_Rearranged, rising_strictly}
 use Rattle.re_local.proofs.FewerRounds.{IsPart, held, part_contains, part_different, part_empty}
 use Rattle.re_local.proofs.Supports.{Distinct-support}
 use Rattle.re_local.proofs.UnavoidableIdentifiers.{first_ports, joined_there, label_there, labels_at_below, length-labels_at, same_port}
 use Rattle.re_local.specs.Identifiers.{AreAlike, JoinsAlike, identifiers, labels_at}
-use Rattle.re_local.specs.LocalAlgorithms.{AreDifferent, behind_active, behind_passive, shown}
+use Rattle.re_layers.specs.Networks.{AreDifferent}
+use Rattle.re_local.specs.LocalAlgorithms.{behind_active, behind_passive, shown}
 use Rattle.re_local.specs.Separating.{AreApart, HasAllEdges, Separates, complete}
+use Rattle.re_local.proofs.VirtualLabels.{different_rising}
 use Rattle.re_table.proofs.Goodness.{Has-Rearranged, Has-has_config, has_config-Has}
 use Rattle.re_table.specs.Constraints.{Has}
 use Rattle.re_laws.specs.Trees.{IsTree, IsView, end, leaf, more}
@@ -37,10 +39,6 @@ use Rattle.re_laws.specs.Trees.{IsTree, IsView, end, leaf, more}
 pub different_distinct : (xs : List ℕ) → Distinct xs → AreDifferent xs
 different_distinct [] d = tt
 different_distinct (x ∷ xs) d = (d.0, different_distinct xs d.1)
-
-different_rising : (xs : List ℕ) → IsRising (λ x y. x < y) xs → AreDifferent xs
-different_rising [] rises = tt
-different_rising (x ∷ xs) rises = (λ at. (let l = first_below x xs rises x at in omega (arith, l)), different_rising xs (rising_tail x xs rises))
 
 -- lists of a labels below n
 pub alike_choice : (n : ℕ) (labels : List ℕ) → AllByRecursion (λ x. x < n) labels → IsChoice labels (replicate (length labels) (count_from 0 n))

@@ -15,7 +15,8 @@ use Rattle.re_local.proofs.Complete.{different_distinct, different_there, edges_
 use Rattle.re_local.proofs.IdentifierInputs.{IsInput-identifiers, identifiers_active, identifiers_passive}
 use Rattle.re_local.proofs.UnavoidableIdentifiers.{first_ports, length-labels_at, same_port}
 use Rattle.re_local.specs.Identifiers.{id_labels, identifiers, labels_at}
-use Rattle.re_local.specs.LocalAlgorithms.{AreDifferent, behind_active, behind_passive, shown}
+use Rattle.re_layers.specs.Networks.{AreDifferent}
+use Rattle.re_local.specs.LocalAlgorithms.{behind_active, behind_passive, shown}
 use Rattle.re_local.specs.Separating.{AreApart, complete}
 use Rattle.re_problem.specs.NamedProblems.{OccursIn}
 use Rattle.re_problem.specs.Problems.{IsProblem, Problem}

@@ -17,7 +17,8 @@ use Rattle.re_laws.proofs.Ports.{map-count}
 use Rattle.re_laws.specs.Algorithms.{at_port}
 use Rattle.re_local.proofs.ColouredLocal.{alike, different_Rearranged, part_right}
 use Rattle.re_local.proofs.FewerRounds.{IsPart, behind_active-cut, behind_passive-cut, held, part_append, part_different, part_map, shown-cut}
-use Rattle.re_local.specs.LocalAlgorithms.{AreDifferent, SolvableLocal, SolvesApart, behind_active, behind_passive, identified, shown}
+use Rattle.re_layers.specs.Networks.{AreDifferent}
+use Rattle.re_local.specs.LocalAlgorithms.{SolvableLocal, SolvesApart, behind_active, behind_passive, identified, shown}
 use Rattle.re_problem.specs.Problems.{IsProblem, Problem}
 use Rattle.re_table.specs.Constraints.{Has}
 use Rattle.re_laws.proofs.ViewLaws.{HasRoom, HasRoom-tree, IsChild, IsTree-cut, IsView-shift, child_at-put, child_of, others-put, shift-at, shift-cut}

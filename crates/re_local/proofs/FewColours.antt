@@ -13,9 +13,9 @@ use Rattle.re_given.specs.Inputs.{IsInput}
 use Rattle.re_given.specs.Unavoidable.{colouring}
 use Rattle.re_local.proofs.ColouredLocal.{SolvableLocal-coloured}
 use Rattle.re_local.proofs.LocalGiven.{SolvableLocal-fewer}
-use Rattle.re_local.proofs.Towers.{tower-le, tower-some}
+use Rattle.re_layers.proofs.Towers.{tower-le, tower-some}
 use Rattle.re_local.specs.LocalAlgorithms.{SolvableLocal}
-use Rattle.re_local.specs.Towers.{tower}
+use Rattle.re_layers.specs.Towers.{tower}
 use Rattle.re_problem.specs.Problems.{IsProblem, Problem}
 
 -- how many neighbours a node has

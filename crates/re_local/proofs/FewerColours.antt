@@ -13,7 +13,7 @@ use Rattle.re_given.specs.Given.{SolvableGiven}
 use Rattle.re_given.specs.Unavoidable.{colouring}
 use Rattle.re_local.proofs.Complete.{alike_choice, length-alike}
 use Rattle.re_labels.proofs.Membership.{Contains-In, Contains-cases, Contains-here, Contains-later, Contains-none, Distinct-count_from, In-Contains, all-In, all-In_from, any_found, any_true, count_from_range, length-count_from}
-use Rattle.re_labels.proofs.Places.{get-place_of, place_of-below}
+use Rattle.re_labels.proofs.LabelPlaces.{get-place_of, place_of-below}
 use Rattle.re_labels.proofs.Tests.{and-true, below-true, eqb-apart, eqb-same, eqb-true, true-and}
 use Rattle.re_labels.specs.Lists.{count_from, place_of}
 

@@ -7,7 +7,8 @@ use Rattle.re_given.specs.Inputs.{IsInput}
 use Rattle.re_labels.proofs.Membership.{Contains-cases, Contains-here, Contains-later}
 use Rattle.re_local.proofs.IdentifierInputs.{IsInput-identifiers, identifiers_active, identifiers_passive, some_identifier}
 use Rattle.re_local.specs.Identifiers.{IdHypergraph, identifiers}
-use Rattle.re_local.specs.LocalAlgorithms.{AreDifferent, behind_active, behind_passive, shown}
+use Rattle.re_layers.specs.Networks.{AreDifferent}
+use Rattle.re_local.specs.LocalAlgorithms.{behind_active, behind_passive, shown}
 use Rattle.re_local.specs.Separating.{AreApart, Separates}
 use Rattle.re_problem.specs.Problems.{IsProblem, Problem}
 use Rattle.re_laws.specs.Trees.{cut, end, leaf, more}

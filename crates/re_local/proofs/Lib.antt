@@ -28,7 +28,6 @@ pub mod Sinkless
 pub mod Sparse
 mod Stages
 pub mod Supports
-pub mod Towers
 pub mod UnavoidableIdentifiers
 pub mod VirtualGiven
 pub mod VirtualLabels

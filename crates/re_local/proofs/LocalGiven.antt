@@ -21,7 +21,8 @@ use Rattle.re_labels.specs.Lists.{count_from}
 use Rattle.re_laws.proofs.Ports.{map-count}
 use Rattle.re_laws.specs.Algorithms.{at_port}
 use Rattle.re_local.specs.Identifiers.{IdHypergraph, id_labels, identifiers}
-use Rattle.re_local.specs.LocalAlgorithms.{AreDifferent, SolvableLabelled, SolvableLocal, SolvesApart, behind_active, behind_passive, labelled, identified, shown}
+use Rattle.re_layers.specs.Networks.{AreDifferent}
+use Rattle.re_local.specs.LocalAlgorithms.{SolvableLabelled, SolvableLocal, SolvesApart, behind_active, behind_passive, labelled, identified, shown}
 use Rattle.re_local.specs.Separating.{AreApart}
 use Rattle.re_problem.proofs.StepLaws.{map-map}
 use Rattle.re_problem.specs.Problems.{Problem}

@@ -12,7 +12,7 @@ use Rattle.re_local.specs.Identifiers.{IdHypergraph, JoinsAlike, labels_at}
 use Rattle.re_labels.proofs.Before.{same_list-refl, same_list-same}
 use Rattle.re_labels.proofs.Membership.{Contains-cases, Contains-count_from, Contains-none, any_found, any_true, count_from_range}
 use Rattle.re_labels.specs.Lists.{count_from, same_list}
-use Rattle.re_local.specs.LocalAlgorithms.{AreDifferent}
+use Rattle.re_layers.specs.Networks.{AreDifferent}
 use Rattle.re_local.specs.Hypergraphs.{Hyper, IsHyper, IsUncolourable}
 
 -- ---- lists of numbers below n as one number

@@ -2,7 +2,6 @@
 use Rattle.std.proofs.Common.{◌≡◌, ℕ, zero, suc, pred, ◌+◌, ◌-◌, ◌*◌, ◌^◌, ◌≤◌, ◌<◌, List, [], ◌∷◌, ◌++◌, length, refl, sym, ◌∙◌, subst, arith, inl, inr, length-append}
 use Rattle.std.specs.Prelude.{Contains, replicate}
 use Rattle.std.proofs.Math.Nat.{mul-le-mul, pow-suc, pow-zero}
-use Rattle.std.proofs.lemmas.Bool.Decides.{eqb_tells}
 use Rattle.std.proofs.lemmas.List.{map-id}
 use Rattle.std.proofs.lemmas.List.Elements.{Contains-append_cases}
 use Rattle.re_labels.proofs.LawsOfRows.{multisets_law}
@@ -11,58 +10,16 @@ use Rattle.re_labels.proofs.Sorting.{Rearranged-sorted}
 use Rattle.re_labels.specs.Configs.{IsConfig, sorted}
 use Rattle.re_given.proofs.Fitting.{Has-around}
 use Rattle.re_given.specs.InputViews.{Fits, FitsAround, InputView, payloads}
-use Rattle.re_labels.proofs.Membership.{AllByRecursion-contains, Contains-cases, Contains-here, Contains-later, Contains-map_cases, Contains-none, count_from_range}
+use Rattle.re_labels.proofs.Membership.{AllByRecursion-contains, Contains-cases, Contains-here, Contains-map_cases, Contains-none, count_from_range}
 use Rattle.re_labels.specs.Lists.{count_from}
 use Rattle.re_local.proofs.ColouredLocal.{all_alike}
-use Rattle.re_local.proofs.FewerRounds.{IsPart, held, left_out, none, part_different}
-use Rattle.re_local.specs.LocalAlgorithms.{AreDifferent, behind_active, behind_passive, identified, shown}
+use Rattle.re_local.proofs.FewerRounds.{none}
+use Rattle.re_layers.specs.Networks.{AreDifferent}
+use Rattle.re_local.specs.LocalAlgorithms.{behind_active, behind_passive, identified, shown}
 use Rattle.re_local.specs.Shown.{LinearRoomLaw, LogarithmicRoomLaw, NoRoomLaw, NodesSeenLaw, nodes_behind, nodes_seen}
 use Rattle.re_table.specs.Constraints.{Has}
 use Rattle.re_laws.specs.Trees.{IsTree, IsView, end, leaf, more}
-
--- ---- different numbers below n are at most n
-part_whole : (xs : List ℕ) → IsPart xs xs
-part_whole [] = none
-part_whole (x ∷ xs) = held (part_whole xs)
-
--- without the largest one
-without : (n : ℕ) (xs : List ℕ) → AreDifferent xs → ((z : ℕ) → Contains xs z → z < suc n)
-    → (ys : List ℕ) × IsPart ys xs × ((z : ℕ) → Contains ys z → z < n) × (length xs ≤ suc (length ys))
-without n [] d low = ([], none, (λ z at. absurd (Contains-none z at)), omega arith)
-without n (x ∷ xs) d low = elim (eqb_tells x n) [
-  | inl t ↦ (xs, left_out (part_whole xs), (λ z at. smaller z at t.1), omega arith)
-  | inr t ↦ keep t.1 (without n xs d.1 (λ z at. low z (Contains-later z x xs at)))
-]
-  where
-    smaller : (z : ℕ) → Contains xs z → x ≡ n → z < n
-    smaller z at is =
-        let l : z < suc n = low z (Contains-later z x xs at) in
-        elim (eqb_tells z n) [
-          | inl t ↦ absurd (d.0 (subst (Contains xs) (t.1 ∙ sym is) at))
-          | inr t ↦ less z l t.1
-        ]
-      where
-        less : (z : ℕ) → z < suc n → (z ≡ n → ⊥) → z < n
-        less z l other = omega (arith, l, other)
-
-    keep : (x ≡ n → ⊥) → (ys : List ℕ) × IsPart ys xs × ((z : ℕ) → Contains ys z → z < n) × (length xs ≤ suc (length ys))
-        → (ys : List ℕ) × IsPart ys (x ∷ xs) × ((z : ℕ) → Contains ys z → z < n) × (suc (length xs) ≤ suc (length ys))
-    keep other (ys, part, below, l) =
-        let own : x < suc n = low x (Contains-here x xs) in
-        let less : x < n = omega (arith, own, other) in (
-          x ∷ ys,
-          held part,
-          (λ z at. elim (Contains-cases z x ys at) [ inl e ↦ subst (λ w. w < n) (sym e) less | inr there ↦ below z there ]),
-          omega (arith, l),
-        )
-
-few_different : (n : ℕ) (xs : List ℕ) → AreDifferent xs → ((z : ℕ) → Contains xs z → z < n) → length xs ≤ n
-few_different zero [] d low = omega arith
-few_different zero (x ∷ xs) d low = let l : x < 0 = low x (Contains-here x xs) in absurd (omega (arith, l))
-few_different (suc n) xs d low =
-    let (ys, part, below, l) = without n xs d low in
-    let few : length ys ≤ n = few_different n ys (part_different part d) below in
-    omega (arith, l, few)
+use Rattle.re_layers.proofs.Different.{pigeonhole}
 
 -- ---- the nodes that a tree shows
 before : (n : ℕ) → 1 ≤ n → pred n ≡ n - 1
@@ -197,7 +154,7 @@ module _ (a p N : ℕ) where
       let v : InputView = more back label branch rest in
       let around : Has (identified a p N).active (payloads v ++ []) = Has-around (identified a p N).active (identified a p N).passive a p T a [] v view fits in
       let own : label < N = active_below (payloads v ++ []) around label (Contains-here label (payloads rest ++ [])) in
-      let few : length (shown v) ≤ N = few_different N (shown v) d (λ z at. elim (Contains-cases z label (behind_active v) at) [
+      let few : length (shown v) ≤ N = pigeonhole N (shown v) d (λ z at. elim (Contains-cases z label (behind_active v) at) [
         | inl e ↦ subst (λ w. w < N) (sym e) own
         | inr there ↦ low_active (suc T) a [] v view fits z there
       ]) in
@@ -208,7 +165,7 @@ module _ (a p N : ℕ) where
   room_passive : (T : ℕ) (v : InputView) → 2 ≤ a → 2 ≤ p → IsView p a (suc (suc T)) v → Fits (identified a p N).passive (identified a p N).active v
       → AreDifferent (behind_passive v) → nodes_seen a p T ≤ N
   room_passive T v two two' view fits d =
-      let few : length (behind_passive v) ≤ N = few_different N (behind_passive v) d (low_passive (suc (suc T)) p [] v view fits) in
+      let few : length (behind_passive v) ≤ N = pigeonhole N (behind_passive v) d (low_passive (suc (suc T)) p [] v view fits) in
       let count : length (behind_passive v) ≡ passives a p (suc (suc T)) p = count_passive a p (suc (suc T)) p v view in
       let seen : nodes_seen a p T ≤ passives a p (suc (suc T)) p = passives-more a p T two two' in
       omega (arith, few, count, seen)

@@ -2,7 +2,7 @@
 use Rattle.std.proofs.Common.{◌≡◌, ℕ, ◌+◌, ◌*◌, ◌^◌, ◌≤◌, sym, subst, arith}
 use Rattle.std.proofs.Math.Nat.{pow-le-pow_left, pow-le-pow_right}
 use Rattle.std.proofs.lemmas.Nat.{mul-le, pow-add}
-use Rattle.re_local.proofs.Towers.{own_power, power_of}
+use Rattle.re_layers.proofs.Towers.{own_power, power_of}
 
 -- so many bits do for as many colours as are left where x stands for a tower of them
 abbrev pub bits : ℕ → ℕ → ℕ

@@ -3,10 +3,11 @@ use Rattle.std.proofs.Common.{◌≡◌, ℕ, suc, ◌+◌, ◌*◌, ◌/◌, �
 use Rattle.std.proofs.Math.Nat.{one-le-pow, pow-le-pow_right}
 use Rattle.re_local.proofs.LocalGiven.{SolvableLabelled-local, SolvableLocal-fewer}
 use Rattle.re_local.proofs.Sinkless.{sinkless_local}
-use Rattle.re_local.specs.LocalAlgorithms.{AreDifferent, SolvableLabelled}
+use Rattle.re_layers.specs.Networks.{AreDifferent}
+use Rattle.re_local.specs.LocalAlgorithms.{SolvableLabelled}
 use Rattle.re_problem.specs.Examples.{relaxed_sinkless}
 use Rattle.re_problem.specs.Problems.{Problem}
-use Rattle.re_local.proofs.Towers.{power_of}
+use Rattle.re_layers.proofs.Towers.{power_of}
 use Rattle.re_labels.proofs.Membership.{In}
 use Rattle.re_local.proofs.VirtualLabels.{around_different, around_one}
 use Rattle.re_local.specs.Identifiers.{IdHypergraph, JoinsAlike, identifiers, virtual_identifiers}

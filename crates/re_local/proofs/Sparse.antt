@@ -5,7 +5,7 @@ use Rattle.std.proofs.Math.Nat.{le-mul_of_pos_right, le_of_mul-le-mul_left, le_o
 use Rattle.std.proofs.lemmas.Bool.{cases_lt, eqb-true}
 use Rattle.std.proofs.lemmas.Bool.Decides.{eqb_tells}
 use Rattle.std.proofs.lemmas.Nat.{mul-pow}
-use Rattle.re_local.proofs.Towers.{power_of}
+use Rattle.re_layers.proofs.Towers.{power_of}
 use Rattle.re_local.proofs.Balls.{many_edges}
 use Rattle.re_local.proofs.Counting.{all_at, average, count, count-le, count_some, one_if, total, total-const, total-le, total-swap}
 use Rattle.re_local.proofs.Sets.{number_below, number_of, set, set_number}

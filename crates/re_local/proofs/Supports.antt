@@ -44,7 +44,7 @@ support-most : (xs : List ℕ) → length (support_of xs) ≤ length xs
 support-most [] = omega arith
 support-most (x ∷ xs) = let rest = support-most xs in let one = with_label-most (support_of xs) x in omega (arith, rest, one)
 
-in_support : (xs : List ℕ) (x : ℕ) → Contains xs x → Contains (support_of xs) x
+pub in_support : (xs : List ℕ) (x : ℕ) → Contains xs x → Contains (support_of xs) x
 in_support xs x held = has-IsIn (support_of xs) x (has-support_of xs x ∙ IsIn-has xs x held)
 
 -- as many labels as places: none stands twice

@@ -15,8 +15,9 @@ use Rattle.re_labels.proofs.Tests.{and-true, below-true, eqb-same, eqb-true, tru
 use Rattle.re_labels.specs.Lists.{IsRising}
 use Rattle.re_labels.specs.Sets.{IsLabelSet}
 use Rattle.re_local.proofs.ColouredLocal.{different_Rearranged}
-use Rattle.re_local.specs.LocalAlgorithms.{AreDifferent}
+use Rattle.re_layers.specs.Networks.{AreDifferent}
 use Rattle.re_table.specs.Constraints.{Has}
+use Rattle.re_given.proofs.Colourings.{first_below}
 
 -- ---- what the test tells
 rises_of_one : (M : ℕ) (labels : List ℕ) → are_of_one M labels ≡ true → IsRising (λ x y. x < y) labels
@@ -41,17 +42,10 @@ one_of_one : (M : ℕ) (labels : List ℕ) → are_of_one M labels ≡ true → 
 one_of_one M [] h y z i j = absurd (Contains-none y i)
 one_of_one M (u ∷ labels) h y z i j = like_first M u labels h y i ∙ sym (like_first M u labels h z j)
 
-above_first : (x : ℕ) (xs : List ℕ) → IsRising (λ x y. x < y) (x ∷ xs) → (z : ℕ) → Contains xs z → x < z
-above_first x [] rises z held = absurd (Contains-none z held)
-above_first x (y ∷ xs) rises z held = elim (Contains-cases z y xs held) [
-  | inl e ↦ (let l = rises.0 in omega (arith, l, e))
-  | inr later ↦ (let l = rises.0 in let m = above_first y xs rises.1 z later in omega (arith, l, m))
-]
-
-different_rising : (xs : List ℕ) → IsRising (λ x y. x < y) xs → AreDifferent xs
+pub different_rising : (xs : List ℕ) → IsRising (λ x y. x < y) xs → AreDifferent xs
 different_rising [] rises = tt
 different_rising (x ∷ []) rises = (Contains-none x, tt)
-different_rising (x ∷ y ∷ xs) rises = (λ at. let l = above_first x (y ∷ xs) rises x at in omega (arith, l), different_rising (y ∷ xs) rises.1)
+different_rising (x ∷ y ∷ xs) rises = (λ at. let l = first_below x (y ∷ xs) rises x at in omega (arith, l), different_rising (y ∷ xs) rises.1)
 
 -- ---- labels around a node
 module _ (a M p N : ℕ) (hyper : IdHypergraph) where

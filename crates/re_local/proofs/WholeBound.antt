@@ -14,7 +14,7 @@ use Rattle.re_local.specs.Identifiers.{identifiers, virtual_identifiers}
 use Rattle.re_local.specs.SeparatingLaws.{identifier_base, WholeBoundLaw, virtual_base, virtual_ports}
 use Rattle.re_local.specs.LocalAlgorithms.{SolvableLocal}
 use Rattle.re_problem.specs.Problems.{IsProblem, Problem}
-use Rattle.re_local.proofs.Towers.{below_power}
+use Rattle.re_layers.proofs.Towers.{below_power}
 use Rattle.re_local.proofs.VirtualGiven.{IsInput-virtual, SolvableGiven-virtual}
 use Rattle.re_local.proofs.VirtualUnavoided.{virtual_unavoidable}
 use Rattle.re_local.proofs.Separated.{separating, virtual_separating}

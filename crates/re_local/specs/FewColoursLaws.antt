@@ -3,7 +3,7 @@ use Rattle.std.specs.Prelude.{ℕ, ◌+◌, ◌-◌, ◌*◌, ◌^◌, ◌≤◌
 use Rattle.re_given.specs.Given.{SolvableGiven}
 use Rattle.re_given.specs.Unavoidable.{colouring}
 use Rattle.re_local.specs.LocalAlgorithms.{SolvableLocal}
-use Rattle.re_local.specs.Towers.{tower}
+use Rattle.re_layers.specs.Towers.{tower}
 use Rattle.re_problem.specs.Problems.{IsProblem, Problem}
 
 -- where there are more colours than the a (p - 1) neighbours of a node, and one more is given, one hop leaves it out

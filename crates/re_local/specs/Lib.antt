@@ -7,4 +7,3 @@ pub mod LocalAlgorithms
 pub mod Separating
 pub mod SeparatingLaws
 pub mod Shown
-pub mod Towers

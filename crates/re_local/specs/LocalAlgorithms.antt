@@ -1,5 +1,6 @@
 -- Local algorithms: active nodes have identifiers, all different, and know those of the nodes near them.
-use Rattle.std.specs.Prelude.{ℕ, suc, ◌*◌, ◌/◌, List, [], ◌∷◌, ◌++◌, map, replicate, Contains}
+use Rattle.re_layers.specs.Networks.{AreDifferent}
+use Rattle.std.specs.Prelude.{ℕ, suc, ◌*◌, ◌/◌, List, [], ◌∷◌, ◌++◌, map, replicate}
 use Rattle.re_labels.specs.Orders.{multisets}
 use Rattle.re_given.specs.Given.{around_known}
 use Rattle.re_local.specs.Identifiers.{id_labels}
@@ -28,11 +29,6 @@ abbrev pub shown : InputView → List ℕ
 shown leaf = []
 shown end = []
 shown (more back label branch rest) = label ∷ behind_active (more back label branch rest)
-
--- nothing stands twice
-abbrev pub AreDifferent : List ℕ → Type 0
-AreDifferent [] = Unit {0}
-AreDifferent (x ∷ xs) = (Contains xs x → ⊥) × AreDifferent xs
 
 -- around each node stand labels that the problem allows, wherever the input labels fit and the active nodes that are shown all have
 -- different identifiers, where this is the identifier that goes with an input label

@@ -1,9 +1,7 @@
 -- A chain of kind lower that `given` accepts is a lower bound that goes on from itself.
-use Rattle.std.proofs.Common.{◌≡◌, ℕ, Bool, true, false, List, [], refl, sym, ap, ◌∙◌, subst}
-use Rattle.std.specs.Prelude.{◌==◌, length, nat_le, ◌&&◌, if◌then◌else◌}
-use Rattle.re_labels.proofs.Tests.{and-true, eqb-true}
-use Rattle.re_problem.specs.ItemSteps.{is_nil}
-use Rattle.re_problem.proofs.TextLines.{nil_of}
+use Rattle.std.proofs.Common.{◌≡◌, ℕ, true, refl, sym, ap, ◌∙◌, subst}
+use Rattle.std.specs.Prelude.{length, nat_le, ◌&&◌}
+use Rattle.re_labels.proofs.Tests.{and-true}
 use Rattle.re_problem.specs.NamedProblems.{IsNamedProblem, NamedProblem}
 use Rattle.re_cert.specs.Bounds.{Bound, is_bound, is_fixed, one_form, renaming_fits, steps_fit}
 use Rattle.re_cert.specs.declared.certificate.TheConstants.{MAX_STEPS}
@@ -11,11 +9,7 @@ use Rattle.re_cert.specs.declared.certificate.Kind.{Kind}
 use Rattle.re_cert.specs.declared.certificate.Kind.TheVariants.{Lower}
 use Rattle.re_chains.specs.Chains.{IsOverProblems, chain_kind, chain_of}
 use Rattle.re_given_words.specs.Extensions.{GoesOnGiven, IsTaken, TakenLaw}
-
--- there is no way back and no renaming
-plain : (fixed : Bool) (b : Bool) (back : ℕ) (renaming : List (ℕ × ℕ)) → fixed ≡ false → (if fixed then b else back == 0 && is_nil renaming) ≡ true → (back ≡ 0) × (renaming ≡ [])
-plain true b back renaming e fits = cc
-plain false b back renaming e fits = (eqb-true back 0 (and-true (back == 0) (is_nil renaming) fits).0, nil_of renaming (and-true (back == 0) (is_nil renaming) fits).1)
+use Rattle.re_shaping.proofs.Continued.{plain}
 
 -- it is the chain that it stands for
 itself : (chain : Bound) → is_bound chain ≡ true → chain.kind ≡ Lower → chain_of chain ≡ chain

@@ -6,7 +6,7 @@ use Rattle.std.proofs.lemmas.List.{length-map}
 use Rattle.std.proofs.lemmas.List.Sums.{count_by-le-length, length-filter}
 use Rattle.re_labels.specs.Rows.{all_sets}
 use Rattle.re_ordered.specs.GapLaws.{FewLabelsLaw}
-use Rattle.re_local.specs.Towers.{tower}
+use Rattle.re_layers.specs.Towers.{tower}
 use Rattle.re_labels.proofs.Membership.{length-count_from}
 use Rattle.re_labels.specs.Lists.{count_from, same_list}
 use Rattle.re_labels.specs.Sets.{set_of}

@@ -2,8 +2,8 @@
 use Rattle.std.proofs.Common.{◌≡◌, ℕ, zero, suc, ◌+◌, ◌-◌, ◌*◌, ◌^◌, ◌≤◌, sym, subst, arith}
 use Rattle.std.proofs.Math.Nat.{mul-le-mul, mul-le-mul_right, one-le-pow, pow-le-pow_left, pow-le-pow_right, pow-succ', pow-zero}
 use Rattle.std.proofs.lemmas.Nat.{pow-add}
-use Rattle.re_local.proofs.Towers.{above, below_power, power_below, power_of, tower-le}
-use Rattle.re_local.specs.Towers.{tower}
+use Rattle.re_layers.proofs.Towers.{above, below_power, power_below, power_of, tower-le}
+use Rattle.re_layers.specs.Towers.{tower}
 use Rattle.re_ordered.specs.GapLaws.{TowerLaw}
 use Rattle.re_local.specs.SeparatingLaws.{virtual_base, virtual_ports}
 

@@ -3,7 +3,7 @@ use Rattle.std.proofs.Common.{◌+◌, ◌^◌, ◌≤◌, arith}
 use Rattle.re_cover.proofs.Outputs.{no_solution_law}
 use Rattle.re_laws.specs.Algorithms.{Solvable}
 use Rattle.re_local.specs.LocalAlgorithms.{SolvableLocal}
-use Rattle.re_local.specs.Towers.{tower}
+use Rattle.re_layers.specs.Towers.{tower}
 use Rattle.re_ordered.proofs.FewIdentifiers.{below_virtual}
 use Rattle.re_ordered.proofs.GivenGap.{unavoidable_rounds}
 use Rattle.re_ordered.proofs.PortNumbered.{SolvableLocal-unnoticed}

@@ -2,9 +2,9 @@
 use Rattle.std.proofs.Common.{sym, ◌<◌, ◌≡◌, ℕ, zero, suc, ◌+◌, ◌≤◌, inl, inr, ◌∙◌, ap, subst, arith, add-one}
 use Rattle.std.specs.Prelude.{◌⊎◌}
 use Rattle.re_ordered.proofs.DerivedLabels.{few_labels}
-use Rattle.re_local.proofs.Towers.{tower-le, tower-next}
+use Rattle.re_layers.proofs.Towers.{tower-le, tower-next}
 use Rattle.re_ordered.specs.GapLaws.{ColouredGapLaw, ColouredPairsGapLaw, UnavoidableGapLaw, UnavoidableRoundsLaw}
-use Rattle.re_local.specs.Towers.{tower}
+use Rattle.re_layers.specs.Towers.{tower}
 use Rattle.re_given.proofs.AvoidedInputs.{Zero-from_given, halves, unavoidable_fewer}
 use Rattle.re_given.proofs.ChainGiven.{SolvableGiven-rounds, exchanged_by-twice}
 use Rattle.re_given.proofs.ColouredPairs.{pairs_unavoidable}

@@ -23,7 +23,8 @@ use Rattle.re_labels.specs.Lists.{count_from, same_list}
 use Rattle.re_laws.proofs.Ports.{map-count}
 use Rattle.re_laws.specs.Algorithms.{Solvable, answer, at_port}
 use Rattle.re_local.proofs.ColouredLocal.{different_Rearranged}
-use Rattle.re_local.specs.LocalAlgorithms.{AreDifferent, SolvableLocal, SolvesApart, behind_active, behind_passive, identified, shown}
+use Rattle.re_layers.specs.Networks.{AreDifferent}
+use Rattle.re_local.specs.LocalAlgorithms.{SolvableLocal, SolvesApart, behind_active, behind_passive, identified, shown}
 use Rattle.re_ordered.proofs.Arranged.{Everywhere, IsTree-places, IsTree-places_around, NamedActive, NamedPassive, everywhere_relabelled, given, given_around, given_back, given-known, given-relabelled, named_given, named_given_around, named_shift, ordered_given, ordered_given_around, relabelled_twice, shown_passive, shown_turns, size, size-known, size-relabelled, size_turns}
 use Rattle.re_ordered.proofs.Parts.{Pairwise, Part, held, none, pairwise_part, part_contains, part_empty, part_trans}
 use Rattle.re_ordered.proofs.Ramsey.{AlikeAll, BoundAll, ramsey_all}

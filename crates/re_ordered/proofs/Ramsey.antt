@@ -2,12 +2,9 @@
 use Rattle.std.proofs.Common.{◌≡◌, ℕ, zero, suc, ◌+◌, ◌≤◌, ◌<◌, List, [], ◌∷◌, length, refl, sym, ◌∙◌, ap, subst, arith, inl, inr, ◌⊎◌}
 use Rattle.std.specs.Prelude.{Contains}
 use Rattle.std.specs.List.{AllByRecursion}
+use Rattle.std.proofs.lemmas.List.{nil_from_length}
 use Rattle.re_labels.proofs.Membership.{Contains-cases, Contains-here, Contains-later, Contains-none}
 use Rattle.re_ordered.proofs.Parts.{Part, held, left_out, none, part_cases, part_empty, part_of_none, part_trans, part_whole}
-
-no_elements : (xs : List ℕ) → length xs ≡ 0 → xs ≡ []
-no_elements [] e = refl
-no_elements (x ∷ xs) e = absurd (omega (arith, e))
 
 module _ (C : Type 0) (decide : (x y : C) → (x ≡ y) ⊎ (x ≡ y → ⊥)) (first : C) (more_colours : List C) where
   -- a part of at least s elements, of which each part of k elements has this colour
@@ -200,7 +197,7 @@ module _ (C : Type 0) (decide : (x y : C) → (x ≡ y) ⊎ (x ≡ y → ⊥)) (
       part = part_whole S;
       enough = l;
       among = each [] (part_empty S) refl;
-      same = λ xs part e. ap f (no_elements xs e);
+      same = λ xs part e. ap f (nil_from_length xs e);
     };
   }
   ramsey (suc k) s = ramsey_more k s (layers k (λ t. ramsey k t) (each_of s more_colours))

@@ -4,6 +4,7 @@ use Rattle.std.specs.Prelude.{Contains}
 use Rattle.std.proofs.lemmas.Bool.Decides.{nat_tests}
 use Rattle.std.proofs.lemmas.List.{get_or-map, get_or_default, length-map}
 use Rattle.std.proofs.lemmas.List.Elements.{Contains-get_or}
+use Rattle.std.proofs.lemmas.Bool.{le-ltb}
 use Rattle.re_labels.proofs.Rearranging.{Contains-Rearranged}
 use Rattle.re_labels.proofs.Sorting.{Rearranged-sorted, sorted_rises}
 use Rattle.re_labels.specs.Configs.{sorted}
@@ -12,18 +13,15 @@ use Rattle.re_labels.proofs.Membership.{Contains-cases, Contains-here, Contains-
 use Rattle.re_labels.proofs.Tests.{true-below}
 use Rattle.re_labels.specs.Lists.{IsRising, count_from}
 use Rattle.re_local.proofs.ColouredLocal.{different_Rearranged}
-use Rattle.re_local.specs.LocalAlgorithms.{AreDifferent}
+use Rattle.re_layers.specs.Networks.{AreDifferent}
 use Rattle.re_ordered.proofs.Parts.{Pairwise, Part, held, left_out, pairwise_from, pairwise_map, pairwise_two, pairwise_with, part_empty}
 use Rattle.re_ordered.proofs.Turns.{Ordered, Turn, level, turned_to}
+use Rattle.re_layers.proofs.Filters.{either}
 
 -- how many pass the test
 abbrev pub count : {X : Type 0} → (X → Bool) → List X → ℕ
 count p [] = 0
 count p (x ∷ xs) = cond (p x) (suc (count p xs)) (count p xs)
-
-either : (b : Bool) → (b ≡ true) ⊎ (b ≡ false)
-either true = inl refl
-either false = inr refl
 
 count_same : {X : Type 0} (p q : X → Bool) (xs : List X) → ((x : X) → Contains xs x → p x ≡ q x) → count p xs ≡ count q xs
 count_same p q [] same = refl
@@ -84,9 +82,6 @@ count_none p [] fails = refl
 count_none p (x ∷ xs) fails = rw (fails x (Contains-here x xs)) (count_none p xs (λ y at. fails y (Contains-later y x xs at)))
 
 -- ---- lists that rise
-less_false : (x y : ℕ) → y ≤ x → ltb x y ≡ false
-less_false x y l = grind (arith, nat_tests)
-
 -- an element of a rising list stands behind as many as are less
 pub get_or-rank : (xs : List ℕ) (d y : ℕ) → Pairwise (λ x y. x < y) xs → Contains xs y → get_or xs (count (λ x. ltb x y) xs) d ≡ y
 get_or-rank [] d y h at = absurd (Contains-none y at)
@@ -97,8 +92,8 @@ get_or-rank (x ∷ xs) d y h at = elim (Contains-cases y x xs at) [
   where
     here : y ≡ x → get_or (x ∷ xs) (count (λ z. ltb z y) (x ∷ xs)) d ≡ y
     here e =
-        let first : ltb x y ≡ false = less_false x y (omega (arith, e)) in
-        let others : count (λ z. ltb z y) xs ≡ 0 = count_none (λ z. ltb z y) xs (λ z there. less_false z y (let l = h.0 z there in omega (arith, l, e))) in
+        let first : ltb x y ≡ false = le-ltb x y (omega (arith, e)) in
+        let others : count (λ z. ltb z y) xs ≡ 0 = count_none (λ z. ltb z y) xs (λ z there. le-ltb z y (let l = h.0 z there in omega (arith, l, e))) in
         rw (first, others) (sym e)
 
 pub rising_at : (xs : List ℕ) (d i j : ℕ) → Pairwise (λ x y. x < y) xs → i < j → j < length xs → get_or xs i d < get_or xs j d
@@ -290,7 +285,7 @@ module _ (ts : List (Turn (ℕ × ℕ))) (n d : ℕ) (numbered : labels (map (tu
 
   alike : (s t : Turn (ℕ × ℕ)) → Contains ts s → Contains ts t → comes_before (one s) (one t) ≡ ltb s.label.1 t.label.1
   alike s t at at' = elim (pairwise_two Both ts both s t at at') [
-    | inl e ↦ subst (λ u. comes_before (one s) (one u) ≡ ltb s.label.1 u.label.1) e (comes_itself (one s) ∙ sym (less_false s.label.1 s.label.1 (omega arith)))
+    | inl e ↦ subst (λ u. comes_before (one s) (one u) ≡ ltb s.label.1 u.label.1) e (comes_itself (one s) ∙ sym (le-ltb s.label.1 s.label.1 (omega arith)))
     | inr (inl h) ↦ first (s.ups + t.downs) (t.ups + s.downs) s.label.0 t.label.0 s.label.1 t.label.1 h.0 h.1
     | inr (inr h) ↦ last (t.ups + s.downs) (s.ups + t.downs) t.label.0 s.label.0 t.label.1 s.label.1 h.0 h.1
   ]

@@ -1,7 +1,7 @@
 -- The gap: below log* N rounds, less a constant, identifiers below N are of no use.
 use Rattle.std.specs.Prelude.{◌≡◌, ℕ, ◌↔◌, ◌+◌, ◌-◌, ◌*◌, ◌≤◌, ◌<◌, List}
 use Rattle.re_cover.specs.Graphs.{IsGraphOf, IsSolution, PortGraph}
-use Rattle.re_local.specs.Towers.{tower}
+use Rattle.re_layers.specs.Towers.{tower}
 use Rattle.re_given.specs.Given.{SolvableGiven}
 use Rattle.re_given.specs.Inputs.{IsInput, exchanged_by}
 use Rattle.re_given.specs.Unavoidable.{IsUnavoidable, colouring}

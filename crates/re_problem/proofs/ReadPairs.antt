@@ -4,7 +4,7 @@ use Rattle.std.proofs.Common.{◌≡◌, ℕ, ◌≤◌, ◌+◌, ◌-◌, Bool,
 use Rattle.std.specs.Prelude.{slice_range}
 use Rattle.std.proofs.lemmas.Bool.{false≢true}
 use Rattle.std.proofs.lemmas.List.Sums.{prefix_len-le-length}
-use Rattle.re_problem.proofs.Words.{NextItem, items_bad, items_end, next_found}
+use Rattle.re_problem.proofs.WordLemmas.{NextItem, items_bad, items_end, next_found}
 use Rattle.re_problem.specs.Items.{ItemText, item_of, items_of_words, with_item, words}
 use Rattle.re_problem.proofs.ItemShapes.{first_word_begins}
 use Rattle.re_problem.specs.Bytes.{behind_blanks, is_blank}

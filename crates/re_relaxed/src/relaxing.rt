@@ -3,7 +3,7 @@ ghost use Rattle.re_labels.specs.Configs.{image_at};
 ghost use Rattle.re_problem.specs.NamedProblems.{unnamed};
 ghost use Rattle.re_problem.specs.Steps.{IsRelaxed};
 ghost use Rattle.std.specs.List.{AllByRecursion};
-ghost use Rattle.std.specs.Prelude.{◌≡◌, ◌<◌, ◌↔◌, IsTrue, length};
+ghost use Rattle.std.specs.Prelude.{◌≡◌, ◌<◌, IsTrue, length};
 
 use crate::classes::merge_at;
 use arrayvec::ArrayVec;
@@ -12,7 +12,7 @@ use re_chains::{LowerChain, chain as copied_chain};
 use re_changes::{Change, Changed};
 use re_labels::{MAX_LABELS, NoMemory};
 use re_problem::{LabelMap, MapVerdict, Problem, relaxes, relaxes_law};
-use re_shaping::{Extension, MergeFault, extended, merge_lower, relaxed_step};
+use re_shaping::{Extension, MergeFault, are_below, extended, merge_lower, relaxed_step};
 use re_step::StepFault;
 use std::alloc::Global;
 
@@ -71,16 +71,6 @@ fn map_of(relaxed: &Changed) -> Option<LabelMap> {
         images.try_push(image.unwrap_or(0)).ok()?;
     }
     LabelMap::new(images.as_slice())
-}
-
-// Whether the images are labels below this number.
-fn are_below(images: &[u8], labels: usize) -> bool
-    ensures { IsTrue result ↔ AllByRecursion (λ image. image < labels) images.now }
-{
-    let [image, others @ ..] = images else {
-        return true;
-    };
-    (*image as usize) < labels && are_below(others, labels)
 }
 
 // Whether the second problem is a relaxation of the first by the map.

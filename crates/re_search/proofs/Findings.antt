@@ -122,7 +122,7 @@ kind-told : (kind : Kind) (first : NamedProblem) (node : Node) (o : Option (ℕ 
 kind-told kind first node None = refl
 kind-told kind first node (Some way) = refl
 
-first-told : (kind : Kind) (first : NamedProblem) (node : Node) (o : Option (ℕ × List ℕ)) → (bound_with kind first node o).first ≡ first
+pub first-told : (kind : Kind) (first : NamedProblem) (node : Node) (o : Option (ℕ × List ℕ)) → (bound_with kind first node o).first ≡ first
 first-told kind first node None = refl
 first-told kind first node (Some way) = refl
 

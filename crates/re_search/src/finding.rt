@@ -9,10 +9,10 @@ ghost use Rattle.std.specs.Prelude.{◌≡◌, ◌≤◌, IfOk, MatchOption, Non
 
 use crate::derivations::Derivations;
 use crate::returning::{Way, way_back};
-use crate::steps::{has_lower_steps, problems};
 use crate::types::{FindFault, Search};
 use crate::walking::{Count, Tree, Walked, walk};
-use re_cert::{Certificate, Kind, Step};
+use re_cert::{Certificate, Kind, Step, has_lower_steps};
+use re_check::problems;
 use re_labels::NoMemory;
 use re_problem::Problem;
 use std::alloc::Global;

@@ -1,13 +1,11 @@
 //! Steps of a path, and the problem to which it leads.
 ghost use Rattle.re_cert.specs.Bounds.{is_lower, next_problems};
-ghost use Rattle.re_problem.specs.NamedProblems.{IsNamedProblem};
 ghost use Rattle.re_problem.specs.ProblemTexts.{last_or};
 ghost use Rattle.re_problem.specs.Steps.LowerMap.{by_set};
 ghost use Rattle.re_search.specs.Nodes.{behind, entries_of};
-ghost use Rattle.std.specs.List.{AllByRecursion};
 ghost use Rattle.std.specs.Prelude.{◌≡◌, ◌≤◌, [], IfOk, if◌then◌else◌, length, map};
 
-use re_cert::{Kind, LowerMap, SetEntry, Step, StepParts};
+use re_cert::{Kind, LowerMap, SetEntry, Step, StepParts, has_lower_steps};
 use re_changes::Changed;
 use re_labels::{LabelSet, NoMemory, Row};
 use re_problem::Problem;
@@ -18,13 +16,6 @@ use std::alloc::Global;
 pub(crate) struct Level {
     pub(crate) rows: Vec<Row>,
     pub(crate) sets: Vec<LabelSet>,
-}
-
-/// Whether bounds of the kind have lower steps.
-pub(crate) fn has_lower_steps(kind: Kind) -> bool
-    ensures { result ≡ is_lower kind }
-{
-    !matches!(kind, Kind::Upper)
 }
 
 /// The problem to which the steps lead.
@@ -48,17 +39,6 @@ pub(crate) fn problem_behind<'a>(first: &'a Problem, path: &'a [Step], number: u
     } else {
         path[number - 1].next()
     }
-}
-
-/// That the problems of the steps are problems.
-pub(crate) fn problems(path: &[Step])
-    ensures { AllByRecursion IsNamedProblem (next_problems path.now) }
-{
-    let [step, others @ ..] = path else {
-        return;
-    };
-    let _active = step.next().active();
-    problems(others)
 }
 
 // For each of the sets whose label is left, the label that it has become.

@@ -11,9 +11,9 @@ ghost use Rattle.std.specs.Prelude.{◌≡◌, ◌<◌, ◌≤◌, ℕ, IsTrue, 
 use crate::counting::is_zero;
 use crate::derivations::Derivations;
 use crate::returning::way_back;
-use crate::steps::{Level, end_of, has_lower_steps, problem_behind, step_to};
+use crate::steps::{Level, end_of, problem_behind, step_to};
 use crate::types::FindFault;
-use re_cert::{Kind, Step};
+use re_cert::{Kind, Step, has_lower_steps};
 use re_changes::{Changed, changes_of};
 use re_labels::{MAX_LABELS, NoMemory};
 use re_problem::Problem;

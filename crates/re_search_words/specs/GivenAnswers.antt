@@ -11,8 +11,7 @@ use Rattle.re_check.specs.declared.verdict.Verdict.{Verdict}
 use Rattle.re_fit.specs.InputProblems.{input_fault}
 use Rattle.re_fit.specs.declared.inputs.InputFault.{InputFault as NoInput}
 use Rattle.re_frame.specs.Check.{verdict_outcome}
-use Rattle.re_frame.specs.Outcomes.{Outcome, limit_of, outcome_of, refused, too_long}
-use Rattle.re_frame.specs.declared.output.Output.{Output}
+use Rattle.re_frame.specs.Outcomes.{Outcome, limit_of, refused, too_long}
 use Rattle.re_frame.specs.SearchLines.{not_found_line, not_lower_line, not_upper_line}
 use Rattle.re_frame.specs.TextFaults.{fault_outcome}
 use Rattle.re_given_words.specs.Extensions.{GoesOnGiven, IsTaken}
@@ -40,11 +39,6 @@ abbrev pub HasCounts : Outcome → Type 0
 HasCounts outcome = (seen : ℕ) × (cut : ℕ) × (outcome ≡ refused (not_found_line seen cut))
 
 -- ---- chains
--- the answer of `given` to a chain, and nothing exactly where it accepts it
-abbrev pub Refuses : NamedProblem → Bound → Option Output → Type 0
-Refuses input chain None = IsTaken input chain
-Refuses input chain (Some output) = (IsTaken input chain → ⊥) × (outcome_of output ≡ given_outcome Given input chain)
-
 -- what the word may give to a chain that `given` accepts: a lower bound, whose text is too long only where that of the chain itself is; the chain itself,
 -- which is an upper bound; or a fixed point, the counts of what was looked at, or the limit of it
 abbrev pub MayFindGiven : SearchWord → NamedProblem → Bound → Outcome → Type 0

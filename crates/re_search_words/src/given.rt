@@ -9,7 +9,7 @@ ghost use Rattle.re_given_words.specs.Extensions.{IsTaken};
 ghost use Rattle.re_io.specs.declared.read.TheConstants.{MAX_BYTES};
 ghost use Rattle.re_labels.specs.declared.TheConstants.{MAX_LABELS};
 ghost use Rattle.re_problem.specs.NamedProblems.{unnamed};
-ghost use Rattle.re_search_words.specs.GivenAnswers.{IsFoundGiven, IsTextOnGiven, MayFindBy, MayFindElse, MayFindGiven, MayGiveGiven, MayGiveGivenAt, MayGiveGivenInput, MayGiveGivenSound, Refuses, given_chain};
+ghost use Rattle.re_search_words.specs.GivenAnswers.{IsFoundGiven, IsTextOnGiven, MayFindBy, MayFindElse, MayFindGiven, MayGiveGiven, MayGiveGivenAt, MayGiveGivenInput, MayGiveGivenSound, given_chain};
 ghost use Rattle.re_chains.specs.TwoTexts.{front_chain, has_line};
 ghost use Rattle.std.specs.Prelude.{◌≡◌, ◌≤◌, IfOk, codes, length, true};
 
@@ -27,27 +27,11 @@ use re_frame::{
     Answer, Output, fault_output, limit_of, not_found_output, not_lower_output, not_upper_output,
     verdict_output,
 };
-use re_given_words::{GIVEN, given_verdict, input_fault_output, is_accepted, is_done, taken_law};
+use re_given_words::{GIVEN, given_refusal, input_fault_output, is_accepted, taken_law};
 use re_labels::NoMemory;
 use re_problem::{Problem, TextFault};
 use re_shortest::{Shortest, find_shortest_given};
 use std::alloc::Global;
-
-// The answer of `given` to the chain, where that isn't that it accepts it.
-fn given_refusal(
-    alloc: Global,
-    chain: &Certificate,
-    input: &Problem,
-) -> Result<Option<Output>, NoMemory>
-    ensures { IfOk result (Refuses input.now chain.now) }
-{
-    let output = given_verdict(alloc, chain, input)?;
-    if is_done(output.answer) {
-        Ok(None)
-    } else {
-        Ok(Some(output))
-    }
-}
 
 // The chain, which `given` accepts, as the answer.
 fn repeated_output(

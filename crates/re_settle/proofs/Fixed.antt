@@ -1,5 +1,5 @@
 -- Fixed points take at least the order of log N rounds with unique identifiers.
-use Rattle.std.proofs.Common.{◌≡◌, ℕ, Bool, true, false, List, length, take, refl, sym, ap, ◌∙◌, subst, Ok, Err, None, Option, Some}
+use Rattle.std.proofs.Common.{◌≡◌, ℕ, Bool, true, false, length, take, sym, ap, ◌∙◌, subst, Ok, Err, None, Option, Some}
 use Rattle.std.specs.Prelude.{find, nat_lt, if◌then◌else◌}
 use Rattle.re_cert.specs.Bounds.{Bound, is_bound, is_fixed}
 use Rattle.re_cert.specs.declared.certificate.Kind.{Kind}
@@ -15,7 +15,8 @@ use Rattle.re_search.specs.declared.types.FindFault.TheVariants.{TooManyNodes}
 use Rattle.re_search.specs.declared.types.Search.TheVariants.{Found, NotFound}
 use Rattle.re_search.specs.declared.walking.TheConstants.{MAX_NODES}
 use Rattle.re_search.specs.Nodes.{Node, all_nodes, succeeds, way_back}
-use Rattle.re_search.specs.Paths.{bound_of, bound_with}
+use Rattle.re_search.specs.Paths.{bound_of}
+use Rattle.re_search.proofs.Findings.{first-told}
 
 -- what is accepted as a fixed point and begins with the problem
 pub above_log_on : (problem : NamedProblem) (bound : Bound) → is_bound bound ≡ true → IsOverProblems bound → bound.first ≡ problem
@@ -24,10 +25,6 @@ above_log_on problem bound fits over first accepted =
     subst (λ (p : NamedProblem). IsAboveLog (unnamed p)) first (above_log bound (record { fits = fits; first = over.first; next = over.next }) accepted)
 
 -- ---- the first problem of what a search finds
-first-told : (kind : Kind) (first : NamedProblem) (node : Node) (o : Option (ℕ × List ℕ)) → (bound_with kind first node o).first ≡ first
-first-told kind first node None = refl
-first-told kind first node (Some way) = refl
-
 pub found_first : (kind : Kind) (depth most : ℕ) (first : NamedProblem) (bound : Bound) → search_of kind depth most first ≡ Ok (Found bound) → bound.first ≡ first
 unfolding search_of
 found_first kind depth most first bound is = go (find (succeeds kind first) (take MAX_NODES (all_nodes kind depth most first))) is

@@ -1,4 +1,5 @@
 mod Fixed
+mod Forests
 mod GivenKnown
 mod GivenSaying
 mod GivenTogether

@@ -28,7 +28,7 @@ use Rattle.re_local.specs.SeparatingLaws.{IsBeyondLocal}
 use Rattle.re_settle.specs.Claims.{Holds}
 use Rattle.re_settle.specs.Classes.{ClassHolds, HoldsLocal, SolvableByAny, class_of, few_colours}
 use Rattle.re_settle.specs.Coloured.{IsColoured, IsColouringOf, IsSolvableGivenFew, IsTriedGiven, colours_of, input_kind}
-use Rattle.re_settle.specs.Ways.{IsExcluded, IsFixedPoint, IsKnown, IsSettled, MayBeColoured}
+use Rattle.re_settle.specs.Ways.{IsExcluded, IsFixedPoint, IsFound, IsKnown, MayBeColoured}
 use Rattle.re_settle.specs.declared.types.Claim.{Claim}
 use Rattle.re_settle.specs.declared.types.Claim.TheVariants.{AtMost, Between, Exactly, MoreThan, Never}
 use Rattle.re_settle.specs.declared.types.Class.TheVariants as class
@@ -133,19 +133,19 @@ few_order Active problem is never solvable = order_log_star problem is never sol
 few_order Passive problem is never solvable = order_edge_coloured problem is never solvable
 
 -- ---- what no number of rounds solves
-pub fixed_settled : (times : ℕ) (problem : NamedProblem) (way : Way) → IsFixedPoint times problem way → IsSettled times problem (settled.FixedPoint way)
+pub fixed_settled : (times : ℕ) (problem : NamedProblem) (way : Way) → IsFixedPoint times problem way → IsFound times problem (settled.FixedPoint way)
 fixed_settled times problem way fixed = record { shown = (fixed.known.shown, fixed.finds); holds = fixed.known.holds; class = fixed.above }
 
-no_solution_class : (times : ℕ) (problem : NamedProblem) (way : Way) (coloured : Option Coloured) → IsProblem (unnamed problem) → IsKnown times problem Never way → MayBeColoured times coloured problem
-    → ClassHolds (class_of (settled.NoSolution way coloured)) (unnamed problem)
-no_solution_class times problem way None is known may = above_log_star (unnamed problem) is known.holds
-no_solution_class times problem way (Some coloured) is known may = few_order coloured.side (unnamed problem) is known.holds may.solvable
+excluded_class : (times : ℕ) (problem : NamedProblem) (way : Way) (coloured : Option Coloured) → IsProblem (unnamed problem) → IsKnown times problem Never way → MayBeColoured times coloured problem
+    → ClassHolds (class_of (settled.Excluded way coloured) None) (unnamed problem)
+excluded_class times problem way None is known may = above_log_star (unnamed problem) is known.holds
+excluded_class times problem way (Some coloured) is known may = few_order coloured.side (unnamed problem) is known.holds may.solvable
 
-pub no_solution_settled : (times : ℕ) (problem : NamedProblem) (way : Way) (coloured : Option Coloured) → IsProblem (unnamed problem) → IsExcluded times problem way
-    → MayBeColoured times coloured problem → IsSettled times problem (settled.NoSolution way coloured)
-no_solution_settled times problem way coloured is excluded may =
+pub excluded_settled : (times : ℕ) (problem : NamedProblem) (way : Way) (coloured : Option Coloured) → IsProblem (unnamed problem) → IsExcluded times problem way
+    → MayBeColoured times coloured problem → IsFound times problem (settled.Excluded way coloured)
+excluded_settled times problem way coloured is excluded may =
     record {
       shown = (excluded.known.shown, excluded.finds, may);
       holds = excluded.known.holds;
-      class = no_solution_class times problem way coloured is excluded.known may;
+      class = excluded_class times problem way coloured is excluded.known may;
     }

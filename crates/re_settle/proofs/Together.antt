@@ -10,13 +10,13 @@ use Rattle.re_problem.specs.Problems.{IsProblem, Problem}
 use Rattle.re_problem.specs.Zero.{zero_place}
 use Rattle.re_settle.proofs.Local.{claim_local, constant_class}
 use Rattle.re_settle.specs.Claims.{Holds, within}
-use Rattle.re_settle.specs.Ways.{IsKnown, IsSettled, ShowsZero}
+use Rattle.re_settle.specs.Ways.{IsFound, IsKnown, ShowsZero}
 use Rattle.re_settle.specs.declared.types.Claim.TheVariants.{AtMost, Between, Exactly, MoreThan}
 use Rattle.re_settle.specs.declared.types.Settled.TheVariants as settled
 use Rattle.re_settle.specs.declared.types.Shown.{Shown}
 
 -- a problem that is solvable without communication takes no round
-pub at_once_settled : (times : ℕ) (problem : NamedProblem) (place : ℕ) → IsProblem (unnamed problem) → zero_place (unnamed problem) ≡ Some place → IsSettled times problem settled.AtOnce
+pub at_once_settled : (times : ℕ) (problem : NamedProblem) (place : ℕ) → IsProblem (unnamed problem) → zero_place (unnamed problem) ≡ Some place → IsFound times problem settled.AtOnce
 at_once_settled times problem place is fit = record {
   shown = record { tried = tt; shows = subst (λ zero. ShowsZero zero (AtMost 0)) (sym fit) refl };
   holds = none_fewer (solves problem place is fit);
@@ -38,22 +38,22 @@ within_holds problem more most above solves = go (most == suc more) refl
     go false e = (above, solves)
 
 pub within_settled : (times : ℕ) (problem : NamedProblem) (more most : Shown) → IsProblem (unnamed problem) → IsKnown times problem (MoreThan more.rounds) more.way → IsKnown times problem (AtMost most.rounds) most.way
-    → IsSettled times problem (settled.Within more (Some most))
+    → IsFound times problem (settled.Within more (Some most))
 within_settled times problem more most is lower upper =
     let holds : Holds (within more.rounds most.rounds) (unnamed problem) = within_holds (unnamed problem) more.rounds most.rounds lower.holds upper.holds in
     record { shown = (lower.shown, upper.shown); holds = holds; class = constant_class (unnamed problem) is (within more.rounds most.rounds) most.rounds upper.holds holds }
 
 -- what is counted
 pub exactly_settled : (times : ℕ) (problem : NamedProblem) (shown : Shown) → IsProblem (unnamed problem) → IsKnown times problem (Exactly shown.rounds) shown.way
-    → IsSettled times problem (settled.Exactly shown)
+    → IsFound times problem (settled.Exactly shown)
 exactly_settled times problem shown is known =
     record { shown = known.shown; holds = known.holds; class = constant_class (unnamed problem) is (Exactly shown.rounds) shown.rounds known.holds.0 known.holds }
 
-more_settled : (times : ℕ) (problem : NamedProblem) (more : Shown) → IsProblem (unnamed problem) → IsKnown times problem (MoreThan more.rounds) more.way → IsSettled times problem (settled.Within more None)
+more_settled : (times : ℕ) (problem : NamedProblem) (more : Shown) → IsProblem (unnamed problem) → IsKnown times problem (MoreThan more.rounds) more.way → IsFound times problem (settled.Within more None)
 more_settled times problem more is lower =
     record { shown = lower.shown; holds = lower.holds; class = claim_local (unnamed problem) is (MoreThan more.rounds) lower.holds }
 
 pub bounds_settled : (times : ℕ) (problem : NamedProblem) (more : Shown) (most : Option Shown) → IsProblem (unnamed problem) → IsKnown times problem (MoreThan more.rounds) more.way
-    → IfSome most (λ (shown : Shown). IsKnown times problem (AtMost shown.rounds) shown.way) → IsSettled times problem (settled.Within more most)
+    → IfSome most (λ (shown : Shown). IsKnown times problem (AtMost shown.rounds) shown.way) → IsFound times problem (settled.Within more most)
 bounds_settled times problem more None is lower upper = more_settled times problem more is lower
 bounds_settled times problem more (Some most) is lower upper = within_settled times problem more most is lower upper

@@ -8,18 +8,19 @@ use Rattle.re_problem.specs.declared.fault.InputFault.{InputFault}
 use Rattle.re_settle.specs.Claims.{claim_of, is_final}
 use Rattle.re_settle.specs.Lines.{settled_text}
 use Rattle.re_settle.specs.Ways.{IsSettled}
-use Rattle.re_settle.specs.declared.types.Settled.{Settled}
+use Rattle.re_settle.specs.declared.types.Classified.{Classified}
 use Rattle.re_settle.specs.declared.words.SettleWord.{SettleWord}
 
 -- the lines of what is known of a problem with these names, whose passive nodes have this degree: Done where the claim leaves no question, and else No
-abbrev pub settled_outcome : List (List ℕ) → ℕ → Settled → Outcome
-settled_outcome names passive settled = if is_final (claim_of settled) then done (settled_text names passive settled) else refused (settled_text names passive settled)
+abbrev pub settled_outcome : List (List ℕ) → ℕ → Classified → Outcome
+settled_outcome names passive classified =
+    if is_final (claim_of classified.settled) then done (settled_text names passive classified) else refused (settled_text names passive classified)
 
 -- the lines of something that is known of the problem, where bounds are taken so many times: shown by the words that they name, and true
 pub record IsAnswer (times : ℕ) (problem : NamedProblem) (outcome : Outcome) : Type 0 where
-  pub settled : Settled
-  pub lines : outcome ≡ settled_outcome problem.names problem.passive.degree settled
-  pub known : IsSettled times problem settled
+  pub classified : Classified
+  pub lines : outcome ≡ settled_outcome problem.names problem.passive.degree classified
+  pub known : IsSettled times problem classified
 
 -- the line of the first fault of the text, and else such an answer on its problem
 abbrev pub MayGiveRead : ℕ → Option InputFault → NamedProblem → Outcome → Type 0

@@ -22,10 +22,12 @@ within more most = if most == suc more then Exactly most else Between more most
 
 -- what is claimed where so much is known
 abbrev pub claim_of : Settled → Claim
+claim_of settled.Unsolvable = Never
+claim_of settled.Linear = Never
 claim_of settled.AtOnce = Exactly 0
 claim_of (settled.Exactly shown) = Exactly shown.rounds
 claim_of (settled.FixedPoint way) = Never
-claim_of (settled.NoSolution way coloured) = Never
+claim_of (settled.Excluded way coloured) = Never
 claim_of (settled.Within more None) = MoreThan more.rounds
 claim_of (settled.Within more (Some most)) = within more.rounds most.rounds
 

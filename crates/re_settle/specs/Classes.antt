@@ -1,6 +1,6 @@
--- What a claim means where nodes have unique identifiers, and which class a problem has.
-use Rattle.std.specs.Prelude.{ℕ, ◌+◌, ◌-◌, ◌*◌, ◌<◌, ◌≤◌, None, Some}
-use Rattle.re_classes.specs.Classes.{IsAboveLog, IsAboveLogStar, IsConstantLocal, IsOrderLogStar}
+-- What a claim means where active nodes have unique identifiers, and which class a problem has.
+use Rattle.std.specs.Prelude.{ℕ, ◌+◌, ◌-◌, ◌*◌, ◌<◌, ◌≤◌, None, Option, Some}
+use Rattle.re_classes.specs.Classes.{IsAboveLog, IsAboveLogStar, IsConstantLocal, IsMoreThanConstant, IsOrderLogStar}
 use Rattle.re_labels.specs.declared.sides.Side.{Side}
 use Rattle.re_labels.specs.declared.sides.Side.TheVariants.{Active, Passive}
 use Rattle.re_local.specs.LocalAlgorithms.{SolvableLocal}
@@ -11,6 +11,12 @@ use Rattle.re_settle.specs.declared.types.Claim.{Claim}
 use Rattle.re_settle.specs.declared.types.Claim.TheVariants.{AtMost, Between, Exactly, MoreThan, Never}
 use Rattle.re_settle.specs.declared.types.Class.{Class}
 use Rattle.re_settle.specs.declared.types.Class.TheVariants as class
+use Rattle.re_settle.specs.declared.types.Least.{Least}
+use Rattle.re_settle.specs.declared.types.Least.TheVariants as least
+use Rattle.re_settle.specs.declared.types.Most.{Most}
+use Rattle.re_settle.specs.declared.types.Most.TheVariants as most
+use Rattle.re_settle.specs.declared.types.Order.{Order}
+use Rattle.re_settle.specs.declared.types.Order.TheVariants as order
 use Rattle.re_settle.specs.declared.types.Settled.{Settled}
 use Rattle.re_settle.specs.declared.types.Settled.TheVariants as settled
 
@@ -27,23 +33,45 @@ HoldsLocal (MoreThan k) problem = (T : ℕ) → T ≤ k → IsBeyondLocal proble
 HoldsLocal (AtMost m) problem = SolvableByAny problem m
 HoldsLocal (Between k m) problem = ((T : ℕ) → T ≤ k → IsBeyondLocal problem T) × SolvableByAny problem m
 
--- what a class says of a problem
-abbrev pub ClassHolds : Class → Problem → Type 0
-ClassHolds (class.Constant claim) problem = IsConstantLocal problem × HoldsLocal claim problem
-ClassHolds (class.MoreThan k) problem = HoldsLocal (MoreThan k) problem
-ClassHolds class.OrderLogStar problem = IsOrderLogStar problem
-ClassHolds class.AtLeastLogStar problem = IsAboveLogStar problem
-ClassHolds class.AtLeastLog problem = IsAboveLog problem
+-- what an order says of local algorithms, as far as it is known of them: that of N is shown on finite forests alone
+abbrev pub OrderHolds : Order → Problem → Type 0
+OrderHolds order.LogStar problem = IsOrderLogStar problem
+OrderHolds order.Log problem = IsAboveLog problem
+OrderHolds order.Linear problem = IsAboveLogStar problem × IsMoreThanConstant problem
 
--- the class where so much is known
-abbrev pub class_of : Settled → Class
-class_of settled.AtOnce = class.Constant (Exactly 0)
-class_of (settled.Exactly shown) = class.Constant (Exactly shown.rounds)
-class_of (settled.FixedPoint way) = class.AtLeastLog
-class_of (settled.NoSolution way None) = class.AtLeastLogStar
-class_of (settled.NoSolution way (Some coloured)) = class.OrderLogStar
-class_of (settled.Within more None) = class.MoreThan more.rounds
-class_of (settled.Within more (Some most)) = class.Constant (within more.rounds most.rounds)
+-- what a bound below says of them
+abbrev pub LeastHolds : Least → Problem → Type 0
+LeastHolds (least.MoreThan k) problem = HoldsLocal (MoreThan k) problem
+LeastHolds least.LogStar problem = IsAboveLogStar problem
+LeastHolds least.Log problem = IsAboveLog problem
+
+-- what a class says of them
+abbrev pub ClassHolds : Class → Problem → Type 0
+ClassHolds class.NoSolution problem = IsAboveLogStar problem × IsMoreThanConstant problem
+ClassHolds (class.Constant claim) problem = IsConstantLocal problem × HoldsLocal claim problem
+ClassHolds (class.Order order) problem = OrderHolds order problem
+ClassHolds (class.Bounds least most) problem = LeastHolds least problem
+
+-- the class where a bound below is known, and maybe one above
+abbrev pub bounded_class : Least → Option Most → Class
+bounded_class (least.MoreThan k) above = class.Bounds (least.MoreThan k) above
+bounded_class least.LogStar None = class.Bounds least.LogStar None
+bounded_class least.LogStar (Some most.LogStar) = class.Order order.LogStar
+bounded_class least.LogStar (Some most.Log) = class.Bounds least.LogStar (Some most.Log)
+bounded_class least.Log None = class.Bounds least.Log None
+bounded_class least.Log (Some most) = class.Order order.Log
+
+-- the class where so much is known, and at most so many rounds are enough on finite forests; without these it is the class of local algorithms
+abbrev pub class_of : Settled → Option Most → Class
+class_of settled.Unsolvable above = class.NoSolution
+class_of settled.Linear above = class.Order order.Linear
+class_of settled.AtOnce above = class.Constant (Exactly 0)
+class_of (settled.Exactly shown) above = class.Constant (Exactly shown.rounds)
+class_of (settled.FixedPoint way) above = bounded_class least.Log above
+class_of (settled.Excluded way None) above = bounded_class least.LogStar above
+class_of (settled.Excluded way (Some coloured)) above = class.Order order.LogStar
+class_of (settled.Within more None) above = bounded_class (least.MoreThan more.rounds) above
+class_of (settled.Within more (Some most)) above = class.Constant (within more.rounds most.rounds)
 
 -- one colour more than a node of a side meets others of it, where active nodes have degree a and passive ones p
 abbrev pub few_colours : Side → ℕ → ℕ → ℕ

@@ -8,5 +8,6 @@ pub mod GivenWays
 pub mod GraphRounds
 pub mod Lines
 pub mod Measures
+pub mod OnForests
 pub mod Ways
 pub mod Words

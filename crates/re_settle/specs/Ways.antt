@@ -1,5 +1,5 @@
 -- What words show of a problem.
-use Rattle.std.specs.Prelude.{◌≡◌, ◌≤◌, ◌<◌, ◌*◌, ◌⊎◌, ℕ, zero, suc, List, [], ◌∷◌, length, None, Option, Some, Ok}
+use Rattle.std.specs.Prelude.{◌≡◌, ◌≤◌, ◌<◌, ◌*◌, ◌⊎◌, ℕ, zero, suc, List, [], ◌∷◌, length, IfSome, None, Option, Some, Ok}
 use Rattle.re_cert.specs.Bounds.{Bound, last_problem}
 use Rattle.re_cert.specs.declared.certificate.Kind.{Kind}
 use Rattle.re_cert.specs.declared.certificate.Kind.TheVariants as kind
@@ -16,6 +16,9 @@ use Rattle.re_cover.specs.Graphs.{PortGraph}
 use Rattle.re_cycle.specs.Answers as cycle
 use Rattle.re_cycle.specs.declared.finding.Cycle.TheVariants as cycle_answer
 use Rattle.re_graph.specs.Solving.{IsCover}
+use Rattle.re_flexible.specs.Lengths.{IsFlexibility}
+use Rattle.re_flexible.specs.declared.levels.Flexibility.{Flexibility}
+use Rattle.re_flexible.specs.declared.levels.Flexibility.TheVariants.{Length, NoSolution}
 use Rattle.re_given_words.specs.Counting.{MayTell}
 use Rattle.re_given_words.specs.declared.counting.Counted.{Counted}
 use Rattle.re_given_words.specs.declared.counting.Counted.TheVariants as counted
@@ -35,6 +38,8 @@ use Rattle.re_settle.specs.Coloured.{IsColoured}
 use Rattle.re_settle.specs.Measures.{doublings, greatest_degree, longest_labels, longest_steps, shortest_labels, shortest_steps}
 use Rattle.re_settle.specs.declared.types.Claim.{Claim}
 use Rattle.re_settle.specs.declared.types.Claim.TheVariants.{AtMost, Exactly, MoreThan, Never}
+use Rattle.re_settle.specs.OnForests.{ClassOnForests, above_of, known_ahead, length_of}
+use Rattle.re_settle.specs.declared.types.Classified.{Classified}
 use Rattle.re_settle.specs.declared.types.Coloured.{Coloured}
 use Rattle.re_settle.specs.declared.types.Settled.{Settled}
 use Rattle.re_settle.specs.declared.types.Settled.TheVariants as settled
@@ -198,18 +203,30 @@ abbrev pub MayBeColoured : ℕ → Option Coloured → NamedProblem → Type 0
 MayBeColoured times None problem = Unit {0}
 MayBeColoured times (Some coloured) problem = IsColoured times problem coloured
 
--- each of the words shows its part of what is known
+-- each of the words shows its part of what is known; there is no level of labels, or one alone, as `flexible` answers
 abbrev pub AreShown : ℕ → Settled → NamedProblem → Type 0
+AreShown times settled.Unsolvable problem = IsFlexibility (unnamed problem) NoSolution
+AreShown times settled.Linear problem = IsFlexibility (unnamed problem) (Length 1)
 AreShown times settled.AtOnce problem = IsShown times problem (AtMost 0) Zero
 AreShown times (settled.Exactly shown) problem = IsShown times problem (Exactly shown.rounds) shown.way
 AreShown times (settled.FixedPoint way) problem = IsShown times problem Never way × IsForFixedPoints way
-AreShown times (settled.NoSolution way coloured) problem = IsShown times problem Never way × IsForGraphs way × MayBeColoured times coloured problem
+AreShown times (settled.Excluded way coloured) problem = IsShown times problem Never way × IsForGraphs way × MayBeColoured times coloured problem
 AreShown times (settled.Within more None) problem = IsShown times problem (MoreThan more.rounds) more.way
 AreShown times (settled.Within more (Some most)) problem =
     IsShown times problem (MoreThan more.rounds) more.way × IsShown times problem (AtMost most.rounds) most.way
 
--- so much is known of the problem, where bounds are taken so many times: words show it, and what is claimed is true, also of local algorithms
-pub record IsSettled (times : ℕ) (problem : NamedProblem) (settled : Settled) : Type 0 where
+-- so much is found of the problem, where bounds are taken so many times: words show it, and what is claimed is true, also of local algorithms
+pub record IsFound (times : ℕ) (problem : NamedProblem) (settled : Settled) : Type 0 where
   pub shown : AreShown times settled problem
   pub holds : Holds (claim_of settled) (unnamed problem)
-  pub class : ClassHolds (class_of settled) (unnamed problem)
+  pub class : ClassHolds (class_of settled None) (unnamed problem)
+
+-- so much is known of it: what is found, the class on finite forests too, and what its levels of labels tell, of which `flexible` tells how many there are
+pub record IsSettled (times : ℕ) (problem : NamedProblem) (classified : Classified) : Type 0 where
+  pub found : IsFound times problem classified.settled
+  pub forests : ClassOnForests (class_of classified.settled classified.above) (unnamed problem)
+  pub flexibility : Flexibility
+  pub decided : IsFlexibility (unnamed problem) flexibility
+  pub ahead : IfSome (known_ahead flexibility) (λ settled. classified.settled ≡ settled)
+  pub above : classified.above ≡ above_of (unnamed problem) flexibility
+  pub length : classified.length ≡ length_of (unnamed problem) flexibility

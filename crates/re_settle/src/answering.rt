@@ -5,8 +5,8 @@ ghost use Rattle.re_settle.specs.Answers.{IsAnswer, MayGive};
 ghost use Rattle.re_settle.specs.Words.{IsSettleWord};
 ghost use Rattle.std.specs.Prelude.{◌≡◌, ◌≤◌, IfOk, length};
 
+use crate::classifying::settle;
 use crate::lines::settled_output;
-use crate::settling::settle;
 use crate::words::SettleWord;
 use re_frame::{Finding, Output, fault_output};
 use re_labels::NoMemory;
@@ -18,8 +18,13 @@ fn problem_output(alloc: Global, problem: &Problem, times: u8) -> Result<Output,
     requires { times ≤ 64 }
     ensures { IfOk result (λ output. IsAnswer times problem.now (outcome_of output)) }
 {
-    let settled = settle(alloc, problem, times)?;
-    settled_output(alloc, problem.names(), problem.passive().degree(), settled)
+    let classified = settle(alloc, problem, times)?;
+    settled_output(
+        alloc,
+        problem.names(),
+        problem.passive().degree(),
+        classified,
+    )
 }
 
 // What the word gives to a text.

@@ -5,14 +5,14 @@ ghost use Rattle.re_problem.specs.NamedProblems.{unnamed};
 ghost use Rattle.re_settle.specs.GivenWays.{IsKnownGiven, IsTriedGiven};
 ghost use Rattle.std.specs.Prelude.{◌≡◌, IfOk, IfSome};
 
-use crate::bounds_given::{count_of, has_patterns, upper_chain};
-use crate::given_types::{Claim, Shown, Way};
+use crate::bounds::{count_of, has_patterns, upper_chain};
 use crate::measures::{
     doublings, greatest_degree, is_small, longest_labels, longest_steps, shortest_labels,
     shortest_steps,
 };
-use crate::never_given::grows_little;
+use crate::never::grows_little;
 use crate::texts::has_given_text;
+use crate::types::{Claim, Shown, Way};
 use re_chains::LowerChain;
 use re_given_words::is_accepted;
 use re_labels::NoMemory;

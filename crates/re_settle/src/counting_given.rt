@@ -5,8 +5,8 @@ ghost use Rattle.re_problem.specs.NamedProblems.{unnamed};
 ghost use Rattle.re_settle.specs.GivenWays.{IsKnownGiven};
 ghost use Rattle.std.specs.Prelude.{◌≡◌, ◌≤◌, IfOk, IfSome, Some};
 
-use crate::counting_given::{MAX_ROUNDS, few_of};
-use crate::given_types::{Claim, Shown, Way};
+use crate::counting::{MAX_ROUNDS, few_of};
+use crate::types::{Claim, Shown, Way};
 use re_given_words::{Counted, RoundsTexts, count, count_within};
 use re_labels::NoMemory;
 use re_problem::Problem;

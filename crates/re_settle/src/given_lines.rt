@@ -4,8 +4,10 @@ ghost use Rattle.re_settle.specs.GivenAnswers.{given_lines, law_line, settled_gi
 ghost use Rattle.re_settle.specs.GivenClaims.{claim_given};
 ghost use Rattle.std.specs.Prelude.{◌≡◌, ◌++◌, IfOk, OnOk};
 
-use crate::given_lines::{is_final, push_claim, push_counted, push_way, within};
-use crate::given_types::{Claim, SettledGiven};
+use crate::given_types::SettledGiven;
+use crate::lines::{is_final, push_claim, push_way, within};
+use crate::types::Claim;
+use re_describe::push_counted;
 use re_frame::{Output, done, push_words, refused};
 use re_labels::{Names, NoMemory};
 use std::alloc::Global;

@@ -1,6 +1,6 @@
 //! What is known of a problem given an input problem, and the words that show it.
 
-use crate::given_types::{Shown, Way};
+use crate::types::{Shown, Way};
 
 /// What is known of how many rounds a problem takes given an input problem, and the words that show it.
 #[derive(Clone, Copy, Debug, PartialEq, Eq)]

@@ -1,5 +1,10 @@
-//! How many rounds a problem takes with port numbers alone, and its class with unique identifiers, as far as searches with fixed limits find
-//! out, and the words whose answers show it.
+//! How many rounds a problem takes with port numbers alone, and its class with unique identifiers, also on finite forests, as far as its levels of
+//! labels and searches with fixed limits tell, and the words whose answers show it.
+//!
+//! **Levels of labels** come before any search. Where trimming leaves no label, there is no solution, and nothing else is said. Where there is one
+//! level alone, the problem takes the order of N rounds with N identifiers, so no number is enough with port numbers alone, and nothing else is
+//! tried. Else the searches tell what they tell, and where a set of labels is flexible it adds a bound above on finite forests: the order of log N,
+//! or of log* N where both degrees are 2. Where none is, and a degree is 2, what the literature says of so many levels stands in a line of its own.
 //!
 //! **Order.** Cheap ways of all kinds come first; each has a bound on its work, which is none on its time: so the answer is the same on every
 //! machine. What is said of N is multiplied by N in `settle N`.
@@ -57,6 +62,7 @@ mod answering;
 mod answering_given;
 mod bounds;
 mod bounds_given;
+mod classifying;
 mod coloured;
 mod counting;
 mod counting_given;
@@ -76,18 +82,20 @@ ghost use Rattle.re_settle.specs.GraphRounds.{GraphRoundsLaw};
 
 pub use answering_given::SettleText;
 pub use bounds::{count_of, has_patterns, upper_chain};
+pub use classifying::settle;
 pub use counting::{MAX_ROUNDS, few_of};
 pub use given_types::SettledGiven;
-pub use lines::{is_final, push_claim, push_counted, push_way, within};
+pub use lines::{is_final, push_claim, push_way, within};
 pub use measures::{
     doublings, greatest_degree, is_small, longest_labels, longest_steps, shortest_labels,
     shortest_steps,
 };
 pub use never::{CYCLE_NODES, CYCLE_SIZE, CYCLE_STEPS, GADGET_STEPS, grows_little};
-pub use settling::settle;
 pub use settling_given::settle_given;
 pub use texts::{has_given_text, has_text};
-pub use types::{Claim, Class, Coloured, ColouredWay, Settled, Shown, Way};
+pub use types::{
+    Claim, Class, Classified, Coloured, ColouredWay, Least, Most, Order, Settled, Shown, Way,
+};
 pub use words::{MAX_TIMES, SettleWord, settle_help, settle_word};
 
 /// What a claim in hops says in rounds of the graph whose edges the passive nodes are, two hops each: a problem that takes exactly k hops takes

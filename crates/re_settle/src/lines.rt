@@ -3,13 +3,16 @@ ghost use Rattle.re_frame.specs.Outcomes.{outcome_of};
 ghost use Rattle.re_printing.specs.SetTexts.{named_text};
 ghost use Rattle.re_settle.specs.Answers.{settled_outcome};
 ghost use Rattle.re_settle.specs.Claims.{claim_of, is_final, within};
-ghost use Rattle.re_settle.specs.Classes.{class_of};
-ghost use Rattle.re_settle.specs.Lines.{claim_text, class_lines, class_text, coloured_line, coloured_lines, coloured_words, colours_text, graph_part, number_texts, rounds_text, settled_text, way_line, way_lines, way_numbers, way_rest, way_words};
+ghost use Rattle.re_settle.specs.Classes.{bounded_class, class_of};
+ghost use Rattle.re_settle.specs.Lines.{above_line, bound_lines, bounds_text, claim_text, class_lines, class_text, classes_text, coloured_line, coloured_words, colours_text, first_text, flexible_line, graph_part, least_text, length_lines, most_text, number_texts, order_text, rounds_text, settled_text, shows_lines, way_line, way_lines, way_numbers, way_rest, way_words};
 ghost use Rattle.std.specs.Fmt.{decimal};
-ghost use Rattle.std.specs.Prelude.{◌≡◌, ◌++◌, ◌∷◌, [], IfOk, OnOk};
+ghost use Rattle.std.specs.Prelude.{◌≡◌, ◌++◌, ◌∷◌, [], IfOk, OnOk, Some};
 
-use crate::types::{Claim, Class, Coloured, ColouredWay, Settled, Way};
+use crate::types::{
+    Claim, Class, Classified, Coloured, ColouredWay, Least, Most, Order, Settled, Way,
+};
 use arrayvec::ArrayVec;
+use re_describe::push_counted;
 use re_frame::{Output, done, push_number, push_words, refused};
 use re_labels::{Names, NoMemory, Side};
 use re_problem::push_label;
@@ -31,9 +34,10 @@ fn claim_of(settled: Settled) -> Claim
     ensures { result ≡ claim_of settled }
 {
     match settled {
+        Settled::Unsolvable | Settled::Linear => Claim::Never,
         Settled::AtOnce => Claim::Exactly(0),
         Settled::Exactly(shown) => Claim::Exactly(shown.rounds),
-        Settled::FixedPoint(_) | Settled::NoSolution(..) => Claim::Never,
+        Settled::FixedPoint(_) | Settled::Excluded(..) => Claim::Never,
         Settled::Within(more, None) => Claim::MoreThan(more.rounds),
         Settled::Within(more, Some(most)) => within(more.rounds, most.rounds),
     }
@@ -211,14 +215,35 @@ pub fn push_way(text: &mut Vec<u8>, names: &Names, way: Way) -> Result<(), NoMem
     push_words(text, "\n")
 }
 
+// Appends the first line: that there is no solution, or the claim.
+fn push_first(text: &mut Vec<u8>, passive: u8, settled: Settled) -> Result<(), NoMemory>
+    ensures { OnOk result (text.new.items ≡ text.old.items ++ first_text passive settled) }
+{
+    match settled {
+        Settled::Unsolvable => push_words(text, "no solution\n"),
+        other => {
+            push_claim(text, passive, claim_of(other))?;
+            push_words(text, "\n")
+        }
+    }
+}
+
+// Appends the line of the word that decides whether a set of labels is flexible.
+fn push_flexible(text: &mut Vec<u8>) -> Result<(), NoMemory>
+    ensures { OnOk result (text.new.items ≡ text.old.items ++ flexible_line) }
+{
+    push_words(text, "by: explore flexible\n")
+}
+
 // Appends the lines of the words that show what is known.
 fn push_ways(text: &mut Vec<u8>, names: &Names, settled: Settled) -> Result<(), NoMemory>
     ensures { OnOk result (text.new.items ≡ text.old.items ++ way_lines names.now settled) }
 {
     match settled {
+        Settled::Unsolvable | Settled::Linear => push_flexible(text),
         Settled::AtOnce => push_way(text, names, Way::Zero),
         Settled::Exactly(shown) => push_way(text, names, shown.way),
-        Settled::FixedPoint(way) | Settled::NoSolution(way, _) => push_way(text, names, way),
+        Settled::FixedPoint(way) | Settled::Excluded(way, _) => push_way(text, names, way),
         Settled::Within(more, None) => push_way(text, names, more.way),
         Settled::Within(more, Some(most)) => {
             push_way(text, names, more.way)?;
@@ -227,28 +252,32 @@ fn push_ways(text: &mut Vec<u8>, names: &Names, settled: Settled) -> Result<(), 
     }
 }
 
-// The class.
-fn class_of(settled: Settled) -> Class
-    ensures { result ≡ class_of settled }
+// The class with a bound below alone, or with a bound above too.
+fn bounded_class(least: Least, above: Option<Most>) -> Class
+    ensures { result ≡ bounded_class least above }
 {
-    match settled {
-        Settled::AtOnce => Class::Constant(Claim::Exactly(0)),
-        Settled::Exactly(shown) => Class::Constant(Claim::Exactly(shown.rounds)),
-        Settled::FixedPoint(_) => Class::AtLeastLog,
-        Settled::NoSolution(_, None) => Class::AtLeastLogStar,
-        Settled::NoSolution(_, Some(_)) => Class::OrderLogStar,
-        Settled::Within(more, None) => Class::MoreThan(more.rounds),
-        Settled::Within(more, Some(most)) => Class::Constant(within(more.rounds, most.rounds)),
+    match (least, above) {
+        (Least::Log, Some(_)) => Class::Order(Order::Log),
+        (Least::LogStar, Some(Most::LogStar)) => Class::Order(Order::LogStar),
+        (least, above) => Class::Bounds(least, above),
     }
 }
 
-/// Appends words and a number.
-pub fn push_counted(text: &mut Vec<u8>, words: &str, number: u8) -> Result<(), NoMemory>
-    ensures { OnOk result (text.new.items ≡ text.old.items ++ (words.now ++ decimal number)) }
+// The class, where at most so many rounds are known to be enough.
+fn class_of(settled: Settled, above: Option<Most>) -> Class
+    ensures { result ≡ class_of settled above }
 {
-    let alloc = *text.allocator();
-    push_words(text, words)?;
-    push_number(alloc, text, number as usize)
+    match settled {
+        Settled::Unsolvable => Class::NoSolution,
+        Settled::Linear => Class::Order(Order::Linear),
+        Settled::AtOnce => Class::Constant(Claim::Exactly(0)),
+        Settled::Exactly(shown) => Class::Constant(Claim::Exactly(shown.rounds)),
+        Settled::FixedPoint(_) => bounded_class(Least::Log, above),
+        Settled::Excluded(_, None) => bounded_class(Least::LogStar, above),
+        Settled::Excluded(_, Some(_)) => Class::Order(Order::LogStar),
+        Settled::Within(more, None) => bounded_class(Least::MoreThan(more.rounds), above),
+        Settled::Within(more, Some(most)) => Class::Constant(within(more.rounds, most.rounds)),
+    }
 }
 
 // Appends a claim in rounds.
@@ -267,19 +296,64 @@ fn push_claimed(text: &mut Vec<u8>, claim: Claim) -> Result<(), NoMemory>
     }
 }
 
+// The words for an order.
+fn order_text(order: Order) -> &'static str
+    ensures { result.now ≡ order_text order }
+{
+    match order {
+        Order::LogStar => "order log* N",
+        Order::Log => "order log N",
+        Order::Linear => "order N",
+    }
+}
+
+// The words for the order of a bound above.
+fn most_text(most: Most) -> &'static str
+    ensures { result.now ≡ most_text most }
+{
+    match most {
+        Most::LogStar => "order log* N",
+        Most::Log => "order log N",
+    }
+}
+
+// Appends a bound below.
+fn push_least(text: &mut Vec<u8>, least: Least) -> Result<(), NoMemory>
+    ensures { OnOk result (text.new.items ≡ text.old.items ++ least_text least) }
+{
+    match least {
+        Least::MoreThan(k) => push_claimed(text, Claim::MoreThan(k)),
+        Least::LogStar => push_words(text, "at least order log* N"),
+        Least::Log => push_words(text, "at least order log N"),
+    }
+}
+
+// Appends a bound below, and one above where it is known.
+fn push_bounds(text: &mut Vec<u8>, least: Least, most: Option<Most>) -> Result<(), NoMemory>
+    ensures { OnOk result (text.new.items ≡ text.old.items ++ bounds_text least most) }
+{
+    push_least(text, least)?;
+    match most {
+        Some(most) => {
+            push_words(text, ", at most ")?;
+            push_words(text, most_text(most))
+        }
+        None => push_words(text, ""),
+    }
+}
+
 // Appends a class.
 fn push_class(text: &mut Vec<u8>, class: Class) -> Result<(), NoMemory>
     ensures { OnOk result (text.new.items ≡ text.old.items ++ class_text class) }
 {
     match class {
+        Class::NoSolution => push_words(text, "no solution"),
         Class::Constant(claim) => {
             push_words(text, "constant, ")?;
             push_claimed(text, claim)
         }
-        Class::MoreThan(k) => push_claimed(text, Claim::MoreThan(k)),
-        Class::OrderLogStar => push_words(text, "order log* N"),
-        Class::AtLeastLogStar => push_words(text, "at least order log* N"),
-        Class::AtLeastLog => push_words(text, "at least order log N"),
+        Class::Order(order) => push_words(text, order_text(order)),
+        Class::Bounds(least, most) => push_bounds(text, least, most),
     }
 }
 
@@ -316,24 +390,78 @@ fn push_coloured(text: &mut Vec<u8>, coloured: Coloured) -> Result<(), NoMemory>
     push_words(text, colours_text(coloured.side))
 }
 
-// Appends the line of the words that show the class, where these aren't those that show the claim.
-fn push_shows(text: &mut Vec<u8>, settled: Settled) -> Result<(), NoMemory>
-    ensures { OnOk result (text.new.items ≡ text.old.items ++ coloured_lines settled) }
+// Appends the line of the word that finds a flexible set, where one gives a bound above.
+fn push_above(text: &mut Vec<u8>, above: Option<Most>) -> Result<(), NoMemory>
+    ensures { OnOk result (text.new.items ≡ text.old.items ++ above_line above) }
 {
-    match settled {
-        Settled::NoSolution(_, Some(coloured)) => push_coloured(text, coloured),
+    match above {
+        Some(_) => push_flexible(text),
+        None => push_words(text, ""),
+    }
+}
+
+// Appends what the literature says of a problem with so many levels of labels, and the line of the word that counts them.
+fn push_literature(text: &mut Vec<u8>, count: u8) -> Result<(), NoMemory>
+    ensures { OnOk result (text.new.items ≡ text.old.items ++ length_lines (Some count)) }
+{
+    push_counted(text, "literature: order N^(1/", count)?;
+    push_words(text, ")\n")?;
+    push_flexible(text)
+}
+
+// Appends it, where the literature says something.
+fn push_length(text: &mut Vec<u8>, length: Option<u8>) -> Result<(), NoMemory>
+    ensures { OnOk result (text.new.items ≡ text.old.items ++ length_lines length) }
+{
+    match length {
+        Some(count) => push_literature(text, count),
+        None => push_words(text, ""),
+    }
+}
+
+// Appends the lines of what a flexible set, or the number of levels, adds to a bound below.
+fn push_bound_lines(
+    text: &mut Vec<u8>,
+    above: Option<Most>,
+    length: Option<u8>,
+) -> Result<(), NoMemory>
+    ensures { OnOk result (text.new.items ≡ text.old.items ++ bound_lines above length) }
+{
+    push_above(text, above)?;
+    push_length(text, length)
+}
+
+// Appends the lines of the words that show the class, where these aren't those that show the claim.
+fn push_shows(text: &mut Vec<u8>, classified: Classified) -> Result<(), NoMemory>
+    ensures { OnOk result (text.new.items ≡ text.old.items ++ shows_lines classified.settled classified.above classified.length) }
+{
+    match classified.settled {
+        Settled::Excluded(_, Some(coloured)) => push_coloured(text, coloured),
+        Settled::FixedPoint(_) | Settled::Excluded(_, None) | Settled::Within(_, None) => {
+            push_bound_lines(text, classified.above, classified.length)
+        }
         _ => push_words(text, ""),
     }
 }
 
 // Appends the lines on unique identifiers.
-fn push_classes(text: &mut Vec<u8>, settled: Settled) -> Result<(), NoMemory>
-    ensures { OnOk result (text.new.items ≡ text.old.items ++ class_lines settled) }
+fn push_class_lines(text: &mut Vec<u8>, classified: Classified) -> Result<(), NoMemory>
+    ensures { OnOk result (text.new.items ≡ text.old.items ++ class_lines classified) }
 {
     push_words(text, "with identifiers: ")?;
-    push_class(text, class_of(settled))?;
+    push_class(text, class_of(classified.settled, classified.above))?;
     push_words(text, "\n")?;
-    push_shows(text, settled)
+    push_shows(text, classified)
+}
+
+// Appends them, where there is a solution.
+fn push_classes(text: &mut Vec<u8>, classified: Classified) -> Result<(), NoMemory>
+    ensures { OnOk result (text.new.items ≡ text.old.items ++ classes_text classified) }
+{
+    match classified.settled {
+        Settled::Unsolvable => push_words(text, ""),
+        _ => push_class_lines(text, classified),
+    }
 }
 
 // The text of what is known of a problem with these names, whose passive nodes have this degree.
@@ -341,15 +469,14 @@ fn settled_text(
     alloc: Global,
     names: &Names,
     passive: u8,
-    settled: Settled,
+    classified: Classified,
 ) -> Result<Vec<u8>, NoMemory>
-    ensures { IfOk result (λ text. text.items ≡ settled_text names.now passive settled) }
+    ensures { IfOk result (λ text. text.items ≡ settled_text names.now passive classified) }
 {
     let mut text = Vec::new(alloc);
-    push_claim(&mut text, passive, claim_of(settled))?;
-    push_words(&mut text, "\n")?;
-    push_ways(&mut text, names, settled)?;
-    push_classes(&mut text, settled)?;
+    push_first(&mut text, passive, classified.settled)?;
+    push_ways(&mut text, names, classified.settled)?;
+    push_classes(&mut text, classified)?;
     Ok(text)
 }
 
@@ -358,12 +485,12 @@ pub(crate) fn settled_output(
     alloc: Global,
     names: &Names,
     passive: u8,
-    settled: Settled,
+    classified: Classified,
 ) -> Result<Output, NoMemory>
-    ensures { IfOk result (λ output. outcome_of output ≡ settled_outcome names.now passive settled) }
+    ensures { IfOk result (λ output. outcome_of output ≡ settled_outcome names.now passive classified) }
 {
-    let text = settled_text(alloc, names, passive, settled)?;
-    if is_final(claim_of(settled)) {
+    let text = settled_text(alloc, names, passive, classified)?;
+    if is_final(claim_of(classified.settled)) {
         Ok(done(text))
     } else {
         Ok(refused(text))

@@ -7,9 +7,9 @@ ghost use Rattle.re_settle.specs.Ways.{HasText};
 ghost use Rattle.re_settle.specs.GivenWays.{HasGivenText, IsKnownGiven};
 ghost use Rattle.std.specs.Prelude.{◌≡◌, ◌≤◌, IfOk, IfSome, true};
 
-use crate::given_types::{Claim, Shown, Way};
-use crate::never_given::{CYCLE_NODES, CYCLE_SIZE, CYCLE_STEPS, GADGET_STEPS, grows_little};
+use crate::never::{CYCLE_NODES, CYCLE_SIZE, CYCLE_STEPS, GADGET_STEPS, grows_little};
 use crate::texts::{has_given_text, has_text};
+use crate::types::{Claim, Shown, Way};
 use re_cert::Certificate;
 use re_chains::LowerChain;
 use re_closure::{Closing, ClosureFault, find_closure};

@@ -1,9 +1,9 @@
-//! What is known of a problem.
+//! What the searches find out of a problem.
 ghost use Rattle.re_given_words.specs.Counting.{MayTell};
 ghost use Rattle.re_chains.specs.ChainTexts.{problem_chain};
 ghost use Rattle.re_problem.specs.NamedProblems.{unnamed};
 ghost use Rattle.re_problem.specs.Zero.{zero_place};
-ghost use Rattle.re_settle.specs.Ways.{IsExcluded, IsSettled};
+ghost use Rattle.re_settle.specs.Ways.{IsExcluded, IsFound};
 ghost use Rattle.std.specs.Prelude.{◌≡◌, ◌≤◌, IfOk, IfSome, None};
 
 use crate::bounds::{enough, long_way, longer, lower_way, short_way};
@@ -25,7 +25,7 @@ fn by_steps(
     times: u8,
 ) -> Result<Option<Settled>, NoMemory>
     requires { steps ≤ 8 }
-    ensures { IfOk result (λ found. IfSome found (IsSettled times problem.now)) }
+    ensures { IfOk result (λ found. IfSome found (IsFound times problem.now)) }
 {
     let _names = problem.names();
     let Some(lower) = lower_way(alloc, problem, steps, times)? else {
@@ -46,7 +46,7 @@ fn by_steps(
 // So many rounds, as they are counted: by certificates where these are found, and else by the count.
 fn exact(alloc: Global, problem: &Problem, rounds: u8, times: u8) -> Result<Settled, NoMemory>
     requires { MayTell (unnamed problem.now) None 8 (Counted.Exactly rounds) }
-    ensures { IfOk result (IsSettled times problem.now) }
+    ensures { IfOk result (IsFound times problem.now) }
 {
     let _names = problem.names();
     let steps = steps_of(Counted::Exactly(rounds));
@@ -70,7 +70,7 @@ fn bounded(
     requires chain { chain.now.certificate ≡ problem_chain problem.now }
     requires not_zero { zero_place (unnamed problem.now) ≡ None }
     requires counted { MayTell (unnamed problem.now) None 8 counted }
-    ensures { IfOk result (IsSettled times problem.now) }
+    ensures { IfOk result (IsFound times problem.now) }
 {
     let _names = problem.names();
     let more = more_way(problem, counted, times);
@@ -92,7 +92,7 @@ fn searched(
     requires not_zero { zero_place (unnamed problem.now) ≡ None }
     requires counted { MayTell (unnamed problem.now) None 8 counted }
     requires times { times ≤ 64 }
-    ensures { IfOk result (IsSettled times problem.now) }
+    ensures { IfOk result (IsFound times problem.now) }
 {
     match far_way(alloc, problem, chain, times)? {
         Some(way) => Ok(Settled::FixedPoint(way)),
@@ -111,15 +111,15 @@ fn covered(
     requires chain { chain.now.certificate ≡ problem_chain problem.now }
     requires excluded { IsExcluded times problem.now way }
     requires times { times ≤ 64 }
-    ensures { IfOk result (IsSettled times problem.now) }
+    ensures { IfOk result (IsFound times problem.now) }
 {
     let _names = problem.names();
     if let Some(coloured) = coloured_way(alloc, problem, times)? {
-        return Ok(Settled::NoSolution(way, Some(coloured)));
+        return Ok(Settled::Excluded(way, Some(coloured)));
     }
     match far_way(alloc, problem, chain, times)? {
         Some(way) => Ok(Settled::FixedPoint(way)),
-        None => Ok(Settled::NoSolution(way, None)),
+        None => Ok(Settled::Excluded(way, None)),
     }
 }
 
@@ -135,7 +135,7 @@ fn tried(
     requires not_zero { zero_place (unnamed problem.now) ≡ None }
     requires counted { MayTell (unnamed problem.now) None 8 counted }
     requires times { times ≤ 64 }
-    ensures { IfOk result (IsSettled times problem.now) }
+    ensures { IfOk result (IsFound times problem.now) }
 {
     if let Some(way) = near_way(alloc, problem, chain, times)? {
         return Ok(Settled::FixedPoint(way));
@@ -156,7 +156,7 @@ fn settled(
     requires chain { chain.now.certificate ≡ problem_chain problem.now }
     requires not_zero { zero_place (unnamed problem.now) ≡ None }
     requires times { times ≤ 64 }
-    ensures { IfOk result (IsSettled times problem.now) }
+    ensures { IfOk result (IsFound times problem.now) }
 {
     match counted(alloc, problem)? {
         Counted::Exactly(rounds) => exact(alloc, problem, rounds, times),
@@ -164,12 +164,10 @@ fn settled(
     }
 }
 
-/// What the searches of this crate find out of how many rounds the problem takes, and the words that show it, where their bounds are taken so
-/// many times. It is true, and the words that are named give certificates of it, each with a text that is read; where they find less, nothing
-/// more is known. The crate's page says what is tried in which order; the cost is that of these searches.
-pub fn settle(alloc: Global, problem: &Problem, times: u8) -> Result<Settled, NoMemory>
+/// What the searches find out, where their bounds are taken so many times.
+pub(crate) fn search(alloc: Global, problem: &Problem, times: u8) -> Result<Settled, NoMemory>
     requires { times ≤ 64 }
-    ensures { IfOk result (IsSettled times problem.now) }
+    ensures { IfOk result (IsFound times problem.now) }
 {
     let _names = problem.names();
     if let Some(_place) = zero_round(problem) {

@@ -8,10 +8,13 @@ ghost use Rattle.re_walks.specs.Walking.{cut};
 ghost use Rattle.std.specs.Prelude.{◌≡◌, ◌≤◌, IfOk, IfSome, None};
 
 use crate::bounds_given::{longer, longest_way, short_way};
-use crate::counting_given::{MAX_ROUNDS, counted, counted_at_once, most_way};
-use crate::given_lines::{claim_given, is_final};
-use crate::given_types::{Claim, SettledGiven, Shown, Way};
+use crate::counting::MAX_ROUNDS;
+use crate::counting_given::{counted, counted_at_once, most_way};
+use crate::given_lines::claim_given;
+use crate::given_types::SettledGiven;
+use crate::lines::is_final;
 use crate::never_given::{far_way, near_way};
+use crate::types::{Claim, Shown, Way};
 use re_chains::{LowerChain, problem_chain};
 use re_given_bounds::tells_passive;
 use re_given_words::Counted;

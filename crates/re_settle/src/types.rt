@@ -69,19 +69,48 @@ pub enum Claim {
     Between(u8, u8),
 }
 
+/// At least how many rounds a problem takes with N unique identifiers, as N grows.
+#[derive(Clone, Copy, Debug, PartialEq, Eq)]
+pub enum Least {
+    /// More than so many, from some N on.
+    MoreThan(u8),
+    /// At least log* N, less a constant.
+    LogStar,
+    /// At least the order of log N.
+    Log,
+}
+
+/// At most how many rounds.
+#[derive(Clone, Copy, Debug, PartialEq, Eq)]
+pub enum Most {
+    /// At most the order of log* N.
+    LogStar,
+    /// At most the order of log N.
+    Log,
+}
+
+/// The order of the number of rounds.
+#[derive(Clone, Copy, Debug, PartialEq, Eq)]
+pub enum Order {
+    /// That of log* N.
+    LogStar,
+    /// That of log N.
+    Log,
+    /// That of N.
+    Linear,
+}
+
 /// How many rounds a problem takes with N unique identifiers, as N grows.
 #[derive(Clone, Copy, Debug, PartialEq, Eq)]
 pub enum Class {
+    /// No number is enough from some N on: there is no solution.
+    NoSolution,
     /// A constant number, of which the claim says more.
     Constant(Claim),
-    /// More than so many, from some N on.
-    MoreThan(u8),
-    /// The order of log* N.
-    OrderLogStar,
-    /// At least log* N, less a constant.
-    AtLeastLogStar,
-    /// At least the order of log N.
-    AtLeastLog,
+    /// So many, but for a constant factor.
+    Order(Order),
+    /// At least so many, and where it is known, at most so many.
+    Bounds(Least, Option<Most>),
 }
 
 /// A number of rounds, and the words that show it.
@@ -94,6 +123,10 @@ pub struct Shown {
 /// What is known of how many rounds a problem takes, and the words that show it.
 #[derive(Clone, Copy, Debug, PartialEq, Eq)]
 pub enum Settled {
+    /// It has no solution: trimming leaves no label.
+    Unsolvable,
+    /// No number of rounds solves it, and with N identifiers it takes the order of N, since it has one level of labels alone.
+    Linear,
     /// It is solvable without communication.
     AtOnce,
     /// It takes exactly so many rounds, as one of the words shows.
@@ -102,7 +135,18 @@ pub enum Settled {
     FixedPoint(Way),
     /// No number of rounds solves it, as a finite graph without a solution shows; and where it is known, some number is enough given a proper
     /// colouring of one side with one colour more than a node of this side meets others.
-    NoSolution(Way, Option<Coloured>),
+    Excluded(Way, Option<Coloured>),
     /// It takes more than the first number of rounds, and where a second one is known, at most that many.
     Within(Shown, Option<Shown>),
+}
+
+/// What is known of a problem, and what its levels of labels add to it.
+#[derive(Clone, Copy, Debug, PartialEq, Eq)]
+pub struct Classified {
+    /// What is known of it.
+    pub settled: Settled,
+    /// At most how many rounds it takes with identifiers, where a set of its labels is flexible.
+    pub above: Option<Most>,
+    /// How many levels of labels it has, where no set is flexible and the literature tells the number of rounds by it.
+    pub length: Option<u8>,
 }

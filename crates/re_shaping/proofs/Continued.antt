@@ -39,7 +39,7 @@ pub built-bound : (x y : Bound) → built x ≡ Some y → is_bound y ≡ true
 built-bound x y e = built-fits (is_bound x) x y refl e
 
 -- the bound of a chain and the steps behind it
-abbrev behind : Kind → ℕ → Bound → List BoundStep → List (ℕ × ℕ) → Bound
+abbrev pub behind : Kind → ℕ → Bound → List BoundStep → List (ℕ × ℕ) → Bound
 behind kind back chain more renaming = record { kind = kind; back = back; first = chain.first; steps = chain.steps ++ more; renaming = renaming }
 
 goes_on : (kind : Kind) (most labels back : ℕ) (chain bound : Bound) (more : List BoundStep) (renaming : List (ℕ × ℕ)) → bound ≡ behind kind back chain more renaming
@@ -81,7 +81,7 @@ not_small kind most labels chain bound more steps large on =
 fixed-none : (kind : Kind) → kind ≡ Lower → is_fixed kind ≡ false
 fixed-none kind e = ap is_fixed e
 
-plain : (fixed : Bool) (b : Bool) (back : ℕ) (renaming : List (ℕ × ℕ)) → fixed ≡ false → (if fixed then b else back == 0 && is_nil renaming) ≡ true → (back ≡ 0) × (renaming ≡ [])
+pub plain : (fixed : Bool) (b : Bool) (back : ℕ) (renaming : List (ℕ × ℕ)) → fixed ≡ false → (if fixed then b else back == 0 && is_nil renaming) ≡ true → (back ≡ 0) × (renaming ≡ [])
 plain true b back renaming e fits = cc
 plain false b back renaming e fits = (eqb-true back 0 (and-true (back == 0) (is_nil renaming) fits).0, nil_of renaming (and-true (back == 0) (is_nil renaming) fits).1)
 

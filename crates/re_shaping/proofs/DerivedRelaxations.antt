@@ -11,7 +11,7 @@ use Rattle.re_labels.specs.Orders.{multisets}
 use Rattle.re_labels.specs.Rearranging.{Rearranged}
 use Rattle.re_labels.specs.Rows.{IsChoice, placed, set_at}
 use Rattle.re_labels.proofs.Membership.{Contains-filter, Contains-map, Contains-map_cases, Contains-none, Contains-cases, length-map'}
-use Rattle.re_labels.proofs.Places.{map-get-place_of}
+use Rattle.re_labels.proofs.LabelPlaces.{map-get-place_of}
 use Rattle.re_labels.specs.Lists.{place_of}
 use Rattle.re_labels.specs.Sets.{IsIn, IsWithin}
 use Rattle.re_problem.proofs.DerivedProblem.{max_row_ascends}

@@ -7,13 +7,14 @@ use Rattle.re_labels.proofs.Membership.{AllByRecursion-In, In, get_or-count_from
 use Rattle.re_labels.proofs.Tests.{eqb-same, eqb-true, same_tests}
 use Rattle.re_labels.specs.Lists.{count_from}
 use Rattle.re_labels.specs.declared.TheConstants.{MAX_LABELS}
+use Rattle.re_changes.proofs.OneChange.{below-counted}
 use Rattle.re_shaping.specs.Mixing.{mixed}
 use Rattle.re_problem.specs.NamedProblems.{NamedProblem}
 use Rattle.re_table.specs.Constraints.{Constraint, IsConstraint, images_of}
 use Rattle.re_shaping.specs.Answers.{KeepsColours}
 use Rattle.re_shaping.specs.Colours.{colour_at, colours_by, config_number, first_colours, mark_of, next_colour, next_colours, numbers_at, pairs_alike, refined, times_in, with_single}
 use Rattle.re_shaping.specs.declared.colours.TheConstants.{ACTIVE, FIRST, PASSIVE, SINGLED}
-use Rattle.re_shaping.proofs.Moving.{Moves, label-below, sum-image, sum-images, sum-labels}
+use Rattle.re_shaping.proofs.Moving.{Moves, sum-image, sum-images, sum-labels}
 use Rattle.re_shaping.proofs.Sums.{sum_by-alike, sum_by-map}
 
 -- ---- lists of colours
@@ -95,7 +96,7 @@ module _ (from to : NamedProblem) (images : List ℕ) (move : Moves from to imag
         ∙ sym (ap (sum_by f) (colours-whole colours ∙ ap (colours_by (colour_at colours)) keeps.each))
       where
         in_range : (x : ℕ) → In x (count_from 0 (length from.names)) → x < length from.names
-        in_range x held = label-below (length from.names) x held
+        in_range x held = below-counted (length from.names) x held
 
     pub mark-kept : mark_of others ≡ mark_of colours
     unfolding mark_of

@@ -8,7 +8,7 @@ use Rattle.re_labels.specs.Configs.{IsConfig, image_at, image_of}
 use Rattle.re_labels.specs.Rearranging.{Rearranged, chained, kept, swapped, unmoved}
 use Rattle.re_labels.proofs.Before.{IsBefore-head}
 use Rattle.re_labels.proofs.ListSets.{In-list_set, list_set-In, one_set, rising-list_set}
-use Rattle.re_labels.proofs.Membership.{AllByRecursion-In, AllByRecursion-from_In, Contains-In, Contains-count_from, In, In-Contains, In-map, In-map_from, count_from_range}
+use Rattle.re_labels.proofs.Membership.{AllByRecursion-In, AllByRecursion-from_In, Contains-In, In, In-map, In-map_from}
 use Rattle.re_labels.proofs.Numbers.{IsLabelSet-count_from}
 use Rattle.re_labels.proofs.Rising.{rising-map}
 use Rattle.re_labels.specs.Lists.{IsBefore, count_from}
@@ -17,6 +17,7 @@ use Rattle.re_problem.proofs.VerdictLaws.{renames_law}
 use Rattle.re_problem.specs.NamedProblems.{IsNamedProblem, NamedProblem, OccursIn, unnamed}
 use Rattle.re_problem.specs.Steps.{IsRenamed}
 use Rattle.re_table.specs.Constraints.{Constraint, IsConstraint, images_of}
+use Rattle.re_changes.proofs.OneChange.{below-counted, counted-below}
 use Rattle.re_shaping.specs.Renamings.{IsRenaming}
 use Rattle.re_shaping.proofs.Sums.{sum-list_set, sum_by-Rearranged, sum_by-alike, sum_by-map}
 
@@ -46,12 +47,6 @@ doubles : ℕ → Constraint
 unfolding double
 doubles n = record { degree = 2; configs = map double (count_from 0 n) }
 
-pub label-below : (n x : ℕ) → In x (count_from 0 n) → x < n
-label-below n x held = let range = count_from_range 0 n x (In-Contains x (count_from 0 n) held) in omega (arith, range.1)
-
-pub below-label : (n x : ℕ) → x < n → In x (count_from 0 n)
-below-label n x below = Contains-In x (count_from 0 n) (Contains-count_from 0 n x (omega arith) (omega arith))
-
 IsConstraint-doubles : (n : ℕ) → IsConstraint n (doubles n)
 unfolding double doubles
 IsConstraint-doubles n = record {
@@ -63,7 +58,7 @@ IsConstraint-doubles n = record {
   where
     is_config : (config : List ℕ) → (x : ℕ) × In x (count_from 0 n) × (config ≡ double x) → IsConfig 2 n config
     is_config config found =
-        let below = label-below n found.0 found.1 in
+        let below = below-counted n found.0 found.1 in
         subst (IsConfig 2 n) (sym found.2) (record { count = refl; below = (below, (below, tt)); ascends = (omega arith, tt) })
 
 image-double : (images : List ℕ) (x : ℕ) → image_of images (double x) ≡ double (image_at images x)
@@ -133,15 +128,15 @@ sum-labels from to images move f =
         let found = In-map_from (image_of images) z (map double (count_from 0 (length images))) (In-list_set (map (image_of images) (map double (count_from 0 (length images)))) z held) in
         let label = In-map_from double found.0 (count_from 0 (length images)) found.1 in
         let e : z ≡ double (image_at images label.0) = found.2 ∙ ap (image_of images) label.2 ∙ image-double images label.0 in
-        let below : image_at images label.0 < length to.names = move.below label.0 (subst (λ n. label.0 < n) move.count (label-below (length images) label.0 label.1)) in
-        subst (λ w. In w (map double (count_from 0 (length to.names)))) (sym e) (In-map double (image_at images label.0) (count_from 0 (length to.names)) (below-label (length to.names) (image_at images label.0) below))
+        let below : image_at images label.0 < length to.names = move.below label.0 (subst (λ n. label.0 < n) move.count (below-counted (length images) label.0 label.1)) in
+        subst (λ w. In w (map double (count_from 0 (length to.names)))) (sym e) (In-map double (image_at images label.0) (count_from 0 (length to.names)) (counted-below (length to.names) (image_at images label.0) below))
 
     back : (z : List ℕ) → In z (map double (count_from 0 (length to.names))) → In z (images_of images (doubles (length images)))
     back z held =
         let label = In-map_from double z (count_from 0 (length to.names)) held in
-        let source = move.onto label.0 (label-below (length to.names) label.0 label.1) in
+        let source = move.onto label.0 (below-counted (length to.names) label.0 label.1) in
         let e : image_of images (double source.0) ≡ z = image-double images source.0 ∙ ap double source.2 ∙ sym label.2 in
-        let there : In (double source.0) (map double (count_from 0 (length images))) = In-map double source.0 (count_from 0 (length images)) (below-label (length images) source.0 (subst (λ n. source.0 < n) (sym move.count) source.1)) in
+        let there : In (double source.0) (map double (count_from 0 (length images))) = In-map double source.0 (count_from 0 (length images)) (counted-below (length images) source.0 (subst (λ n. source.0 < n) (sym move.count) source.1)) in
         list_set-In (map (image_of images) (map double (count_from 0 (length images)))) z
         (subst (λ w. In w (map (image_of images) (map double (count_from 0 (length images))))) e (In-map (image_of images) (double source.0) (map double (count_from 0 (length images))) there))
 

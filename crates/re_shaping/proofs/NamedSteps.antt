@@ -13,7 +13,7 @@ use Rattle.re_labels.specs.Rearranging.{Rearranged}
 use Rattle.re_labels.proofs.Before.{IsBefore-apart, same_list-refl, same_list-same, three_ways}
 use Rattle.re_labels.proofs.ListSets.{In-list_set, list_set-In, rising-list_set}
 use Rattle.re_labels.proofs.Membership.{AllByRecursion-In, AllByRecursion-from_In, Contains-In, In, In-Contains, In-filter_from, In-flat_map_from, In-map, In-map_from, all-In, all-In_from, any-In, get_or-count_from, length-count_from, length-map', map-alike}
-use Rattle.re_labels.proofs.Places.{get-place_of, place_of-below}
+use Rattle.re_labels.proofs.LabelPlaces.{get-place_of, place_of-below}
 use Rattle.re_labels.proofs.Searching.{place_of-at}
 use Rattle.re_labels.proofs.Tests.{and-true, eqb-same, eqb-true, or-left, or-right, true-and}
 use Rattle.re_labels.specs.Lists.{IsBefore, count_from, place_of, same_list}

@@ -7,7 +7,7 @@ use Rattle.std.specs.List.{AllByRecursion, list_any}
 use Rattle.re_labels.proofs.Before.{same_list-refl, same_list-same}
 use Rattle.re_labels.proofs.ListSets.{list_set-In}
 use Rattle.re_labels.proofs.Membership.{AllByRecursion-from_In, Contains-In, In, In-Contains, In-map_from, any-In, any-In_from, count_from-last, length-map'}
-use Rattle.re_labels.proofs.Places.{get-place_of, place_of-below}
+use Rattle.re_labels.proofs.LabelPlaces.{get-place_of, place_of-below}
 use Rattle.re_labels.proofs.Searching.{place_of-at}
 use Rattle.re_labels.proofs.Tests.{eqb-same, eqb-true, same_tests}
 use Rattle.re_labels.specs.Lists.{count_from, place_of, same_list}

@@ -7,7 +7,7 @@ use Rattle.re_labels.proofs.Sorting.{sorted_map}
 use Rattle.re_labels.specs.Configs.{IsConfig, sorted}
 use Rattle.re_labels.specs.Rows.{placed}
 use Rattle.re_labels.proofs.Membership.{AllByRecursion-contains, Contains-map_cases, length-map', map-alike}
-use Rattle.re_labels.proofs.Places.{place_of-below}
+use Rattle.re_labels.proofs.LabelPlaces.{place_of-below}
 use Rattle.re_labels.specs.Lists.{place_of}
 use Rattle.re_problem.proofs.StepLaws.{map-map}
 use Rattle.re_problem.specs.Problems.{Problem}

@@ -7,7 +7,7 @@ use Rattle.re_labels.specs.Rows.{placed, set_at}
 use Rattle.re_labels.specs.declared.TheConstants.{MAX_ROWS}
 use Rattle.re_problem.specs.ItemSteps.{is_nil}
 use Rattle.re_labels.proofs.Membership.{Contains-map_cases, In-Contains, In-map_from, all-In, all-In_from, length-map'}
-use Rattle.re_labels.proofs.Places.{place_of-below}
+use Rattle.re_labels.proofs.LabelPlaces.{place_of-below}
 use Rattle.re_labels.proofs.Tests.{and-true, or-left, or-right, true-and}
 use Rattle.re_labels.specs.Lists.{IsRising, place_of}
 use Rattle.re_problem.proofs.StepLaws.{map-map}

@@ -27,8 +27,8 @@ pub enum Renaming {
     TooMany,
 }
 
-// Whether each image is below the number.
-fn are_below(images: &[u8], labels: usize) -> bool
+/// Whether each image is below the number.
+pub fn are_below(images: &[u8], labels: usize) -> bool
     ensures { IsTrue result ↔ AllByRecursion (λ image. image < labels) images.now }
 {
     let [image, others @ ..] = images else {

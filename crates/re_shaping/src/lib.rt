@@ -32,7 +32,7 @@ pub use colour_laws::{colours_law, moved_mark_law};
 pub use coloured::Coloured;
 pub use dropping::drop_label;
 pub use extending::{Extension, are_small, extended, joined, repeated};
-pub use finding::{MAX_TRIES, Renaming, renaming_to};
+pub use finding::{MAX_TRIES, Renaming, are_below, renaming_to};
 pub use marks::{config_mark, label_mark, mixed, moved_mark, problem_mark};
 pub use merging::{first_merged, merge, merge_lower};
 pub use naming::name_label;

@@ -8,7 +8,6 @@ ghost use Rattle.re_chains.specs.Chains.{chain_with};
 ghost use Rattle.re_changes.specs.Renumbering.{number_among};
 ghost use Rattle.re_problem.specs.ItemSteps.{is_nil};
 ghost use Rattle.re_labels.specs.Lists.{count_from};
-ghost use Rattle.re_labels.specs.Sets.{without_label};
 ghost use Rattle.re_step.specs.declared.derivation.StepLimit.{StepLimit as Passed};
 ghost use Rattle.std.specs.Prelude.{◌≡◌, ◌≢◌, ◌<◌, ◌≤◌, ◌∷◌, [], Err, IfOk, None, Some, false, length, map, true};
 
@@ -20,25 +19,11 @@ use crate::sending::step_along;
 use arrayvec::ArrayVec;
 use re_cert::{Certificate, Kind, Step};
 use re_chains::{LowerChain, chain_kind, over_problems};
-use re_changes::{number_among, renumbered};
+use re_changes::{all_but, number_among, renumbered};
 use re_labels::{MAX_LABELS, NoMemory};
 use re_problem::Problem;
 use re_step::StepFault;
 use std::alloc::Global;
-
-// All labels below this number but the one.
-fn others(label: u8, labels: u8) -> ArrayVec<u8, 128>
-    requires { labels ≤ MAX_LABELS }
-    ensures { result.items ≡ without_label (count_from 0 labels) label }
-{
-    let mut others = ArrayVec::new();
-    for other in 0..labels {
-        if other != label {
-            others.push(other);
-        }
-    }
-    others
-}
 
 // What a label becomes where one label becomes another.
 fn merged_label(from: u8, to: u8, label: u8) -> u8
@@ -65,7 +50,7 @@ fn merge_numbers(problem: &Problem, from: u8, to: u8) -> ArrayVec<u8, 128>
     ensures { result.items ≡ merge_numbers from to problem.now }
 {
     let labels = problem.names().len() as u8;
-    let stay = others(from, labels);
+    let stay = all_but(from, labels);
     numbers_among(stay.as_slice(), from, to, labels)
 }
 
@@ -84,7 +69,7 @@ fn merged_problem(
     ensures { IfOk result (λ merged. merged ≡ merged_problem from to problem.now) }
 {
     let names = problem.names();
-    let stay = others(from, names.len() as u8);
+    let stay = all_but(from, names.len() as u8);
     renumbered(
         alloc,
         names,

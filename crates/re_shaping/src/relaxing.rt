@@ -2,21 +2,19 @@
 ghost use Rattle.re_algo.specs.Constructions.{IsSeen, top_places};
 ghost use Rattle.re_shaping.specs.Relaxing.{relaxed_limit, relaxed_step, row_image, set_image};
 ghost use Rattle.re_labels.specs.Configs.{image_at};
-ghost use Rattle.re_labels.specs.Orders.{placements};
-ghost use Rattle.re_labels.specs.Rows.{covers, dominates, placed};
 ghost use Rattle.re_labels.specs.declared.TheConstants.{MAX_ROWS};
 ghost use Rattle.re_labels.specs.Sets.{IsLabelSet};
-ghost use Rattle.re_laws.specs.Fast.{fitted};
 ghost use Rattle.re_problem.specs.NamedProblems.{unnamed};
 ghost use Rattle.re_problem.specs.Steps.{IsRelaxed};
 ghost use Rattle.re_step.specs.declared.derivation.StepLimit.{StepLimit as Passed};
 ghost use Rattle.re_table.specs.GoodRows.{max_rows};
-ghost use Rattle.std.specs.List.{AllByRecursion, list_any, position_or_len};
-ghost use Rattle.std.specs.Prelude.{◌≡◌, ◌≤◌, ◌<◌, ℕ, Err, IfOk, List, None, Some, [], find, length, map, slice_index_or, true};
+ghost use Rattle.std.specs.List.{AllByRecursion};
+ghost use Rattle.std.specs.Prelude.{◌≡◌, ◌≤◌, ◌<◌, ℕ, Err, IfOk, List, None, Some, length, map};
 
 use arrayvec::ArrayVec;
+use re_algo::{first_dominating, fitted};
 use re_cert::{LowerMap, RowImage, Step, StepParts};
-use re_labels::{LabelSet, MAX_LABELS, NoMemory, Placement, Placements, Row};
+use re_labels::{LabelSet, MAX_LABELS, NoMemory, Row};
 use re_problem::Problem;
 use re_step::{Derived, RowsFault, StepFault, StepLimit, maximal_rows, place_of, step as derive};
 use std::alloc::Global;
@@ -46,75 +44,6 @@ fn row_image(images: &[u8], row: &Row) -> ArrayVec<LabelSet, 6>
         image.push(set_image(images, *set));
     }
     image
-}
-
-// The set at this place, or the empty one where there is none.
-fn set_at(sets: &[LabelSet], place: usize) -> LabelSet
-    ensures { result ≡ slice_index_or sets.now place [] }
-{
-    if place < sets.len() {
-        sets[place]
-    } else {
-        LabelSet::empty()
-    }
-}
-
-// Whether the sets in this order of their places hold the other ones, place by place.
-fn holds(sets: &[LabelSet], order: &[u8], others: &[LabelSet]) -> bool
-    ensures { result ≡ covers (placed sets.now order.now) others.now }
-{
-    if order.len() != others.len() {
-        return false;
-    }
-    for index in 0..order.len() {
-        let set = set_at(sets, usize::from(order[index]));
-        let other = others[index];
-        if !other.within(set) {
-            return false;
-        }
-    }
-    true
-}
-
-// The first order of the row's places in which its sets hold the other ones.
-fn first_order(row: &Row, others: &[LabelSet]) -> Option<Placement>
-    ensures { result ≡ find (λ order. covers (placed row.now order) others.now) (placements (length row.now)) }
-{
-    let sets = row.sets();
-    for placement in Placements::new(sets.len()) {
-        if holds(sets, placement.places(), others) {
-            return Some(placement);
-        }
-    }
-    None
-}
-
-// The row's sets in the first order of its places in which they hold the other ones, where there is one.
-fn fitted(row: &Row, others: &[LabelSet]) -> ArrayVec<LabelSet, 6>
-    ensures { result.items ≡ fitted row.now others.now }
-{
-    let mut fitted = ArrayVec::new();
-    if let Some(placement) = first_order(row, others) {
-        for place in placement.places() {
-            fitted.push(set_at(row.sets(), usize::from(*place)));
-        }
-    }
-    fitted
-}
-
-// The first of the rows that dominates the other one.
-fn first_dominating(rows: &[Row], other: &Row) -> usize
-    requires alike { AllByRecursion (λ row. length row ≡ length other.now) rows.now }
-    requires some { list_any (λ row. dominates row other.now) rows.now ≡ true }
-    ensures place { result ≡ position_or_len (λ row. dominates row other.now) rows.now }
-    ensures within { result < length rows.now }
-{
-    for (index, row) in rows.iter().enumerate() {
-        if row.dominates(other) {
-            return index;
-        }
-    }
-    unreachable!()
 }
 
 /// The labels that stand for the sets of the first row that dominates these sets, in the first order in which it holds them. It tests one

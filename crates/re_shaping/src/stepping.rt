@@ -13,7 +13,7 @@ ghost use Rattle.std.specs.Prelude.{◌≡◌, ◌≤◌, Err, IfOk, None, Some,
 
 use crate::building::built;
 use crate::row_form::row_form;
-use re_cert::{Certificate, Kind, LowerMap, MAX_STEPS, SetEntry, Step, StepParts};
+use re_cert::{Certificate, Kind, LowerMap, MAX_STEPS, SetEntry, Step, StepParts, has_lower_steps};
 use re_chains::{LowerChain, chain_kind, copied_steps, have_row_maps, over_problems};
 use re_labels::{LabelSet, MAX_LABELS, NoMemory, Row};
 use re_problem::Problem;
@@ -52,13 +52,6 @@ impl From<StepFault> for ChainStepFault {
             StepFault::NoMemory => ChainStepFault::NoMemory,
         }
     }
-}
-
-// Whether bounds of the kind have lower steps.
-fn has_lower_steps(kind: Kind) -> bool
-    ensures { result ≡ is_lower kind }
-{
-    !matches!(kind, Kind::Upper)
 }
 
 // Each set with its own label, which is its place.

@@ -6,7 +6,7 @@ use Rattle.re_labels.proofs.Sorting.{length-sorted}
 use Rattle.re_labels.specs.Configs.{sorted}
 use Rattle.re_labels.proofs.ListSets.{list_set_push}
 use Rattle.re_labels.proofs.Membership.{AllByRecursion-contains, Contains-here, Contains-later, length-map'}
-use Rattle.re_labels.proofs.Places.{place_of-below}
+use Rattle.re_labels.proofs.LabelPlaces.{place_of-below}
 use Rattle.re_labels.specs.Lists.{place_of}
 use Rattle.re_labels.specs.ListSets.{list_set, with_list}
 use Rattle.re_table.proofs.Insertions.{length-with_list_most}

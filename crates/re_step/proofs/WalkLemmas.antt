@@ -1,5 +1,5 @@
 -- The multisets of sets that are allowed, step by step.
-use Rattle.std.proofs.lemmas.List.{append-nil, map-append}
+use Rattle.std.proofs.lemmas.List.{map-append}
 use Rattle.std.proofs.Common.{◌≡◌, ℕ, zero, suc, ◌<◌, ◌≤◌, ◌+◌, ◌-◌, Bool, true, false, not, cond, List, [], ◌∷◌, ◌++◌, length, map, filter, get_or, Contains, ◌↔◌, eqb, refl, sym, ap, ◌∙◌, subst, inl, inr, arith, append_assoc, length-append}
 use Rattle.std.specs.List.{AllByRecursion}
 use Rattle.std.proofs.lemmas.Bool.{false≢true}
@@ -23,6 +23,8 @@ use Rattle.re_table.proofs.Goodness.{IsAllowed-is_allowed, is_allowed-IsAllowed}
 use Rattle.re_table.specs.Constraints.{Constraint, with_each}
 use Rattle.re_table.specs.GoodRows.{IsAllowed, allowed, is_allowed}
 use Rattle.re_step.specs.Rests.{AreRests, SharesLabel, all_begun, allowed_from, allowed_on, constraint_of}
+use Rattle.re_problem.proofs.HeldLabels.{names_alone}
+use Rattle.re_problem.proofs.Walks.{alone}
 
 -- ---- a set more
 -- a set and a row are allowed exactly where the rests that the set leaves allow the row
@@ -95,14 +97,6 @@ begun_on first more lo rests e =
 -- the set of some configurations with more, and then with others
 set_append : (old xs ys : List (List ℕ)) → list_set (list_set (old ++ xs) ++ ys) ≡ list_set (old ++ (xs ++ ys))
 set_append old xs ys = sym (list_set_append (old ++ xs) ys) ∙ ap list_set (append_assoc old xs ys)
-
--- a rising list is the set of its lists
-pub set_alone : (lists : List (List ℕ)) → IsRising IsBefore lists → list_set lists ≡ lists
-set_alone lists rises = one_set (list_set lists) lists (rising-list_set lists) rises (In-list_set lists) (list_set-In lists)
-
--- nothing more
-pub set_unchanged : (old : List (List ℕ)) → IsRising IsBefore old → old ≡ list_set (old ++ [])
-set_unchanged old rises = sym (ap list_set (append-nil old) ∙ set_alone old rises)
 
 -- lists with the same members add the same
 set_alike : (old xs ys : List (List ℕ)) → ((z : List ℕ) → In z xs → In z ys) → ((z : List ℕ) → In z ys → In z xs) → list_set (old ++ xs) ≡ list_set (old ++ ys)
@@ -178,14 +172,14 @@ filter_none p h (x ∷ xs) = ap (λ b. cond b (x ∷ filter p xs) (filter p xs))
 pub added_nothing : (configs sets : List (List ℕ)) (first : List ℕ) (size lo k : ℕ) (rests old : List (List ℕ)) (set : List ℕ) → IsRising IsBefore old → set ≡ set_at sets lo → AreRests configs set rests
     → length rests ≡ 0 → old ≡ list_set (old ++ all_begun first (allowed_on configs sets size lo k))
 added_nothing configs sets first size lo k rests old set rises s are none =
-    set_unchanged old rises ∙ ap (λ w. list_set (old ++ all_begun first w))
+    names_alone old rises ∙ ap (λ w. list_set (old ++ all_begun first w))
     (sym (on_rests configs sets size lo k rests (subst (λ t. AreRests configs t rests) s are) ∙ ap (map (λ others. lo ∷ others)) (filter_none (λ places. is_allowed (constraint_of (size - 1) rests) (placed sets places)) (λ places. none_allowed (size - 1) rests (placed sets places) none) (multisets (size - 1) lo k))))
 
 -- where no places are left, nothing is added
 pub added_none : (configs sets : List (List ℕ)) (first : List ℕ) (size lo k : ℕ) (old : List (List ℕ)) → 1 ≤ size → k ≡ 0 → IsRising IsBefore old
     → old ≡ list_set (old ++ all_begun first (allowed_from configs sets size lo k))
 added_none configs sets first zero lo k old l e rises = absurd (omega arith)
-added_none configs sets first (suc size) lo zero old l e rises = set_unchanged old rises
+added_none configs sets first (suc size) lo zero old l e rises = names_alone old rises
 added_none configs sets first (suc size) lo (suc k) old l e rises = absurd (omega (arith, e))
 
 -- ---- the last set
@@ -313,4 +307,4 @@ all_ascend constraint sets d = map_same (λ places. sorted ([] ++ places)) (allo
 pub found_allowed : (constraint : Constraint) (sets configs old found : List (List ℕ)) (first : List ℕ) (d e k : ℕ) → configs ≡ constraint.configs → old ≡ [] → first ≡ [] → d ≡ e → k ≡ length sets
     → found ≡ list_set (old ++ all_begun first (allowed_from configs sets d 0 k)) → found ≡ allowed constraint sets e
 found_allowed constraint sets configs old found first d e k c o f s n h =
-    h ∙ (λ i. list_set (o i ++ all_begun (f i) (allowed_from (c i) sets (s i) 0 (n i)))) ∙ ap list_set (all_ascend constraint sets e) ∙ set_alone (allowed constraint sets e) (allowed_law constraint sets e).0
+    h ∙ (λ i. list_set (o i ++ all_begun (f i) (allowed_from (c i) sets (s i) 0 (n i)))) ∙ ap list_set (all_ascend constraint sets e) ∙ alone (allowed constraint sets e) (allowed_law constraint sets e).0

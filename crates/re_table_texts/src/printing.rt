@@ -1,8 +1,6 @@
 //! The printing of tables.
 ghost use Rattle.re_algo.specs.Tables.{IsTable};
-ghost use Rattle.re_texts.specs.CanonicalLines.{IsWithinLimits};
 ghost use Rattle.re_problem.specs.CanonicalTexts.{canonical};
-ghost use Rattle.re_problem.specs.NamedProblems.{IsNamedProblem};
 ghost use Rattle.re_table_texts.specs.PrintedTables.{IsTableFor, answer_text, answers_text, table_text};
 ghost use Rattle.re_table_texts.specs.TableTexts.{TableText, may_stand, table_input};
 ghost use Rattle.std.specs.Fmt.{decimal};
@@ -15,7 +13,7 @@ use re_cert::RowImage;
 use re_labels::{Names, NoMemory, PortLabels};
 use re_printing::push_all;
 use re_problem::{Problem, push_problem};
-use re_texts::push_image;
+use re_texts::{limits, push_image};
 use std::alloc::{AllocError, Global};
 
 // Appends an answer: its labels with one space between.
@@ -55,15 +53,6 @@ fn push_section(text: &mut Vec<u8>, radius: u8) -> Result<(), NoMemory>
     let alloc = *text.allocator();
     let line = section_line(alloc, radius)?;
     push_all(text, line.as_str())
-}
-
-// That a problem is one, and no longer than problems are.
-fn limits(problem: &Problem)
-    ensures named { IsNamedProblem problem.now }
-    ensures within { IsWithinLimits problem.now }
-{
-    let _active = problem.active().len();
-    let _passive = problem.passive().len();
 }
 
 // The text of a problem and a table.

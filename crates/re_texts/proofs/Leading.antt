@@ -1,11 +1,10 @@
 -- Lines that are read one after another, none of which has a fault.
 use Rattle.std.proofs.lemmas.List.{map-append}
-use Rattle.std.proofs.Common.{◌≡◌, ℕ, ◌+◌, Bool, true, false, cond, not, eqb, List, [], ◌∷◌, ◌++◌, length, map, refl, sym, ap, ◌∙◌, subst, None, Result, Ok, Err, append-nil, append_assoc}
-use Rattle.std.specs.List.{AllByRecursion, list_all}
+use Rattle.std.proofs.Common.{◌≡◌, ℕ, ◌+◌, Bool, true, false, cond, eqb, List, [], ◌∷◌, ◌++◌, length, map, refl, sym, ap, ◌∙◌, subst, None, Result, Ok, Err, append-nil, append_assoc}
+use Rattle.std.specs.List.{AllByRecursion}
 use Rattle.std.proofs.lemmas.Bool.{false≢true}
 use Rattle.re_io.specs.LineReading.{LineText}
 use Rattle.re_labels.proofs.Membership.{AllByRecursion-weaker}
-use Rattle.re_labels.proofs.Tests.{and-true}
 use Rattle.re_texts.proofs.BlocksWritten.{block_written}
 use Rattle.re_texts.proofs.ReadBack.{canonical_law, canonical_lines_law, all_append}
 use Rattle.re_texts.specs.CanonicalLines.{block_lines, canonical_lines}
@@ -33,7 +32,7 @@ unlike t x y is = ap (λ b. cond b x y) is
 abbrev pub whole : List ℕ → LineText
 whole text = record { text = text; ended = true }
 
-from_no_feed : (line : List ℕ) → NoFeed line → IsOneLine line
+pub from_no_feed : (line : List ℕ) → NoFeed line → IsOneLine line
 from_no_feed line none = AllByRecursion-weaker (λ b. eqb b 10 ≡ false) (λ b. b ≡ 10 → ⊥) (λ b other same. false≢true (sym other ∙ ap (λ x. eqb x 10) same)) line none
 
 whole_lines : (lines : List (List ℕ)) → lines_in (lines ++ [] ∷ []) ≡ map whole lines

@@ -14,7 +14,7 @@ use Rattle.re_problem.specs.Items.{ItemText, item_of, item_of_parts, item_with, 
 use Rattle.re_labels.proofs.Tests.{and-true, true-and}
 use Rattle.re_labels.specs.Names.{is_name, is_name_byte}
 use Rattle.re_problem.specs.CanonicalTexts.{is_bare, label_text, power_text}
-use Rattle.re_labels.proofs.Places.{each_degree}
+use Rattle.re_labels.proofs.LabelPlaces.{each_degree}
 
 -- ---- bytes
 -- a byte of the text of a label: a byte of a name or a parenthesis

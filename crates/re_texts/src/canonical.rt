@@ -11,8 +11,8 @@ use re_labels::NoMemory;
 use re_problem::{Problem, TextFault, print_problem, read_problem};
 use std::alloc::Global;
 
-// That a problem has no more configurations than constraints may have.
-fn limits(problem: &Problem)
+/// That a problem has no more configurations than constraints may have.
+pub fn limits(problem: &Problem)
     ensures named { IsNamedProblem problem.now }
     ensures within { IsWithinLimits problem.now }
 {

@@ -14,7 +14,7 @@ mod sections;
 ghost use Rattle.re_texts.specs.CertificateLines.{EntryLineLaw, HeaderLineLaw, ImageLineLaw, PairLineLaw, RowLineLaw, SectionLineLaw};
 ghost use Rattle.re_texts.specs.PrintedCertificates.{CertificateTextLaw};
 
-pub use canonical::read_problem_back;
+pub use canonical::{limits, read_problem_back};
 pub use canonical_laws::{canonical_law, canonical_lines_law, canonical_size_law};
 pub use entries::MapKind;
 pub use lines::{push_entry, push_header, push_image, push_pair};

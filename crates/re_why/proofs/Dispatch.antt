@@ -32,6 +32,7 @@ use Rattle.re_check.specs.Clauses.{are_allowed, are_exchanged, are_good, are_max
 use Rattle.re_check.specs.declared.clause.Clause.{Clause}
 use Rattle.re_check.specs.declared.clause.Clause.TheVariants.{Back, End, L1, L2, L3, L4, L5, U1, U2, U3, U4}
 use Rattle.re_check.proofs.StepTests.{occurs-listed, filled_sets, filled-nonempty}
+use Rattle.re_texts.proofs.FittingParts.{labels_named}
 use Rattle.re_why.proofs.Found.{found_passes}
 use Rattle.re_why.proofs.Maps.{map_witness_law}
 use Rattle.re_why.proofs.Rows.{row_witness_law}
@@ -163,13 +164,6 @@ fits-filled before next (entry ∷ entries) e h =
     let some : not (eqb (length entry.set) 0) ≡ true = grind (arith, nat_tests) in
     true-and (is_filled before entry.set) (list_all (λ (entry : SetEntry). is_filled before entry.set) entries) (true-and (not (eqb (length entry.set) 0)) (list_all (is_label before) entry.set) some inside) (fits-filled before next entries both.1 h.1)
 
-fits-labels : (before next : NamedProblem) (entries : List SetEntry) → list_all (entry_fits before next) entries ≡ true → AllByRecursion (λ (entry : SetEntry). entry.label < length next.names) entries
-fits-labels before next [] e = tt
-fits-labels before next (entry ∷ entries) e =
-    let both = and-true (entry_fits before next entry) (list_all (entry_fits before next) entries) e in
-    let passes : nat_lt entry.label (length next.names) ≡ true = (and-true (list_all (is_label before) entry.set) (is_label next entry.label) both.0).1 in
-    (let l : entry.label < length next.names = grind (arith, nat_tests) in l, fits-labels before next entries both.1)
-
 -- ---- the rows
 row-is : (before : NamedProblem) (row : List (List ℕ)) → row_fits before row ≡ true → IsRow (length row) MAX_LABELS row → IsRow before.passive.degree (length before.names) row
 row-is before row fits is =
@@ -231,7 +225,7 @@ shown-L5 before next rows m is maximal fails = (map_witness_law before.active ne
 
 shown-U2 : (before next : NamedProblem) (entries : List SetEntry) → list_all (entry_fits before next) entries ≡ true → have_labels before next entries ≡ false → Gives (label_witness (length next.names) entries) (ShowsLabels (length next.names) entries)
 shown-U2 before next entries fits fails =
-    label_witness_law (length next.names) entries (fits-labels before next entries fits)
+    label_witness_law (length next.names) entries (labels_named before next entries fits)
     (λ has. true≢false (sym (true-and (bytes_eq (map (λ (entry : SetEntry). entry.label) entries) (count_from 0 (length next.names))) (list_all (is_filled before) (entry_sets entries))
     ((bytes_eq-Decides (map (λ (entry : SetEntry). entry.label) entries) (count_from 0 (length next.names))).1 has.labels) (sym (filled_sets before entries) ∙ fits-filled before next entries fits has.filled)) ∙ fails))
 

@@ -4,7 +4,7 @@ use Rattle.std.specs.Prelude.{Contains, Err, IfOk, IfSome, Ok, Result, find, ifâ
 use Rattle.std.specs.List.{AllByRecursion, AllZip, list_all}
 use Rattle.std.specs.Option.{option_and_then, option_map, option_or}
 use Rattle.re_labels.proofs.Membership.{AllByRecursion-contains, AllByRecursion-from_contains, AllByRecursion-weaker, Contains-In, Contains-map_cases, In-Contains, all-In, length-count_from, length-map'}
-use Rattle.re_labels.proofs.Places.{place_of-below}
+use Rattle.re_labels.proofs.LabelPlaces.{place_of-below}
 use Rattle.re_labels.proofs.Tests.{and-true}
 use Rattle.re_labels.specs.Lists.{count_from, place_of}
 use Rattle.re_labels.specs.Sets.{IsIn}

@@ -1,31 +1,16 @@
 //! The first choice of one label of each of some sets that is no configuration.
 ghost use Rattle.re_algo.specs.FirstChoice.{IsDrawn};
 ghost use Rattle.re_why.specs.BadChoice.{begins, first_bad, first_behind};
-ghost use Rattle.re_labels.specs.Rows.{choices, singles};
+ghost use Rattle.re_labels.specs.Rows.{choices};
 ghost use Rattle.re_labels.specs.Sets.{IsLabelSet};
 ghost use Rattle.std.specs.List.{AllByRecursion};
-ghost use Rattle.std.specs.Prelude.{◌++◌, ◌+◌, ◌<◌, ◌≡◌, ◌≤◌, ◌∷◌, length};
+ghost use Rattle.std.specs.Prelude.{◌+◌, ◌<◌, ◌≡◌, ◌∷◌, length};
 
 use arrayvec::ArrayVec;
+use re_algo::{are_sets, fixed};
 use re_check::is_good;
 use re_labels::{LabelSet, MAX_LABELS, PortLabels, Row};
 use re_table::Constraint;
-
-// The sets of one label each, and behind them the others.
-fn fixed(drawn: &[u8], others: &[LabelSet]) -> ArrayVec<LabelSet, 6>
-    requires six { length drawn.now + length others.now ≤ 6 }
-    requires below { AllByRecursion (λ label. label < MAX_LABELS) drawn.now }
-    ensures { result.items ≡ singles drawn.now ++ others.now }
-{
-    let mut sets = ArrayVec::new();
-    for label in drawn {
-        sets.push(LabelSet::single(*label));
-    }
-    for set in others {
-        sets.push(*set);
-    }
-    sets
-}
 
 // Whether the drawn labels and one label of each of the others are no configuration for some choice.
 fn is_begun(constraint: &Constraint, drawn: &[u8], others: &[LabelSet]) -> bool
@@ -69,17 +54,6 @@ fn draw(
         return true;
     };
     draw(constraint, drawn, *next, more)
-}
-
-// That each set is one.
-fn are_sets(sets: &[LabelSet])
-    ensures { AllByRecursion (IsLabelSet MAX_LABELS) sets.now }
-{
-    let [first, others @ ..] = sets else {
-        return;
-    };
-    let _count = first.count();
-    are_sets(others)
 }
 
 /// The first choice of one label of each set that is no configuration: each set goes through its labels in ascending order, the

@@ -6,37 +6,18 @@ ghost use Rattle.re_words.specs.Command.{IsMaking, judges};
 ghost use Rattle.re_words.specs.Making.{behind, making_outcome, one_step_outcome, sizes_text};
 ghost use Rattle.re_frame.specs.Outcomes.{outcome_of, status_of};
 ghost use Rattle.re_frame.specs.Runs.{MaySay};
-ghost use Rattle.re_families.specs.Families.{family_of, out_of_range};
-ghost use Rattle.std.specs.Prelude.{◌≡◌, IfOk, None};
+ghost use Rattle.std.specs.Prelude.{◌≡◌, IfOk};
 
 use crate::command::{Command, Making};
 use re_cert::Certificate;
 use re_check::check;
-use re_families::{Family, FamilyFault, family};
+use re_families::{Family, family_problem};
 use re_frame::{Output, begun, done, limit_output, push_number, push_words, verdict_output};
 use re_labels::NoMemory;
 use re_problem::{Problem, print_problem};
 use re_search::one_step;
 use re_step::StepFault;
 use std::alloc::Global;
-
-// The problem of a family with these degrees and this number.
-fn family_problem(
-    alloc: Global,
-    kind: Family,
-    active: u8,
-    passive: u8,
-    number: u8,
-) -> Result<Problem, NoMemory>
-    requires { out_of_range kind active passive number ≡ None }
-    ensures { IfOk result (λ problem. problem ≡ family_of kind active passive number) }
-{
-    match family(alloc, kind, active, passive, number) {
-        Ok(problem) => Ok(problem),
-        Err(FamilyFault::OutOfRange(_)) => unreachable!(),
-        Err(FamilyFault::NoMemory) => Err(NoMemory),
-    }
-}
 
 // How many labels, active and passive configurations a problem has, one number a line.
 fn sizes(alloc: Global, problem: &Problem) -> Result<Vec<u8>, NoMemory>

@@ -1,6 +1,7 @@
 use Rattle.std.proofs.Common.{ap, sym, ◌∙◌}
 use Rattle.std.proofs.lemmas.Result.{IfOk-weaker}
-use Rattle.re_bridge_words.proofs.GivenReductions.{product_text, refusal_undone}
+use Rattle.re_given_words.proofs.ProductMeaning.{reason_not_done}
+use Rattle.re_bridge_words.proofs.GivenReductions.{product_text}
 use Rattle.re_chains.proofs.WordsGiven.{both_ok}
 use Rattle.re_bridge_words.specs.ReduceWords.{reduced_outcome, reduced_product}
 use Rattle.re_bridge_words.specs.declared.answering.TheConstants.{MAX_TRIES}
@@ -29,4 +30,4 @@ returns-in-Err-clause-output c =
 pub returns-in-Err-clause-text : goal.returns-in-Err-clause-text
 returns-in-Err-clause-text c =
     IfOk-weaker c.refusal_output.result _ _
-    (λ output e finished. absurd (refusal_undone c.args.texts.now.problem c.args.texts.now.input c.in-Err.fault (sym (ap (λ (o : Outcome). o.status) e) ∙ finished))) c.refusal_output.ensures.output
+    (λ output e finished. absurd (reason_not_done c.args.texts.now.problem c.args.texts.now.input c.in-Err.fault (sym (ap (λ (o : Outcome). o.status) e) ∙ finished))) c.refusal_output.ensures.output

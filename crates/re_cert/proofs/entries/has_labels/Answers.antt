@@ -1,5 +1,5 @@
 use Rattle.std.proofs.Common.{◌∷◌, ◌++◌, [], sym, arith}
-use Rattle.re_problem.proofs.Words.{items_bad, items_end, next_found}
+use Rattle.re_problem.proofs.WordLemmas.{items_bad, items_end, next_found}
 use Rattle.re_problem.proofs.ReadPairs.{reads_item}
 use Rattle.re_cert.proofs.ReadLabels.{group_item, labels_bad, labels_end, no_labels, one_label, power_item}
 use Rattle.re_cert.proofs.entries.has_labels.Goals as goal

@@ -1,5 +1,5 @@
 use Rattle.std.proofs.Common.{◌∷◌, ◌++◌, ◌∙◌, [], ap, length, length-append, sym, arith}
-use Rattle.re_problem.proofs.Words.{items_bad, items_end, next_found}
+use Rattle.re_problem.proofs.WordLemmas.{items_bad, items_end, next_found}
 use Rattle.re_cert.proofs.ReadEntries.{none_is}
 use Rattle.re_cert.proofs.ReadLabels.{image_ends, image_short, no_bad_label, nothing_held, one_image_more, too_many, unknown_there}
 use Rattle.re_cert.proofs.entries.line_labels.Goals as goal

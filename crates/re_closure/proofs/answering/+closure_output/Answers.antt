@@ -2,7 +2,8 @@ use Rattle.std.proofs.Common.{◌≡◌, ◌+◌, ap, arith, length, refl, rules
 use Rattle.std.proofs.lemmas.Result.{IfOk-weaker}
 use Rattle.re_cert.specs.Bounds.{last_problem}
 use Rattle.re_chains.proofs.WordsGiven.{both_ok}
-use Rattle.re_closure.proofs.Within.{found_within, limit_within, next_within, place_within, positive, stop_within}
+use Rattle.re_given_words.proofs.EndNumbers.{some_number}
+use Rattle.re_closure.proofs.Within.{found_within, limit_within, next_within, place_within, stop_within}
 use Rattle.re_closure.specs.Closures.{Answers, AreNamed}
 use Rattle.re_closure.specs.ClosureWords.{stop_outcome}
 use Rattle.re_closure.specs.declared.types.ClosureFault.TheVariants.{Limit}
@@ -38,7 +39,7 @@ pub returns-in-Ok : goal.returns-in-Ok
 returns-in-Ok t c =
     let solved = subst (Answers c.args.chain.now.certificate) c.in-Ok-SolvableClosure.field-0-is c.in-Ok-SolvableClosure.ensures.answers in
     IfOk-weaker c.closure_output.result _ _
-    (λ output may. next_within c.args.more c.args.chain.now.certificate c.in-Ok.next.certificate (outcome_of output) (positive c.args.more c.if-more-eq0.false) solved.0 solved.1
+    (λ output may. next_within c.args.more c.args.chain.now.certificate c.in-Ok.next.certificate (outcome_of output) (some_number c.args.more c.if-more-eq0.false) solved.0 solved.1
     (c.in-Ok-SolvableClosure.sets.items, solved.2) c.in-Ok.ensures.none c.in-Ok.ensures.stepped may) c.closure_output.ensures
 
 pub returns : goal.returns
@@ -46,5 +47,5 @@ returns t c =
     let solved = subst (Answers c.args.chain.now.certificate) c.in-Ok-SolvableClosure.field-0-is c.in-Ok-SolvableClosure.ensures.answers in
     let number : length c.steps.result.now + 1 ≡ suc (length c.args.chain.now.certificate.steps) = (let same = ap length c.steps.ensures.steps in omega (arith, same)) in
     both_ok _ _ _ c.stop_output.result c.stop_output.ensures.told c.stop_output.ensures.not_memory
-    (λ output e other. stop_within c.args.more c.args.chain.now.certificate c.in-Err.fault (outcome_of output) (positive c.args.more c.if-more-eq0.false) solved.0 solved.1
+    (λ output e other. stop_within c.args.more c.args.chain.now.certificate c.in-Err.fault (outcome_of output) (some_number c.args.more c.if-more-eq0.false) solved.0 solved.1
     (c.in-Ok-SolvableClosure.sets.items, solved.2) (c.in-Err.ensures.stop c.in-Err.fault refl other) (e ∙ ap (λ n. stop_outcome n c.in-Err.fault) number))

@@ -1,8 +1,8 @@
 use Rattle.std.proofs.Common.{◌≡◌, ◌+◌, ap, arith, length, refl, subst, suc, ◌∙◌}
 use Rattle.std.proofs.lemmas.Result.{IfOk-weaker}
 use Rattle.re_chains.proofs.WordsGiven.{both_ok}
+use Rattle.re_given_words.proofs.EndNumbers.{some_number}
 use Rattle.re_closure.proofs.GivenWithin.{closed_within, next_given, open_within, stop_given}
-use Rattle.re_closure.proofs.Within.{positive}
 use Rattle.re_closure.specs.ClosureWords.{stop_outcome}
 use Rattle.re_closure.specs.GivenClosures.{Closes}
 use Rattle.re_frame.specs.Outcomes.{outcome_of}
@@ -18,12 +18,12 @@ returns-then-more-eq0 t c =
 pub returns-in-Ok : goal.returns-in-Ok
 returns-in-Ok t c =
     IfOk-weaker c.closure_output.result _ _
-    (λ output may. next_given c.args.input.now c.args.chain.now.certificate c.args.more c.in-Open.output c.in-Ok.next.certificate (outcome_of output) (positive c.args.more c.if-more-eq0.false)
+    (λ output may. next_given c.args.input.now c.args.chain.now.certificate c.args.more c.in-Open.output c.in-Ok.next.certificate (outcome_of output) (some_number c.args.more c.if-more-eq0.false)
     (subst (Closes c.args.input.now c.args.chain.now.certificate) c.in-Open.is c.in_ok-output.ensures) c.in-Ok.ensures.none c.in-Ok.ensures.stepped may) c.closure_output.ensures
 
 pub returns : goal.returns
 returns t c =
     let number : length c.steps.result.now + 1 ≡ suc (length c.args.chain.now.certificate.steps) = (let same = ap length c.steps.ensures.steps in omega (arith, same)) in
     both_ok _ _ _ c.stop_output.result c.stop_output.ensures.told c.stop_output.ensures.not_memory
-    (λ output e other. stop_given c.args.input.now c.args.chain.now.certificate c.args.more c.in-Open.output c.in-Err.fault (outcome_of output) (positive c.args.more c.if-more-eq0.false)
+    (λ output e other. stop_given c.args.input.now c.args.chain.now.certificate c.args.more c.in-Open.output c.in-Err.fault (outcome_of output) (some_number c.args.more c.if-more-eq0.false)
     (subst (Closes c.args.input.now c.args.chain.now.certificate) c.in-Open.is c.in_ok-output.ensures) (c.in-Err.ensures.stop c.in-Err.fault refl other) (e ∙ ap (λ n. stop_outcome n c.in-Err.fault) number))

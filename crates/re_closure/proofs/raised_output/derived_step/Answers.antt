@@ -8,9 +8,10 @@ use Rattle.re_labels.specs.Lists.{count_from}
 use Rattle.re_problem.specs.NamedProblems.{NamedProblem, unnamed}
 use Rattle.re_problem.specs.Steps.{IsRelaxed}
 use Rattle.re_closure.proofs.RaisedProblems.{raised-relaxed}
-use Rattle.re_closure.proofs.RaisedWithin.{own_image, own_relaxed}
+use Rattle.re_closure.proofs.RaisedWithin.{own_relaxed}
 use Rattle.re_closure.specs.Diagrams.{raised}
 use Rattle.re_closure.proofs.raised_output.derived_step.Goals as goal
+use Rattle.re_closure_laws.proofs.Itself.{own_image}
 
 pub relaxed_step-requires-clause-count : goal.relaxed_step-requires-clause-count
 relaxed_step-requires-clause-count c =

@@ -1,17 +1,19 @@
 use Rattle.std.proofs.Common.{◌++◌, ap, ◌∙◌}
+use Rattle.re_flexible_words.specs.Words.{flexible_help}
 use Rattle.re_given_words.specs.Words.{given_help}
 use Rattle.re_graph_words.specs.Words.{graph_help}
 use Rattle.re_inputs.specs.InputWords.{input_help}
 use Rattle.re_settle.specs.Words.{settle_help}
 use Rattle.re_explore.specs.Commands.{problem_lines}
-use Rattle.re_explore.proofs.Said.{joined_five}
+use Rattle.re_explore.proofs.Said.{joined_six}
 use Rattle.re_explore.proofs.command.push_problem_lines.Goals as goal
 
 pub returns : goal.returns
-unfolding problem_lines given_help graph_help input_help settle_help
+unfolding problem_lines flexible_help given_help graph_help input_help settle_help
 returns c =
     let first = c.in_ok-push_words.ensures ∙ ap (λ t. c.args.text.now.items ++ t) c.settle_help.ensures in
-    let graph_part = c.in_ok-push_words-2.ensures ∙ ap (λ t. c.push_words.new.text.items ++ t) c.graph_help.ensures ∙ ap (λ t. t ++ graph_help) first in
-    let given_part = c.in_ok-push_words-3.ensures ∙ ap (λ t. c.push_words-2.new.text.items ++ t) c.given_help.ensures ∙ ap (λ t. t ++ given_help) graph_part in
-    let input_part = c.in_ok-push_words-4.ensures ∙ ap (λ t. c.push_words-3.new.text.items ++ t) c.input_help.ensures ∙ ap (λ t. t ++ input_help) given_part in
-    input_part ∙ joined_five c.args.text.now.items settle_help graph_help given_help input_help
+    let flexible_part = c.in_ok-push_words-2.ensures ∙ ap (λ t. c.push_words.new.text.items ++ t) c.flexible_help.ensures ∙ ap (λ t. t ++ flexible_help) first in
+    let graph_part = c.in_ok-push_words-3.ensures ∙ ap (λ t. c.push_words-2.new.text.items ++ t) c.graph_help.ensures ∙ ap (λ t. t ++ graph_help) flexible_part in
+    let given_part = c.in_ok-push_words-4.ensures ∙ ap (λ t. c.push_words-3.new.text.items ++ t) c.given_help.ensures ∙ ap (λ t. t ++ given_help) graph_part in
+    let input_part = c.in_ok-push_words-5.ensures ∙ ap (λ t. c.push_words-4.new.text.items ++ t) c.input_help.ensures ∙ ap (λ t. t ++ input_help) given_part in
+    input_part ∙ joined_six c.args.text.now.items settle_help flexible_help graph_help given_help input_help

@@ -1,7 +1,7 @@
 use Rattle.std.proofs.Common.{◌≡◌, ◌∙◌, ◌+◌, ◌<◌, ◌⊎◌, ℕ, [], ap, length, subst, sym, take}
 use Rattle.std.specs.List.{AllByRecursion}
 use Rattle.std.specs.Prelude.{◌↔◌}
-use Rattle.re_labels.specs.Sets.{within}
+use Rattle.re_labels.proofs.Tests.{not_told}
 use Rattle.re_labels.specs.declared.TheConstants.{MAX_LABELS}
 use Rattle.re_table.proofs.Walked.{walked-all, walked-more}
 use Rattle.re_flexible.proofs.Joining.{JoinedIn, joined_all, joined_more, joined_none, joined_past, refilled}
@@ -14,7 +14,7 @@ loop-config-init c = (
   record {
     left = c.into_iter-config-iterator.ensures.into_iter_gives ∙ c.configs-config-items.ensures;
     count = c.nothing-table.ensures.count;
-    joined = joined_none c.args.set c.nothing-table.result.items c.nothing-table.ensures.nothing;
+    joined = joined_none c.args.sets.now c.nothing-table.result.items c.nothing-table.ensures.nothing;
   },
 )
 
@@ -24,8 +24,8 @@ note-requires c = record {
   below = subst (AllByRecursion (λ label. label < MAX_LABELS)) (sym c.labels.ensures.labels) c.labels.ensures.config.below;
 }
 
-pub loop-config-preserved-then-within : goal.loop-config-preserved-then-within
-loop-config-preserved-then-within c =
+pub loop-config-preserved-then-is_of_one : goal.loop-config-preserved-then-is_of_one
+loop-config-preserved-then-is_of_one c =
     let place = c.loop-config.invariant.0 in
     let so_far = c.loop-config.invariant.1 in
     let config = c.in-Some.config.now in
@@ -40,9 +40,9 @@ loop-config-preserved-then-within c =
       record {
         left = step.2;
         count = ap length whole ∙ kept ∙ so_far.count;
-        joined = subst (λ t. (x y : ℕ) → Relates t x y ↔ JoinedIn (take (place + 1) c.args.constraint.now.configs) c.args.set x y) (sym whole)
-            (joined_more c.args.constraint.now.configs place config c.args.set c.loop-config.table.items c.note.new.table step.0 step.1
-            (ap (λ s. within s c.args.set) (sym c.support.ensures) ∙ sym c.within.ensures ∙ c.if-within.true) so_far.joined noted);
+        joined = subst (λ t. (x y : ℕ) → Relates t x y ↔ JoinedIn (take (place + 1) c.args.constraint.now.configs) c.args.sets.now x y) (sym whole)
+            (joined_more c.args.constraint.now.configs place config c.args.sets.now c.loop-config.table.items c.note.new.table step.0 step.1
+            (c.is_of_one.ensures.0 c.if-is_of_one.true) so_far.joined noted);
       },
     )
 
@@ -56,8 +56,8 @@ loop-config-preserved c =
       record {
         left = step.2;
         count = so_far.count;
-        joined = joined_past c.args.constraint.now.configs place config c.args.set c.loop-config.table.items step.0 step.1
-            (ap (λ s. within s c.args.set) (sym c.support.ensures) ∙ sym c.within.ensures ∙ c.if-within.false) so_far.joined;
+        joined = joined_past c.args.constraint.now.configs place config c.args.sets.now c.loop-config.table.items step.0 step.1
+            (not_told c.is_of_one.result c.is_of_one.ensures c.if-is_of_one.false) so_far.joined;
       },
     )
 
@@ -65,5 +65,5 @@ pub returns-clause-joins : goal.returns-clause-joins
 returns-clause-joins c =
     let place = c.loop-config.invariant.0 in
     let so_far = c.loop-config.invariant.1 in
-    joined_all MAX_LABELS c.args.constraint.now c.args.set c.loop-config.table.items place c.degree-degree.ensures.constraint
+    joined_all MAX_LABELS c.args.constraint.now c.args.sets.now c.degree-degree.ensures.constraint c.requires.apart c.loop-config.table.items place
     (walked-all c.args.constraint.now.configs place [] (sym so_far.left ∙ c.in-None.ensures.steps.0)) so_far.joined

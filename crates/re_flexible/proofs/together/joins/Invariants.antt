@@ -9,5 +9,5 @@ abbrev pub invariant-loop-config : goal.invariant-loop-config
 invariant-loop-config l = (place : ℕ) × record {
   left : l.config-iterator ≡ drop place l.constraint.configs;
   count : length l.table.items ≡ MAX_LABELS;
-  joined : (x y : ℕ) → Relates l.table.items x y ↔ JoinedIn (take place l.constraint.configs) l.set x y;
+  joined : (x y : ℕ) → Relates l.table.items x y ↔ JoinedIn (take place l.constraint.configs) l.sets x y;
 }

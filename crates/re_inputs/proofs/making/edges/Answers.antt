@@ -1,10 +1,11 @@
-use Rattle.std.proofs.Common.{◌≡◌, ◌≤◌, ◌∙◌, arith, sym, subst, None}
+use Rattle.std.proofs.Common.{◌≡◌, arith, sym, subst, None}
 use Rattle.re_families.specs.Families.{out_of_range}
 use Rattle.re_families.specs.declared.types.Family.TheVariants as family
-use Rattle.re_inputs.proofs.NamedProofs.{colouring_in, degree_range, degrees_of, edge_range}
+use Rattle.re_inputs.proofs.NamedProofs.{colouring_in, degrees_of, edge_range}
 use Rattle.re_inputs.specs.NamedInputs.{edge_colours}
 use Rattle.re_inputs.specs.declared.kinds.InputKind.TheVariants.{Edges}
 use Rattle.re_inputs.proofs.making.edges.Goals as goal
+use Rattle.re_families.proofs.Whole.{degree_range}
 
 pub family_problem-requires : goal.family_problem-requires
 family_problem-requires c =

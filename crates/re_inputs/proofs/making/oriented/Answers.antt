@@ -1,12 +1,13 @@
 use Rattle.std.proofs.Common.{◌∙◌, ap, subst}
 use Rattle.re_families.specs.Families.{family_of}
 use Rattle.re_families.specs.declared.types.Family.TheVariants as family
-use Rattle.re_inputs.proofs.NamedProofs.{degree_range, degrees_of, named_is, oriented_named, orientation_in}
+use Rattle.re_inputs.proofs.NamedProofs.{degrees_of, named_is, oriented_named, orientation_in}
 use Rattle.re_inputs.specs.NamedInputs.{oriented}
 use Rattle.re_labels.specs.Names.{IsNames}
 use Rattle.re_problem.specs.NamedProblems.{NamedProblem}
 use Rattle.re_inputs.specs.declared.kinds.InputKind.TheVariants.{Orientation}
 use Rattle.re_inputs.proofs.making.oriented.Goals as goal
+use Rattle.re_families.proofs.Whole.{degree_range}
 
 pub family_problem-requires : goal.family_problem-requires
 family_problem-requires c =

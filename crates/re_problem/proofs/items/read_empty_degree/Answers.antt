@@ -1,6 +1,6 @@
 use Rattle.std.proofs.Common.{◌∙◌, ◌<◌, ap, arith, sym}
 use Rattle.re_problem.specs.Items.{degree_word}
-use Rattle.re_problem.proofs.Words.{next_word, no_percent, no_word, percent, two_words}
+use Rattle.re_problem.proofs.WordLemmas.{next_word, no_percent, no_word, percent, two_words}
 use Rattle.re_problem.proofs.items.read_empty_degree.Goals as goal
 
 pub returns-then-from-to : goal.returns-then-from-to

@@ -1,6 +1,6 @@
 use Rattle.std.proofs.Common.{◌≡◌, ◌≤◌, ◌<◌, ◌++◌, ◌∙◌, ap, is_some, length, rules, subst, sym}
 use Rattle.re_problem.specs.Labels.{names_or_none, text_names}
-use Rattle.re_problem.proofs.Words.{found_item}
+use Rattle.re_problem.proofs.WordLemmas.{found_item}
 use Rattle.re_labels.specs.ListSets.{list_set}
 use Rattle.re_labels.specs.declared.name_list.NamesFault.TheVariants.{TooMany}
 use Rattle.re_labels.specs.declared.TheConstants.{MAX_LABELS}

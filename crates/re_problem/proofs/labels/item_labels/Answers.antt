@@ -2,7 +2,7 @@ use Rattle.std.proofs.Common.{◌≤◌, ◌∙◌, ap, length, rules, sym}
 use Rattle.std.specs.Option.{option_and_then}
 use Rattle.re_problem.specs.Items.{ItemText}
 use Rattle.re_problem.specs.Labels.{labels_held}
-use Rattle.re_problem.proofs.Words.{found_item}
+use Rattle.re_problem.proofs.WordLemmas.{found_item}
 use Rattle.re_problem.proofs.labels.item_labels.Goals as goal
 
 pub slice_bounds-word-end : goal.slice_bounds-word-end

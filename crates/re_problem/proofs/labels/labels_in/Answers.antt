@@ -3,7 +3,7 @@ use Rattle.std.specs.Prelude.{Contains, slice_range}
 use Rattle.re_problem.proofs.HeldLabels.{label_lacks, label_read, nothing_in_front}
 use Rattle.std.proofs.lemmas.Bool.{false≢true}
 use Rattle.re_problem.specs.Items.{labels_from, labels_of}
-use Rattle.re_labels.proofs.Places.{place_of-below}
+use Rattle.re_labels.proofs.LabelPlaces.{place_of-below}
 use Rattle.re_labels.specs.Lists.{place_of}
 use Rattle.re_problem.proofs.labels.labels_in.Goals as goal
 

@@ -1,5 +1,5 @@
 use Rattle.std.proofs.Common.{sym, arith}
-use Rattle.re_problem.proofs.Words.{next_found}
+use Rattle.re_problem.proofs.WordLemmas.{next_found}
 use Rattle.re_problem.proofs.ReadPairs.{left_power, no_left, no_right, pair_of_items, reads_item, right_power, third_item}
 use Rattle.re_problem.proofs.pairs.read_pair.Goals as goal
 

@@ -1,5 +1,5 @@
 use Rattle.std.proofs.Common.{◌∷◌, ◌++◌, [], arith, sym}
-use Rattle.re_problem.proofs.Words.{items_end, next_found}
+use Rattle.re_problem.proofs.WordLemmas.{items_end, next_found}
 use Rattle.re_problem.proofs.WrittenLines.{all_known, nothing_known, one_known_more}
 use Rattle.re_problem.proofs.written.known_sets.Goals as goal
 

@@ -1,6 +1,6 @@
 use Rattle.std.proofs.Common.{inl, inr, subst}
 use Rattle.std.proofs.lemmas.Result.{IfOk-weaker}
-use Rattle.re_search_words.specs.GivenAnswers.{Refuses}
+use Rattle.re_given_words.specs.Extensions.{Refuses}
 use Rattle.re_search_words.proofs.given.longest_output.Goals as goal
 
 pub returns-in-Some : goal.returns-in-Some

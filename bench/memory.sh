@@ -44,7 +44,7 @@ printf '== from\n[IO]^3\n\nI O\n== to\nA B\n\n[AB]^3\n== map\nA [I]\nB [O]\n' > 
 cat problems/maximal-matching-4.txt family/first.txt > "$folder/bridge.txt"
 printf 'A B\nC D\n\nA B\nC D\n' > "$folder/twice.txt"
 printf 'A^3\nB^2 C\n\nA C\nB^2\n== diagram\nA C\n' > "$folder/diagram.txt"
-for name in sinkless.txt gallery/sinkless-orientation-3.txt; do
+for name in first/sinkless.txt gallery/sinkless-orientation-3.txt; do
     { cat "$name"; printf '== given\n1^3\n2^3\n\n1 2\n'; } > "$folder/given-$(basename "$name")"
 done
 "${CC:-cc}" -O2 -shared -fPIC -o "$folder/refuse.so" "$folder/refuse.c"
@@ -89,36 +89,36 @@ try() {
 # The commands of each program: an input, of the examples or of the folder, and the words.
 commands_of_re() {
     cat <<'END'
-orientation-lower.txt check
-sinkless-fixed.txt check
-orientation-upper.txt check
-colouring-refused.txt check
+first/orientation-lower.txt check
+first/sinkless-fixed.txt check
+first/orientation-upper.txt check
+first/colouring-refused.txt check
 gallery/maximal-independent-set-3-lower.txt check
-sinkless.txt check
-sinkless.txt read
-sinkless-fixed.txt read
-sinkless.txt zero
-sinkless.txt rounds 3
-sinkless.txt step 2
-independent.txt universal
-independent.txt diagram active
-independent.txt diagram passive
-independent.txt merge
+first/sinkless.txt check
+first/sinkless.txt read
+first/sinkless-fixed.txt read
+first/sinkless.txt zero
+first/sinkless.txt rounds 3
+first/sinkless.txt step 2
+first/independent.txt universal
+first/independent.txt diagram active
+first/independent.txt diagram passive
+first/independent.txt merge
 problems/proposals.txt trim
-sinkless-derived.txt relax
-sinkless-derived.txt rename
+first/sinkless-derived.txt relax
+first/sinkless-derived.txt rename
 restricted.txt restrict
 tables/orientation-by-ports.txt table
 tables/orientation-clash.txt table
 tables/orientation-by-ports.txt faster
 tables/edges.txt slower
-orientation-upper.txt extract
-orientation-run.txt run
+first/orientation-upper.txt extract
+first/orientation-run.txt run
 tables/tree-early.txt run
-sinkless.txt lower 2 0
+first/sinkless.txt lower 2 0
 problems/orientation.txt upper 1 0
-sinkless.txt upper 1 0
-sinkless.txt fixed 2 0
+first/sinkless.txt upper 1 0
+first/sinkless.txt fixed 2 0
 /dev/null family mis 3 2 0
 /dev/null make 3
 /dev/null make 12
@@ -128,31 +128,31 @@ END
 
 commands_of_explore() {
     cat <<'END'
-sinkless.txt begin lower
-orientation-lower.txt last
-sinkless.txt step
+first/sinkless.txt begin lower
+first/orientation-lower.txt last
+first/sinkless.txt step
 gallery/maximal-independent-set-3-lower.txt tidy
-colouring-refused.txt why
-independent.txt longest 2 6
-sinkless.txt cycle 3 0 100
+first/colouring-refused.txt why
+first/independent.txt longest 2 6
+first/sinkless.txt cycle 3 0 100
 gallery/two-colouring-3.txt closure
 diagram.txt closure
 bridge.txt bridge
 family/itself.txt bridge
 twice.txt reduce
-sinkless.txt settle
+first/sinkless.txt settle
 problems/orientation.txt shortest 2 4
-sinkless.txt merge I O
-sinkless.txt cover 2
+first/sinkless.txt merge I O
+first/sinkless.txt cover 2
 gallery/three-colouring-2-graph.txt solve
 given-sinkless.txt fit
 given-sinkless.txt rounds 2
 given-sinkless.txt product
 given-sinkless-orientation-3.txt given
 /dev/null input edges 3 2
-sinkless.txt describe
+first/sinkless.txt describe
 gallery/maximal-matching-4-lower.txt describe
-colouring-refused.txt describe
+first/colouring-refused.txt describe
 END
 }
 

@@ -7,7 +7,8 @@
 # Run it whenever a page, a file that it reads or a file of rows has changed: it writes the number of rows into crates/rows/stdout.
 # It needs no built program.
 # Taken are the lines `$ re WORDS < FILE` and `$ re WORDS < FILE | re WORDS` of the blocks ```console, also without a file, with `explore` in
-# place of any `re`. Lines with other programs are run by session.sh alone. The exit code follows from the first line of the answer.
+# place of any `re`. Lines with other programs are run by session.sh alone. The exit code follows from the first line of the answer,
+# and where that is `no solution` from the word.
 set -eu
 cd "$(dirname "$0")/.."
 
@@ -31,8 +32,10 @@ rows_of() {
             return name
         }
 
-        function code_of(line) {
-            if (line ~ /^(no|no: .*|not found: .*|refused: .*)$/) return 1
+        # `no solution` is No of `flexible`, and Done of `settle`.
+        function code_of(line, words) {
+            if (line ~ /^(no|no: .*|not found: .*|not flexible: .*|refused: .*)$/) return 1
+            if (line == "no solution") return words ~ /explore flexible$/
             if (line ~ /^limit: /) return 4
             if (line ~ /^input: /) return 3
             if (line ~ /^words: /) return 2
@@ -59,7 +62,7 @@ rows_of() {
             if (file) print "@1 " name
             while (shown && answer[shown] == "") shown--
             for (i = 1; i <= shown; i++) print ">" answer[i]
-            print "=" code_of(answer[1]) "\n"
+            print "=" code_of(answer[1], words) "\n"
         }
 
         !inside && /^## / { print "# " substr($0, 4) ".\n"; next }

@@ -45,7 +45,7 @@ def claim_of(lower, upper, graph):
 
 def with_bounds(line, bounds):
     """The line of a problem between two bounds, or with a lower one alone, and with those of its certificates."""
-    number, problem, claim, by, *_ = line
+    number, problem, claim, by, known_class, shown = line
     lower, upper = (re.search(words + r" (\d+)", claim) for words in ("more than", "at most"))
     if not lower:
         sys.exit(f"{number}: nothing is open: {claim}")
@@ -54,8 +54,9 @@ def with_bounds(line, bounds):
         if known[kind] is None or (bound > known[kind] if kind == "lower" else bound < known[kind]):
             known[kind], words[kind] = bound, name
     claims = [claim_of(*known.values(), graph) for graph in ("rounds of the graph" in claim, False)]
-    return [number, problem, claims[0], "; ".join(words[kind] for kind in KINDS if kind in words),
-            ("constant, " if known["upper"] else "") + claims[1], ""]
+    most = re.search(", at most order.*|$", known_class)[0]
+    classes = [claims[1] + most, shown] if known["upper"] is None else [f"constant, {claims[1]}", ""]
+    return [number, problem, claims[0], "; ".join(words[kind] for kind in KINDS if kind in words), *classes]
 
 
 def main(words):

@@ -1,5 +1,5 @@
 #!/bin/sh
-# Draws 200 lines of the tables by a fixed rule, runs the words that they name, and has `re check` or `explore solve` judge what these give, where it is no number of rounds.
+# Draws 200 lines of the tables by a fixed rule, runs the words that they name, and has `re check` or `explore solve` judge what these give, where it is no number of rounds or levels.
 #
 #     examples/catalogue/check.sh RE EXPLORE [TABLE..]
 #
@@ -34,6 +34,7 @@ wanted() {
         *) echo "accepted: not solvable in $(echo "$1" | sed 's/^more than //; s/[ ,].*//') or fewer rounds";;
         esac;;
     'explore cover '*) echo 'no: no solution on this graph, so not solvable in any number of rounds';;
+    'explore flexible') echo 'not flexible: length 1';;
     *) echo 'accepted: not solvable in any number of rounds';;
     esac
 }
@@ -51,6 +52,7 @@ judged() {
     're zero') run_words "$2" < "$1" | sed 's/^yes: .*/yes/';;
     'explore rounds '*) run_words "$2" < "$1" | sed 's/,.*//';;
     'explore cover '*) run_words "$2" < "$1" | "$explore" solve;;
+    'explore flexible') run_words "$2" < "$1";;
     certificates/*) held "$1" "$2";;
     *) run_words "$2" < "$1" | "$re" check;;
     esac

@@ -6,7 +6,8 @@
 # TABLE is one that settle.sh made. GIVEN becomes one line for each of its problems, in the same order, with tabs between: its number, and
 # what is known given `both`, `sides`, `edges` and `colouring` with 4 colours, in hops: what `explore settle` answers, `never` for what is
 # not solvable in any number of rounds, or `?`; or `never` where `explore given` accepts the fixed point that the table's words find, which
-# comes first. What 0 hops solve alone they solve given anything.
+# comes first; where the table names `explore flexible`, that of `re fixed 4 0`, or else of `explore closure`. What 0 hops solve alone they
+# solve given anything.
 # `-`: there is no such input problem, as sides where passive nodes have another degree than 2.
 #
 # Parts, a run that was broken off, and other machines: as for settle.sh, in the folder GIVEN.parts.
@@ -36,7 +37,13 @@ line() {
     : > "$folder/fixed"
     case $3 in
     'exactly 0'*) printf '%s\texactly 0\texactly 0\texactly 0\texactly 0\n' "$1"; return;;
-    not*) case $4 in 'explore cover'*) ;; *) run_words "$4" < "$folder/problem" > "$folder/fixed";; esac;;
+    not*)
+        case $4 in
+        'explore cover'*) ;;
+        'explore flexible')
+            "$re" fixed 4 0 < "$folder/problem" > "$folder/fixed" || "$explore" closure < "$folder/problem" > "$folder/fixed" || : > "$folder/fixed";;
+        *) run_words "$4" < "$folder/problem" > "$folder/fixed";;
+        esac;;
     esac
     active=${2%% *} passive=${2##* }
     degrees="${#active} ${#passive}"

@@ -5,7 +5,7 @@
 #
 # EXPLORE is the program, LIST what problems.py prints, or some lines of it. TABLE becomes one line for each, in the same order, with tabs
 # between: its number, the problem, the first line of the answer, the words that show it, with `; ` between, and what is known with unique
-# identifiers and the words that show that, if further ones do.
+# identifiers and the words that show that, if further ones do, behind what the literature says, if anything.
 #
 # The list is cut into parts of 50 problems, in the folder TABLE.parts. A run that was broken off goes on with the parts that are left,
 # by the log of jobs in there. With `--sshloginfile FILE` among the options other machines take parts too (the manual of GNU parallel says

@@ -35,8 +35,11 @@ has `re check` judge what they name; `summary.py` wrote this page from the table
 
 A table holds a line for each problem: its number, its active and passive configurations, the first line of the answer (in hops, and in rounds of
 the graph where passive nodes are edges), the words that show it, the class with unique identifiers, and the words that show this. The answer is for
-nodes that know nothing but port numbers, on trees; the class is for nodes with unique identifiers below N, as N grows: `constant`, `order log* N`,
-`at least order log* N` (log* N less a constant) and `at least order log N`, beyond which this model tells nothing apart. Both are proved of what `settle` says.
+nodes that know nothing but port numbers, on trees; the class is for nodes with unique identifiers below N, as N grows, on infinite trees and on finite
+forests of N nodes: `constant`, `order log* N`, `order log N`, `order N`, or a bound below and one above, of which `at least order log* N` is less a
+constant. An *at least* holds of problems of higher orders, too; which it is, no column says. Bounds above of the order of log N, or of log* N on paths,
+are those of a flexible set of labels, on finite forests: `explore flexible` finds one; `flexible.py` decides it by the definitions, knowing nothing
+else. All is proved of what `settle` says; where bounds come from certificates, `certificates.py` writes them, as `re check` accepts these.
 What is solved in k hops may use the orientation of each edge that its ports give; from unique identifiers one comes in a round.
 
 Bounds that no words find stand in `certificates.tar.xz`, and `certificates.py` puts them into the table. An upper one goes from a derived
@@ -78,8 +81,8 @@ def words_of(by):
 
 
 def class_of(known):
-    """The class with identifiers, without numbers of rounds; what no class is known of is open."""
-    return "open" if known.startswith("more than") and "constant" not in known else known.split(",")[0]
+    """The class with identifiers, without numbers of rounds; of what no bound below but a number of rounds is known, it is open."""
+    return "constant" if known.startswith("constant") else re.sub(r"^more than \d+", "open", known)
 
 
 def by_kind(lines):
@@ -146,11 +149,11 @@ def binary_part(tables):
     yield "that each problem of 2 labels on trees has, for deterministic algorithms with unique identifiers, one of the complexities O(1), Θ(log n)"
     yield "and Θ(n), or is unsolvable; none lies between O(1) and Θ(log n). Here each is solvable in exactly 0 or 1 hops, or in no number of rounds,"
     yield "and none is open. In all tables the first are those where one side allows everything, or one label alone may stand everywhere: such"
-    yield "a problem is O(1) there too. Each of the others is at least of order log N with unique identifiers, by a fixed point: O(1) and constant,"
-    yield "and the rest and at least order log N, are the same."
+    yield "a problem is O(1) there too. Each of the others is here of order log N with unique identifiers, by a fixed point and a flexible set of labels, or"
+    yield "of order N, since it has one level of labels alone; a problem without a solution is in no table, since each label stands on both sides."
     yield ""
-    yield "| Degrees | Problems | exactly 0 | exactly 1 | constant | at least order log N | open | one side whole, or one label alone |"
-    yield "|---|---|---|---|---|---|---|---|"
+    yield "| Degrees | Problems | exactly 0 | exactly 1 | constant | order log N | order N | open | one side whole, or one label alone |"
+    yield "|---|---|---|---|---|---|---|---|---|"
     for path, lines in tables:
         _, active, passive = title_of(path)
         kinds = collections.Counter(kind_of(it[2]) for it in lines)
@@ -158,9 +161,9 @@ def binary_part(tables):
         constant = {it[0] for it in lines if is_constant(it[1])}
         solved = {it[0] for it in lines if class_of(it[4]) == "constant"}
         same = "the same problems as those that are constant" if constant == solved else f"differs: {sorted(constant ^ solved, key=int)}"
-        open_ones = len(lines) - classes["constant"] - classes["at least order log N"]
+        open_ones = len(lines) - classes["constant"] - classes["order log N"] - classes["order N"]
         yield (f"| {active}, {passive} | {len(lines)} | {kinds['exactly 0']} | {kinds['exactly 1']} | {classes['constant']} | "
-               f"{classes['at least order log N']} | {open_ones} | {len(constant)}: {same} |")
+               f"{classes['order log N']} | {classes['order N']} | {open_ones} | {len(constant)}: {same} |")
     yield ""
 
 
@@ -171,8 +174,8 @@ def paths_part(tables):
     yield "## Paths, beside their classification by automata"
     yield ""
     yield "On paths (active and passive nodes of degree 2) the class of a problem can be read off an automaton (Chang, Studený and Suomela, Distributed"
-    yield "graph problems through an automata-theoretic lens, SIROCCO 2021): `paths.py` does so, knowing no step and no certificate. `order N` and"
-    yield "`unsolvable` count as at least order log N here. How many problems have which class by the automaton and by `settle`:"
+    yield "graph problems through an automata-theoretic lens, SIROCCO 2021): `paths.py` does so, knowing no step, no certificate and no level of labels."
+    yield "How many problems have which class by the automaton and by `settle`:"
     yield ""
     yield "| Labels | By the automaton | By `settle`, with unique identifiers | Problems |"
     yield "|---|---|---|---|"

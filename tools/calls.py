@@ -1,9 +1,9 @@
 #!/usr/bin/env python3
 """The public calls of crates, and whether docs/CONTRACTS.md names such.
 
-    docs/calls.py              prints each crate without an item, each item without a crate, and each name behind **By** that is no public
+    tools/calls.py              prints each crate without an item, each item without a crate, and each name behind **By** that is no public
                                call, type or constant of its crate, nor, as `CRATE::NAME`, of the crate that it names
-    docs/calls.py CRATE ..     prints the public calls of the crates, each with the first sentence that stands above it
+    tools/calls.py CRATE ..     prints the public calls of the crates, each with the first sentence that stands above it
 """
 import os
 import re

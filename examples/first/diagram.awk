@@ -1,6 +1,6 @@
 # Turns what `diagram active` or `diagram passive` prints into a text for Graphviz, which draws it:
 #
-#     PROGRAM diagram passive < PROBLEM | awk -f examples/diagram.awk | dot -Tsvg > PICTURE.svg
+#     PROGRAM diagram passive < PROBLEM | awk -f examples/first/diagram.awk | dot -Tsvg > PICTURE.svg
 #
 # A box is a class of labels that are equally strong; an arrow leads to the next stronger one.
 BEGIN { print "digraph diagram {\n    rankdir=BT\n    node [shape=box, style=rounded]" }

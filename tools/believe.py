@@ -1,12 +1,12 @@
 #!/usr/bin/env python3
 """What a reader has to believe, computed from the contracts and specs.
 
-    docs/believe.py            prints the lists, as Markdown
-    docs/believe.py --check    says whether docs/DEFINITIONS.md has exactly them between its two marks
-    docs/believe.py --write    writes them there
-    docs/believe.py --names    prints the definitions of each group by name, with the lines that each has
-    docs/believe.py --table CRATE ..   prints the definitions of the crates as Markdown tables: each with the line that stands above it
-    docs/believe.py --missing  prints the definitions that a contract of a public call names and that no line in words stands above
+    tools/believe.py            prints the lists, as Markdown
+    tools/believe.py --check    says whether docs/DEFINITIONS.md has exactly them between its two marks
+    tools/believe.py --write    writes them there
+    tools/believe.py --names    prints the definitions of each group by name, with the lines that each has
+    tools/believe.py --table CRATE ..   prints the definitions of the crates as Markdown tables: each with the line that stands above it
+    tools/believe.py --missing  prints the definitions that a contract of a public call names and that no line in words stands above
 
 A group begins with the definitions that some clauses name, and takes in each definition that stands in the text of one that it has: definition
 by definition, not whole modules. What an earlier group has isn't counted again. Lines are those of the definitions, without comments and empty
@@ -17,7 +17,8 @@ import re
 import sys
 import textwrap
 
-TOP = os.path.dirname(os.path.dirname(os.path.abspath(__file__)))
+# The checkout, another one where contracts.py loads this file for it.
+TOP = globals().get("CHECKOUT") or os.path.dirname(os.path.dirname(os.path.abspath(__file__)))
 PAGE = os.path.join(TOP, "docs", "DEFINITIONS.md")
 BEGIN = "<!-- What follows is written by believe.py: begin -->"
 END = "<!-- written by believe.py: end -->"
@@ -51,14 +52,14 @@ GROUPS = [
     ),
     (
         "What runs",
-        "the second half of the headline, what `answer` of `re_cli::run` adds for the word `run`, with `re_words::passive_nodes`, `re_runs::run_net` "
-        "and the laws `re_runs::passive_law`, `re_laws::extract_law` and `re_check::upper_law`: finite trees, messages, the text of an input, and "
+        "the second half of the headline, what `answer` of `re_cli::run` adds for the word `run`, with `re_words::passive_nodes`, `re_net::run_net` "
+        "and the laws `re_net::passive_law`, `re_laws::extract_law` and `re_check::upper_law`: finite trees, messages, the text of an input, and "
         "the algorithm of an upper bound.",
         [
             ("re_cli", "run", ["answer"]),
             ("re_words", "passive_nodes", None),
-            ("re_runs", "run_net", None),
-            ("re_runs", "passive_law", None),
+            ("re_net", "run_net", None),
+            ("re_net", "passive_law", None),
             ("re_laws", "extract_law", None),
             ("re_check", "upper_law", None),
         ],
@@ -84,20 +85,20 @@ GROUPS = [
     ),
     (
         "With few rounds, or few colours",
-        "what `re_ordered::gap_law`, `beyond_ports_law`, `re_few_colours::few_colours_local_law` and `re_input_laws::few_edge_colours_local_law` add: "
+        "what `re_ordered::gap_law`, `beyond_ports_law`, `re_local::few_colours_local_law` and `re_given_bounds::few_edge_colours_local_law` add: "
         "towers of twos, and colourings of nodes and edges as input problems.",
         [
             ("re_ordered", "gap_law", None),
             ("re_ordered", "beyond_ports_law", None),
-            ("re_few_colours", "few_colours_local_law", None),
-            ("re_input_laws", "few_edge_colours_local_law", None),
+            ("re_local", "few_colours_local_law", None),
+            ("re_given_bounds", "few_edge_colours_local_law", None),
         ],
         [],
     ),
     (
         "Classes",
         "what `re_classes::constant_law`, `nothing_between_law`, `order_log_star_law` and `apart_law`, `re_given_bounds::class_law` and `no_two_classes_law`, "
-        "`re_input_laws::order_edge_coloured_law`, `order_both_coloured_law` and `no_edge_coloured_law`, and "
+        "`re_given_bounds::order_edge_coloured_law`, `order_both_coloured_law` and `no_edge_coloured_law`, and "
         "`re_local::nodes_seen_law` and `no_room_law` add: classes, and how many nodes a node sees.",
         [
             ("re_classes", "constant_law", None),
@@ -106,11 +107,36 @@ GROUPS = [
             ("re_classes", "apart_law", None),
             ("re_given_bounds", "class_law", None),
             ("re_given_bounds", "no_two_classes_law", None),
-            ("re_input_laws", "order_edge_coloured_law", None),
-            ("re_input_laws", "no_edge_coloured_law", None),
-            ("re_input_laws", "order_both_coloured_law", None),
+            ("re_given_bounds", "order_edge_coloured_law", None),
+            ("re_given_bounds", "no_edge_coloured_law", None),
+            ("re_given_bounds", "order_both_coloured_law", None),
             ("re_local", "nodes_seen_law", None),
             ("re_local", "no_room_law", None),
+        ],
+        [],
+    ),
+    (
+        "On finite forests",
+        "what the laws of classes of `re_forests` (`constant_law`, `paths_law`, `apart_law` and their neighbours), those of `re_gap` and "
+        "`re_flexible::flexibility_of` add: forests, local algorithms on them, flexible and trimmed sets, levels, and the classes.",
+        [
+            ("re_forests", "constant_law", None),
+            ("re_forests", "nothing_between_law", None),
+            ("re_forests", "below_log_star_law", None),
+            ("re_forests", "below_log_law", None),
+            ("re_forests", "below_linear_law", None),
+            ("re_forests", "above_linear_law", None),
+            ("re_forests", "never_law", None),
+            ("re_forests", "above_law", None),
+            ("re_forests", "below_law", None),
+            ("re_forests", "paths_law", None),
+            ("re_forests", "apart_law", None),
+            ("re_gap", "gap_law", None),
+            ("re_gap", "not_flexible_law", None),
+            ("re_gap", "between_logs_law", None),
+            ("re_gap", "flexible_law", None),
+            ("re_gap", "above_log_on_views_law", None),
+            ("re_flexible", "flexibility_of", None),
         ],
         [],
     ),
@@ -119,10 +145,10 @@ GROUPS = [
         "what `GoesOn` and `IsTextOf` add, and given an input problem `GoesOnGiven` and `IsGivenText`, which say what the text of a chain or of a bound "
         "that was found is worth, beside the outcomes of `check` and `given`.",
         [
-            ("re_extend", "Extensions.GoesOn", None),
-            ("re_chain_texts", "OverChains.IsTextOf", None),
+            ("re_shaping", "Extensions.GoesOn", None),
+            ("re_chains", "OverChains.IsTextOf", None),
             ("re_given_words", "Extensions.GoesOnGiven", None),
-            ("re_two_texts", "GivenTexts.IsGivenText", None),
+            ("re_chains", "GivenTexts.IsGivenText", None),
         ],
         ["IsTaken"],
     ),
@@ -133,11 +159,12 @@ GROUPS = [
         [
             ("re_settle", "Claims.Holds", None),
             ("re_settle", "Claims.claim_of", None),
-            ("re_settle_given", "Claims.HoldsGiven", None),
-            ("re_settle_given", "Claims.claim_given", None),
+            ("re_settle", "GivenClaims.HoldsGiven", None),
+            ("re_settle", "GivenClaims.claim_given", None),
             ("re_settle", "Classes.HoldsLocal", None),
             ("re_settle", "Classes.ClassHolds", None),
             ("re_settle", "Classes.class_of", None),
+            ("re_settle", "OnForests.ClassOnForests", None),
             ("re_given_words", "Counting.CountMeans", None),
             ("re_given_words", "Meanings.AnswerMeans", None),
             ("re_graph_words", "SolveWords.AnswerMeans", None),
@@ -333,6 +360,7 @@ class Call:
 
     def __init__(self, crate, file, name, header, imports, aliases):
         self.crate, self.file, self.name = crate, file, name
+        self.signature = " ".join(CLAUSE.split(header)[0].split())
         self.clauses = [(match.group(1), match.group(2) or "", braced(header, match.end() - 1)) for match in CLAUSE.finditer(header)]
         self.imports, self.aliases = imports, aliases
 
@@ -518,7 +546,7 @@ def main(words):
         print(f"{len(found)} definitions without a line in words")
     elif words == ["--check"]:
         if page_text()[1].strip() != markdown().strip():
-            sys.exit("docs/DEFINITIONS.md has other lists than docs/believe.py prints: run docs/believe.py --write")
+            sys.exit("docs/DEFINITIONS.md has other lists than tools/believe.py prints: run tools/believe.py --write")
         print("docs/DEFINITIONS.md has these lists")
     elif words == ["--write"]:
         before, _, after = page_text()

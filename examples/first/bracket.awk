@@ -1,6 +1,6 @@
 # Puts brackets around choices that stand without them, as on Round Eliminator's page: M PO becomes M [PO], and PO^2 becomes [PO]^2.
 #
-#     awk -f examples/bracket.awk PROBLEM > NEW
+#     awk -f examples/first/bracket.awk PROBLEM > NEW
 #
 # A word of two labels or more is a choice; a label is one letter or digit, or a name in parentheses, and a power may stand behind it.
 # Every other word stays as it is, and so do section lines.

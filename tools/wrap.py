@@ -1,8 +1,8 @@
 #!/usr/bin/env python3
 """Wraps the pages at 120 columns.
 
-    docs/wrap.py [PAGE ..]           writes paragraphs and items of lists anew, in lines of at most 120 columns
-    docs/wrap.py --check [PAGE ..]   says which lines aren't as they would be written
+    tools/wrap.py [PAGE ..]           writes paragraphs and items of lists anew, in lines of at most 120 columns
+    tools/wrap.py --check [PAGE ..]   says which lines aren't as they would be written
 
 Without pages: README.md, docs/*.md, bench/README.md and the gallery. Code, tables, headings, pictures and comments stay
 as they are. A piece of code in a line and a link aren't parted.
@@ -87,7 +87,7 @@ def main(words):
             continue
         wrong += 1
         if checks:
-            print(f"{name}: run docs/wrap.py")
+            print(f"{name}: run tools/wrap.py")
         else:
             with open(path, "w", encoding="utf-8") as file:
                 file.write(wrapped(page))

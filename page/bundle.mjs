@@ -6,11 +6,11 @@
 import {execFileSync} from 'child_process';
 import {createHash} from 'crypto';
 import {existsSync, readdirSync, readFileSync, writeFileSync} from 'fs';
-import {join} from 'path';
+import {dirname, join} from 'path';
 import {Script} from 'vm';
 import {deflateRawSync} from 'zlib';
 import {pageFolder, programsIn, sourceIn, unpacked} from './held.mjs';
-import {shortTable} from './src/tables.js';
+import {shortTable} from './src/texts/tables.js';
 
 // What the file may hold beside its programs.
 const LARGEST_REST = 370000;
@@ -23,7 +23,7 @@ function modulesBelow(root) {
     const visit = name => {
         if (seen.has(name)) return;
         seen.add(name);
-        for (const [, other] of source(name).matchAll(/^import .*from '\.\/(.+)';$/gm)) visit(other);
+        for (const [, way] of source(name).matchAll(/^import .*from '(\.\.?\/.+)';$/gm)) visit(join(dirname(name), way));
         order.push(name);
     };
     visit(root);
@@ -50,7 +50,7 @@ const textsIn = folder => Object.fromEntries(
         .sort()
         .map(name => [name.replace('.txt', '').replaceAll('-', ' '), readFileSync(join(examples, folder, name), 'utf8')]));
 const examplesHeld = () => ({
-    'Problems': {'independent set': readFileSync(join(examples, 'independent.txt'), 'utf8'), ...textsIn('problems')},
+    'Problems': {'independent set': readFileSync(join(examples, 'first/independent.txt'), 'utf8'), ...textsIn('problems')},
     'Known bounds (certificates and graphs)': textsIn('gallery'),
 });
 
@@ -86,7 +86,7 @@ const parts = {
     'STYLE HASH': sha256(style, 'base64'),
     'MAIN': main,
     'MAIN HASH': sha256(main, 'base64'),
-    'WORKER': safe(scriptOf('worker.js')),
+    'WORKER': safe(scriptOf('engine/worker.js')),
     'EXAMPLES': packed(JSON.stringify(examplesHeld())),
     'PROGRAMS': json(Object.fromEntries(programs.map(({name, wasm}) => [name, packed(wasm)]))),
     'PROGRAMS HELD': programs

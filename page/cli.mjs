@@ -6,7 +6,7 @@
 import {readFileSync, readlinkSync, readSync, writeSync} from 'fs';
 import {basename} from 'path';
 import {html, programsIn, unpacked} from './held.mjs';
-import {runOver} from './src/program.js';
+import {runOver} from './src/engine/program.js';
 
 // The exit codes where a program isn't run at all, and where it breaks off.
 const BAD_WORDS = 2, BROKEN_OFF = 70;

@@ -3,7 +3,7 @@
 #
 #     page/test.sh [PART..]
 #
-# PART is file, program, cli, texts, chains, page, access, damage or large; none: all of them. firefox is a further one, for a machine with
+# PART is file, program, cli, texts, drawn, chains, page, access, damage or large; none: all of them. firefox is a further one, for a machine with
 # Debian's firefox-esr. The programs are $RE and $EXPLORE, or those that
 # `page/build.sh` leaves in page/out, or those that `rt run` leaves in crates/re/out and crates/explore/out. PICTURES=folder keeps the pictures of README. DAMAGED and CHAINS are how many
 # certificates are damaged and chains made. PAUSE is the longest pause in ms that `large` lets pass. JOBS is how
@@ -21,7 +21,7 @@ for tool in node chromium; do
     command -v $tool > /dev/null || { echo "test.sh: Debian's package of $tool is needed" >&2; exit 1; }
 done
 
-[ $# -gt 0 ] || set -- file program cli texts chains page access damage large
+[ $# -gt 0 ] || set -- file program cli texts drawn chains page access damage large
 passed=0 failed=0
 for part in "$@"; do
     test=$part

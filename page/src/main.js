@@ -1,17 +1,17 @@
 // Starts the page.
-import {$, button, element} from './dom.js';
-import {say} from './messages.js';
-import {Engine, Stopped} from './engine.js';
-import {Editor} from './editor.js';
-import {keepTheme, keptTheme} from './keeper.js';
-import {listenToKeys} from './keys.js';
-import {NumberField, numbersOf} from './number_field.js';
-import {openHelpDialog, openTextDialog} from './dialogs.js';
-import {openShareDialog} from './share_dialog.js';
-import {watchJobs} from './jobs_view.js';
-import {unpacked} from './packed.js';
-import {listenToDrops, listenToPastes} from './paste.js';
-import {wordsOfExplore} from './words.js';
+import {$, button, element} from './views/dom.js';
+import {say} from './views/messages.js';
+import {Engine, Stopped} from './engine/engine.js';
+import {Editor} from './dialogs/editor.js';
+import {keepTheme, keptTheme} from './keeping/keeper.js';
+import {listenToKeys} from './views/keys.js';
+import {NumberField, numbersOf} from './dialogs/number_field.js';
+import {openHelpDialog, openTextDialog} from './dialogs/dialogs.js';
+import {openShareDialog} from './dialogs/share_dialog.js';
+import {watchJobs} from './views/jobs_view.js';
+import {unpacked} from './engine/packed.js';
+import {listenToDrops, listenToPastes} from './views/paste.js';
+import {wordsOfExplore} from './engine/words.js';
 import {Workbench} from './workbench.js';
 
 // The programs that the page holds, packed: {name: {module, bytes}}.

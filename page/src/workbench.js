@@ -1,62 +1,101 @@
 // The workbench: the cards, the chain that is shown, and what leads from card to card.
-import {$, copy, download, replace} from './dom.js';
-import {say} from './messages.js';
-import {Cards} from './cards.js';
-import {numberOf, titleOf} from './chains.js';
-import {CardList} from './card_list.js';
-import {Catalogue} from './catalogue_view.js';
-import {CardView} from './card_view.js';
-import {Changes} from './changes.js';
-import {Claim} from './claim.js';
-import {Facts} from './facts.js';
-import {Given} from './given_view.js';
-import {Stopped} from './engine.js';
-import {openCertificateDialog, openNameDialog, openNoteDialog} from './dialogs.js';
-import {Keeper} from './keeper.js';
-import {Notes} from './notes.js';
-import {Parcels} from './parcels.js';
-import {ReportView} from './report_view.js';
-import {firstNumbers} from './search_actions.js';
-import {Settling} from './settling.js';
-import {Tries} from './tries.js';
-import {openTreeDialog} from './tree_dialog.js';
-import {Searches} from './searches.js';
-import {Sessions} from './session_keeper.js';
-import {filledLines, latexOf} from './texts.js';
-import {Tip} from './tip.js';
-import {writtenText} from './judge.js';
+import {$, copy, download, replace} from './views/dom.js';
+import {say} from './views/messages.js';
+import {Cards} from './cards/cards.js';
+import {cardAt, numberOf, titleOf} from './cards/chains.js';
+import {CardList} from './views/card_list.js';
+import {Catalogue} from './views/catalogue_view.js';
+import {CardView} from './views/card_view.js';
+import {Changes} from './cards/changes.js';
+import {Claim} from './views/claim.js';
+import {Facts} from './engine/facts.js';
+import {Given} from './views/given_view.js';
+import {InputNames} from './cards/input_names.js';
+import {Stopped} from './engine/engine.js';
+import {openNameDialog, openNoteDialog} from './dialogs/dialogs.js';
+import {openCertificateDialog} from './dialogs/certificate_dialog.js';
+import {Keeper} from './keeping/keeper.js';
+import {Notes} from './cards/notes.js';
+import {Parcels} from './engine/parcels.js';
+import {ReportView} from './views/report_view.js';
+import {firstNumbers} from './views/search_actions.js';
+import {Settling} from './cards/settling.js';
+import {Tries} from './cards/tries.js';
+import {openTreeDialog} from './dialogs/tree_dialog.js';
+import {Searches} from './cards/searches.js';
+import {Sessions} from './keeping/session_keeper.js';
+import {filledLines, latexOf} from './texts/texts.js';
+import {givenInput} from './texts/inputs.js';
+import {Tip} from './views/tip.js';
+import {writtenText} from './engine/judge.js';
 
 // What may change of a card without another view of it.
 const AMENDED = ['back', 'note', 'title', 'given'];
+// So far from what is seen, cards ask for what they show.
+const NEAR_CARDS = '500px';
 
 export class Workbench {
     // `words` are those of `explore` that the page may offer.
     constructor(engine, words) {
-        this.engine = engine;
-        this.words = words;
-        this.facts = new Facts(engine);
-        this.cards = new Cards(() => this.show());
-        this.views = new Map();
-        this.numbers = firstNumbers();
-        this.tip = new Tip();
-        this.parcels = new Parcels(engine);
+        const facts = new Facts(engine), cards = new Cards(() => this.show()), views = new Map(), names = new InputNames();
+        Object.assign(
+            this, {engine, words, facts, cards, views, names, numbers: firstNumbers(), tip: new Tip(), parcels: new Parcels(engine)});
         this.keeper = new Keeper(this);
-        this.tries = new Tries(this, () => this.keeper.changed());
-        this.notes = new Notes(this, () => this.keeper.changed());
-        this.given = new Given(this);
+        const onKept = () => this.keeper.changed(), otherInput = (view, input) => this.given.otherInput(view, input);
+        this.tries = new Tries({views, otherInput}, onKept);
+        this.notes = new Notes({
+            cards,
+            go: id => this.go(id),
+            otherInput,
+            settled: (view, note) => this.settling.lines(view, note),
+            draw: text => this.settling.draw(text)
+        },
+            onKept);
+        const openText = (text, title) => this.sessions.openText(text, title);
+        this.given = new Given({
+            engine,
+            words,
+            facts,
+            cards,
+            names,
+            refresh: () => this.show(),
+            forThis: job => this.claim.forThis(job),
+            openText,
+            onSaid: fault => this.showGiven(fault)
+        });
         this.claim = new Claim(this);
         this.changes = new Changes(this);
-        this.searches = new Searches(this);
-        this.settling = new Settling(this);
+        const {given, tries, notes} = this;
+        this.searches = new Searches({
+            engine,
+            facts,
+            cards,
+            given,
+            tries,
+            words,
+            append: (card, here, found) => this.found(card, here, found),
+            cover: (card, view, m) => this.settling.cover(card, view, m)
+        });
+        this.settling = new Settling({
+            engine,
+            facts,
+            cards,
+            given,
+            notes,
+            tries,
+            words,
+            searches: this.searches,
+            underNames: (card, view, pairs) => this.changes.underNames(card, view, pairs),
+            openText
+        });
         this.catalogue = new Catalogue(this);
         this.sessions = new Sessions(this);
         this.report = new ReportView(this);
-        this.list = new CardList(this);
-        // Cards ask for what they show once they are near to what is seen.
+        this.list = new CardList({cards, facts, nameOf: card => this.nameOf(card), go: id => this.go(id)});
         this.watcher = new IntersectionObserver(entries => {
             for (const {target, isIntersecting} of entries)
-                if (isIntersecting) [...this.views.values()].find(({node}) => node === target)?.comeNear();
-        }, {rootMargin: '500px'});
+                if (isIntersecting) [...views.values()].find(({node}) => node === target)?.comeNear();
+        }, {rootMargin: NEAR_CARDS});
     }
 
     // ---- The chain.
@@ -94,6 +133,14 @@ export class Workbench {
         this.claim.check(path);
     }
 
+    // What `explore given` said of the chain that is shown; a refusal is told on the card that fails.
+    showGiven(fault) {
+        const path = this.cards.path();
+        for (const card of path) this.view(card).refuseGiven(null);
+        if (fault) this.view(cardAt(path, fault.step)).refuseGiven(fault);
+        this.report.showGiven();
+    }
+
     go(id, isQuiet = false) {
         this.cards.select(id);
         const node = this.views.get(id)?.node;
@@ -113,20 +160,25 @@ export class Workbench {
         return this.add(parent, cards);
     }
 
-    // The same of cards whose problems are learned.
-    add(parent, cards) {
+    // The same of cards whose problems are learned; what `give()` changes is undone with them.
+    add(parent, cards, give = () => {}) {
         if (parent && !this.cards.get(parent.id)) {
             say('The card is gone.');
             return null;
         }
         if (parent) this.view(parent).select([]);
-        const card = this.cards.add(parent?.id ?? null, ...cards);
+        let card;
+        this.cards.change(() => {
+            give();
+            card = this.cards.add(parent?.id ?? null, ...cards);
+        });
         this.go(card.id);
         return card;
     }
 
-    // What a long search found: shown at once where the user still is where it was started, else offered.
-    async found(card, here, what, ...cards) {
+    // What a long search found, `input` being the text of the problem that was given at the card, if one was: shown at once where the user still
+    // is where it was started, else offered.
+    async found(card, here, {what, cards, input, give}) {
         // The user may go elsewhere meanwhile.
         await this.learn(cards);
         if (!this.cards.get(card.id)) {
@@ -134,12 +186,17 @@ export class Workbench {
             return;
         }
         if (this.cards.current === here) {
-            this.add(card, cards);
+            this.add(card, cards, give);
             return;
         }
-        const now = this.cards.current, last = this.cards.add(card.id, ...cards);
-        this.cards.select(now);
-        this.view(this.cards.get(card.id)).note({kind: 'found', what, id: last.id});
+        let last;
+        this.cards.change(() => {
+            const now = this.cards.current;
+            give();
+            last = this.cards.add(card.id, ...cards);
+            this.cards.select(now);
+        });
+        this.view(this.cards.get(card.id)).note({kind: 'found', what, id: last.id, input});
         say(`${what}: found; the cards stand behind problem ${numberOf(this.cards.path(card.id), card)}.`);
     }
 
@@ -171,6 +228,15 @@ export class Workbench {
 
     async copyProblem(card, from) { copy(await writtenText(this.facts, card), from); }
     async copyLatex(card, from) { copy(latexOf(await this.linesOf(card)), from); }
+    async copyReport(card, from) {
+        const {status, text} =
+            await this.engine.ask('explore', ['describe', 'latex'], await writtenText(this.facts, card), {title: 'describe'});
+        if (status === 0) copy(text, from);
+        else say(`explore describe latex: ${text.trim()}`, true);
+    }
+    async copyGiven(card, from) {
+        copy(givenInput(await writtenText(this.facts, card), this.given.at(this.cards.path(card.id), card)), from);
+    }
     async downloadProblem(card, name) { download(`${name}.txt`, await writtenText(this.facts, card)); }
     async toEditor(card) {
         await this.editor.setText(await writtenText(this.facts, card));
@@ -178,6 +244,6 @@ export class Workbench {
     }
     note(card) { openNoteDialog(card.note, note => this.cards.amend(card.id, {note: note || undefined}), card.id); }
     nameChain(card) { openNameDialog(titleOf(card), title => this.cards.amend(card.id, {title: title || undefined}), card.id); }
-    certificate() { openCertificateDialog(this.claim.verdict, this); }
+    certificate() { openCertificateDialog(this, this.claim.verdict, this.given.said); }
     tree() { openTreeDialog(this); }
 }

@@ -88,7 +88,7 @@ async function look(page, user, checks, theme) {
     await page.until(`document.querySelector('.card .tried tr') && engine.tasks.size === 0`);
     await page.click('.card .written summary', 'Tried');
     await faults('what was tried');
-    await user.openText(example('colouring-refused.txt'));
+    await user.openText(example('first/colouring-refused.txt'));
     await page.until(`document.querySelector('.card.failing .fault div div') && ${drawn}`);
     await user.select('A');
     await faults('a refused chain, a label selected');

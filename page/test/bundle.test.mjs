@@ -8,7 +8,7 @@ import {Script} from 'vm';
 import {deflateRawSync} from 'zlib';
 import {checked} from './checks.mjs';
 import {sourceIn, unpacked} from '../held.mjs';
-import {shortTable, wholeTable} from '../src/tables.js';
+import {shortTable, wholeTable} from '../src/texts/tables.js';
 import {catalogueTables, html, namesOfPrograms, pageFolder, wasmOf} from './place.mjs';
 
 const LARGEST_REST = 370000, LARGEST = 1050000;
@@ -43,6 +43,28 @@ await checked('made anew from its sources', checks => {
     rmSync(folder, {recursive: true});
 });
 
+await checked('a table that is not unpacked stops it', checks => {
+    // A program xz that writes all of a table, and then says that it failed.
+    const folder = mkdtempSync(join(tmpdir(), 'page-')), again = join(folder, 'again.html'), real = spawnSync('which', ['xz']).stdout.toString().trim();
+    writeFileSync(join(folder, 'xz'), `#!/bin/sh\n${real} "$@"\nexit 1\n`, {mode: 0o755});
+    writeFileSync(again, text);
+    const {status, stderr} = spawnSync('node', [join(pageFolder, 'bundle.mjs'), again], {env: {...process.env, PATH: `${folder}:${process.env.PATH}`}});
+    checks.check(`its exit code: ${status}`, status !== 0 && stderr.toString().includes('xz'));
+    checks.check('the file is as before', readFileSync(again, 'utf8') === text);
+    rmSync(folder, {recursive: true});
+});
+
+await checked('green is what is accepted, red what is refused', checks => {
+    const style = readFileSync(join(pageFolder, 'src/style.css'), 'utf8');
+    // The hues of both in each of the places where colours are named: light, dark, and paper.
+    const named = name => [...style.matchAll(new RegExp(`--${name}: #([0-9a-f]{6})`, 'g'))].map(([, hex]) => [0, 2, 4].map(i => parseInt(hex.slice(i, i + 2), 16)));
+    checks.check('--good is green', named('good').length === 4 && named('good').every(([r, g, b]) => g > r && g > b));
+    checks.check('--bad is red', named('bad').length === 4 && named('bad').every(([r, g, b]) => r > g && r > b));
+    const colourOf = selector => new RegExp(`${selector.replaceAll('.', '\\.').replaceAll(' ', '\\s+')} \\{[^}]*?(?:color|border-top-color): var\\(--(\\w+)\\)`).exec(style)?.[1];
+    checks.equal('where they are used', ['#claim.accepted', '#claim.refused', '.accepted #verdict .line', '.refused #verdict .line', '.good', '.faulty', '.fault'].map(colourOf),
+        ['good', 'bad', 'good', 'bad', 'good', 'bad', 'bad']);
+});
+
 await checked('the catalogue is that of the examples', checks => {
     const held = JSON.parse(/<script [^>]*id="catalogue">([^]*?)<\/script>/.exec(text)[1]), tables = catalogueTables();
     for (const [name, table] of Object.entries(tables)) {
@@ -65,7 +87,7 @@ await checked('the policy: no network, no other scripts', checks => {
 
 await checked('sources', checks => {
     // Sources: no address, no markup from texts, short files and functions.
-    for (const name of readdirSync(join(pageFolder, 'src'))) {
+    for (const name of readdirSync(join(pageFolder, 'src'), {recursive: true}).filter(file => /\.\w+$/.test(file))) {
         const source = readFileSync(join(pageFolder, 'src', name), 'utf8'), lines = source.split('\n');
         checks.check(`${name}: no address`, !/https?:\/\/(?!www\.w3\.org\/2000\/svg)/.test(source));
         checks.check(`${name}: no markup from texts`,
@@ -76,6 +98,21 @@ await checked('sources', checks => {
         checks.equal(`${name}: functions of at most 60 lines`, longFunctions(lines), []);
         checks.equal(`${name}: no text goes on behind blanks, since bundle.mjs leaves these out`, textLines(source), []);
     }
+});
+
+await checked('the folders of the sources', checks => {
+    // Of each folder the modules that README names there.
+    const named = {},
+          rows = [...readFileSync(join(pageFolder, 'README.md'), 'utf8').matchAll(/^\| (`\w+`|itself|) ?\| (`[^|]*`) \| [^|]* \|$/gm)];
+    let folder = '';
+    for (const [, name, modules] of rows) {
+        folder = name === 'itself' ? '.' : name.replaceAll('`', '') || folder;
+        (named[folder] ||= []).push(...modules.match(/\w+/g).map(module => `${module}.js`));
+    }
+    checks.equal('seven rows, with the folder itself', Object.keys(named).length, 7);
+    for (const [name, modules] of Object.entries(named))
+        checks.equal(`${name}: as README has it`, readdirSync(join(pageFolder, 'src', name)).filter(file => file.endsWith('.js')).sort(),
+            modules.sort());
 });
 
 // Lines that begin with a blank within a text of several lines: a bracket there is no fault.

@@ -1,9 +1,9 @@
 // Random chains, made of the same parts as the page makes them, written as certificates: the native program accepts them, or refuses
 // them at END alone. CHAINS is their count, SEED another beginning.
-import {readStep} from '../src/certificates.js';
-import {certificateOf, kindsOf} from '../src/chains.js';
-import {configsOf, describe, mapped, without, withArrow} from '../src/problems.js';
-import {configText, filledLines} from '../src/texts.js';
+import {readStep} from '../src/texts/certificates.js';
+import {certificateOf, kindsOf} from '../src/cards/chains.js';
+import {configsOf, describe, mapped, without, withArrow} from '../src/texts/problems.js';
+import {configText, filledLines} from '../src/texts/texts.js';
 import {checked} from './checks.mjs';
 import {answer, randomFrom, re} from './place.mjs';
 

@@ -42,7 +42,7 @@ for (const program of ['re', 'explore']) {
 }
 
 await checked('the limit of the input: a problem that ends there, and one byte more', async checks => {
-    const problem = example('sinkless.txt'), filledTo = size => problem + '\n'.repeat(size - problem.length);
+    const problem = example('first/sinkless.txt'), filledTo = size => problem + '\n'.repeat(size - problem.length);
     for (const size of [MOST_BYTES, MOST_BYTES + 1])
         for (const program of ['re', 'explore']) {
             await compare(checks, {program, words: [program === 're' ? 'read' : 'last'], input: filledTo(size), name: `${size} bytes`});

@@ -102,7 +102,7 @@ async function session(checks, {value, until, go, reload}) {
 
 // A text that is pasted, a file that is dropped, what is given, and the report.
 async function inAndOut(checks, {value, until}) {
-    const fixed = example('sinkless-fixed.txt'), never = 'accepted: not solvable in any number of rounds';
+    const fixed = example('first/sinkless-fixed.txt'), never = 'accepted: not solvable in any number of rounds';
     // Firefox makes no events that hold data, so it is given to plain ones.
     const put = (event, holder, fill) => value(`(() => { const data = new DataTransfer(); ${fill};
         const event = Object.defineProperty(new Event('${event}', {bubbles: true, cancelable: true}), '${holder}', {value: data});

@@ -5,6 +5,8 @@ import {join} from 'path';
 import {openBrowser, wait} from './browser.mjs';
 import {checked} from './checks.mjs';
 import {User} from './user.mjs';
+import {askedSessions} from './user/asked.mjs';
+import {besideSessions} from './user/beside.mjs';
 import {boundsSessions} from './user/bounds.mjs';
 import {changesSessions} from './user/changes.mjs';
 import {effortSessions} from './user/effort.mjs';
@@ -19,6 +21,7 @@ import {problemsSessions} from './user/problems.mjs';
 import {searchingSessions} from './user/searching.mjs';
 import {smallSessions} from './user/small.mjs';
 import {wordsSessions} from './user/words.mjs';
+import {seeingSessions} from './user/seeing.mjs';
 import {sessionsSessions} from './user/sessions.mjs';
 import {settlingSessions} from './user/settling.mjs';
 
@@ -46,6 +49,8 @@ const picture = async (name, ...selectors) => {
 };
 
 const sessions = {
+    ...askedSessions,
+    ...besideSessions,
     ...boundsSessions,
     ...changesSessions,
     ...effortSessions,
@@ -58,6 +63,7 @@ const sessions = {
     ...placesSessions,
     ...problemsSessions,
     ...searchingSessions,
+    ...seeingSessions,
     ...sessionsSessions,
     ...smallSessions,
     ...wordsSessions,

@@ -1,5 +1,5 @@
 // The programs as WebAssembly answer as the native ones, on all rows.
-import {runProgram} from '../src/program.js';
+import {runProgram} from '../src/engine/program.js';
 import {checked} from './checks.mjs';
 import {natively, wasmOf} from './place.mjs';
 import {rows} from './rows.mjs';

@@ -1,6 +1,6 @@
 // Runs of the programs, {program, words, input, name}: all examples with all words, the problems inside of certificates, and texts that
 // are none. What `explore` is asked depends on the words that it has.
-import {wordsIn} from '../src/words.js';
+import {wordsIn} from '../src/engine/words.js';
 import {example, namesIn, natively} from './place.mjs';
 
 const EACH = Number(process.env.EACH || 1);
@@ -62,7 +62,7 @@ function* runsOf(input, name) {
 export const rows = program => [...allRows()].filter(row => row.program === program).filter((_, i) => i % EACH === 0);
 
 function* allRows() {
-    for (const name of ['.', 'problems', 'gallery', 'tables'].flatMap(folder => namesIn(folder).map(file => `${folder}/${file}`)))
+    for (const name of ['first', 'problems', 'gallery', 'tables'].flatMap(folder => namesIn(folder).map(file => `${folder}/${file}`)))
         yield* runsOf(example(name), name);
     for (const given of [...alone, []]) yield {program: 're', words: given, input: '', name: 'nothing'};
     for (const given of [...aloneOfExplore, []]) yield {program: 'explore', words: given, input: '', name: 'nothing'};

@@ -1,5 +1,5 @@
 // Words of `explore` that the page offers where the program has them: one that it lacks is answered by the test in its place.
-import {wordsIn} from '../src/words.js';
+import {wordsIn} from '../src/engine/words.js';
 import {wait} from './browser.mjs';
 import {natively} from './place.mjs';
 

@@ -1,22 +1,23 @@
 // The modules that handle texts alone, against the native program.
-import * as texts from '../src/texts.js';
-import * as problems from '../src/problems.js';
-import * as certificates from '../src/certificates.js';
-import * as chains from '../src/chains.js';
-import * as sessions from '../src/sessions.js';
-import {catalogueLine, namedForCatalogue, tableName} from '../src/catalogue.js';
-import {graphInput, graphPlaces, isGraphText, readGraph, readSolution} from '../src/graphs.js';
-import {inputCommand, raisedInput, readFit, readGiven, withoutInput} from '../src/inputs.js';
-import {findRelaxation, findRenaming} from '../src/maps.js';
-import {blocksOfReport, partsOfText, roundsOfGraph} from '../src/reports.js';
-import {commandsIn, leavesQuestion, nameLabels, readSettled} from '../src/settled.js';
-import {clauseFault} from '../src/certificates.js';
-import {inWords, modelOf} from '../src/claims.js';
-import {nameOfJob} from '../src/job_names.js';
-import {sharedIn} from '../src/sessions.js';
-import * as kept from '../src/kept.js';
-import {isUnknown, wordsIn} from '../src/words.js';
-import {deliveriesOf, randomFrom, readRun, runInput, treeAround} from '../src/trees.js';
+import * as texts from '../src/texts/texts.js';
+import * as problems from '../src/texts/problems.js';
+import * as certificates from '../src/texts/certificates.js';
+import * as chains from '../src/cards/chains.js';
+import * as sessions from '../src/keeping/sessions.js';
+import {catalogueLine, namedForCatalogue, tableName} from '../src/texts/catalogue.js';
+import {graphInput, graphPlaces, isGraphText, readGraph, readSolution} from '../src/texts/graphs.js';
+import {givenFault, givenInput, inputCommand, raisedInput, readFit, readGiven, withoutInput} from '../src/texts/inputs.js';
+import {InputNames} from '../src/cards/input_names.js';
+import {findRelaxation, findRenaming} from '../src/texts/maps.js';
+import {blocksOfReport, partsOfText, roundsOfGraph} from '../src/texts/reports.js';
+import {commandsIn, leavesQuestion, nameLabels, readSettled} from '../src/texts/settled.js';
+import {clauseFault} from '../src/texts/certificates.js';
+import {inWords, modelOf} from '../src/views/claims.js';
+import {nameOfJob} from '../src/engine/job_names.js';
+import {sharedIn} from '../src/keeping/sessions.js';
+import * as kept from '../src/keeping/kept.js';
+import {isUnknown, wordsIn} from '../src/engine/words.js';
+import {deliveriesOf, randomFrom, readRun, runInput, treeAround} from '../src/texts/trees.js';
 import {checked} from './checks.mjs';
 import {answer, catalogueTables, certificatesOfGallery, claimsOfLine, example, linesOfTable, namesIn, natively, randomFrom as numbersFrom, re} from './place.mjs';
 
@@ -41,7 +42,7 @@ await about('notation', () => {
 
 // All problems of the examples and what the program derives of them.
 const firsts = [
-    ...namesIn('problems').filter(name => !name.startsWith('without')).map(name => `problems/${name}`), 'independent.txt', 'sinkless.txt'
+    ...namesIn('problems').filter(name => !name.startsWith('without')).map(name => `problems/${name}`), 'first/independent.txt', 'first/sinkless.txt'
 ].map(name => answer(['read'], example(name)));
 const canonical =
     [...firsts, answer(['family', 'colouring', '3', '3', '3']), answer(['read'], 'A B\n\n%3\n'), answer(['read'], '%2\n\nA^3\n')];
@@ -89,7 +90,7 @@ await about('certificates', () => {
         if (bound.kind === 'fixed') path.at(-1).back = {number: bound.back, pairs: bound.pairs};
         is(`${name} comes back`, chains.certificateOf(path, bound.kind, card => card.problem), text);
     }
-    is('a certificate before a tree', certificates.certificateAlone(example('orientation-run.txt')), example('orientation-upper.txt'));
+    is('a certificate before a tree', certificates.certificateAlone(example('first/orientation-run.txt')), example('first/orientation-upper.txt'));
     for (const name of ['sinkless-orientation-3', 'maximal-independent-set-3-lower', 'three-colouring-3']) {
         const given = example(`gallery/${name}.txt`), bound = certificates.readCertificate(given);
         const steps = bound.steps.map(step => ({
@@ -205,11 +206,12 @@ await about('what the browser keeps', async () => {
               (problem, i) => ({kind: 'first', id: i + 1, parent: null, problem, title: `t${i}`})),
           others = {build: 'b', tab: '1', address: '', editor: {active: 'A', passive: '', isOwn: true, replaced: null}},
           notes = [[1, {problem: problems[0], list: [{kind: 'hint', text: 'n'}]}]],
-          tries = [[problems[4], [{what: 'zero', line: 'no', time: 1}]]],
-          history = sessions.historyOf({cards, current: 3, done: [{cards: [cards[0]], current: 1}], undone: []}),
-          data = {...others, notes, tries, history}, parts = kept.withoutTexts(data);
-    const whole = {...others, notes, tries, now: {current: 3, cards}, done: [{current: 1, cards: [cards[0]]}], undone: [], all: cards};
-    is('each problem once', parts.texts, [problems[0], problems[4]]);
+          tries = [[problems[4], [{what: 'zero', line: 'no', time: 1}, {what: 'rounds 4', line: 'more than 4', time: 2, input: problems[0]}]]],
+          history = sessions.historyOf({cards, current: 3, done: [{cards: [cards[0]], current: 1}], undone: [{cards: cards.slice(0, 2), current: 2}]}),
+          inputs = [[problems[3], 2]], data = {...others, notes, tries, inputs, history}, parts = kept.withoutTexts(data);
+    const whole =
+        {...others, notes, tries, inputs, now: {current: 3, cards}, done: [{current: 1, cards: [cards[0]]}], undone: [{current: 2, cards: cards.slice(0, 2)}], all: cards};
+    is('each problem once', parts.texts, [problems[0], problems[4], problems[3]]);
     is('packed', await kept.readKept(await kept.packKept(parts)), whole);
     is('not packed', await kept.readKept(kept.keptText(parts)), whole);
     is('as it was kept once, with the problems in their places', await kept.readKept(JSON.stringify(data)), whole);
@@ -231,17 +233,46 @@ await about('what is given', () => {
     is('refused, with what holds still', [refused.accepted, refused.line, refused.still, refused.map], [
         false, 'refused: given that input, step 2, clause END', 'holds: given that input, not solvable in 1 or fewer rounds', [['1', '[A]']]
     ]);
+    // What a refusal says, of each form that the program prints.
+    const mis = answer(['read'], example('independent.txt')), sides = natively('explore', ['input', 'sides', '3', '2']).text,
+          judged = (text, input = sides) => natively('explore', ['given'], givenInput(text, input)).text;
+    const lower = answer(['lower', '1', '0'], mis), upper = example('gallery/maximal-matching-3-upper.txt'),
+          withoutRow = lower.replace(/(== rows\n)[^\n]*\n/, '$1');
+    is('END of a lower bound', [judged(lower).split('\n', 1)[0], givenFault(judged(lower), 'lower')], [
+        'refused: given that input, step 1, clause END',
+        'END: problem 1 is solvable in 0 rounds given that input (1 → [A], 2 → [D]), so this is no lower bound given it'
+    ]);
+    const short = `${upper.split('== step').slice(0, -1).join('== step')}== end\n`,
+          refusedUpper = judged(short, natively('explore', ['input', 'nothing', '3', '3']).text);
+    is('END of an upper bound', [/clause END/.test(refusedUpper.split('\n', 1)[0]), givenFault(refusedUpper, 'upper')],
+        [true, 'END: the last problem is not solvable in 0 rounds given that input, so this is no upper bound given it']);
+    is('a clause of a step', [readGiven(judged(withoutRow)).line, givenFault(judged(withoutRow), 'lower')],
+        ['refused: step 1, clause L2', clauseFault({clause: 'L2', kind: 'lower'})]);
+    // Each has its own name: by its kind and number, or by its first line and a number.
+    const names = new InputNames(), named = (kind, problem, more) => names.of({kind, problem, ...more});
+    is('names',
+        [named('colouring', 'x', {count: 4}), named('sides', 'x'), named('problem', 'A^3\n\nA B\n'), named('problem', 'A^3\n\nA^2\n')],
+        ['a colouring, 4 colours', 'the two sides', 'your problem 1, “A^3”', 'your problem 2, “A^3”']);
+    is('one problem keeps its name', [named('problem', 'A^3\n\nA B\n'), named('nothing', 'A^3\n\nA^2\n')],
+        ['your problem 1, “A^3”', 'your problem 2, “A^3”']);
+    is('of a session that has it, where it is free',
+        [
+            names.numbered({kind: 'problem', problem: 'B', number: 7}).number,
+            names.numbered({kind: 'problem', problem: 'C', number: 2}).number
+        ],
+        [7, 8]);
+    is('a kind that it has no name of', named('what', 'D'), 'your problem 9, “D”');
 });
 
 await about('reports', () => {
-    for (const name of ['gallery/no-sinks-no-sources-3.txt', 'gallery/orientation-3-upper.txt', 'by-rows.txt', 'colouring-refused.txt']) {
+    for (const name of ['gallery/no-sinks-no-sources-3.txt', 'gallery/orientation-3-upper.txt', 'first/by-rows.txt', 'first/colouring-refused.txt']) {
         const report = natively('explore', ['describe'], example(name)).text, blocks = blocksOfReport(report),
               words = text => text.replace(/[#`*\s-]/g, '');
         is(`${name}: all of it`, words(blocks.map(block => block.text ?? block.items.join('\n')).join('\n')), words(report));
     }
     is('parts', partsOfText('a `b^2` **c**'),
         [{kind: 'plain', text: 'a '}, {kind: 'code', text: 'b^2'}, {kind: 'plain', text: ' '}, {kind: 'bold', text: 'c'}]);
-    is('rounds of the graph', roundsOfGraph(natively('explore', ['describe'], example('sinkless-fixed.txt')).text),
+    is('rounds of the graph', roundsOfGraph(natively('explore', ['describe'], example('first/sinkless-fixed.txt')).text),
         `Problem 0 isn't solvable in any number of rounds of the graph.`);
     is('none of a hypergraph', roundsOfGraph(natively('explore', ['describe'], example('gallery/weak-splitting-3.txt')).text), null);
 });

@@ -1,5 +1,5 @@
 // Bounds made with clicks: chains, fixed points, upper bounds and refusals, each with its line.
-import {isGraphText} from '../../src/graphs.js';
+import {isGraphText} from '../../src/texts/graphs.js';
 import {answer, example, namesIn, natively, whyOf} from '../place.mjs';
 import {cardsAre, drawn, MIS} from '../user.mjs';
 
@@ -80,15 +80,15 @@ export const boundsSessions = {
             checks.equal(`why ${line}`, shown, whyOf(await user.certificate()));
             return shown;
         };
-        checks.equal('the row that lacks', await explained(example('colouring-refused.txt'), 'refused: step 1, clause L2'),
+        checks.equal('the row that lacks', await explained(example('first/colouring-refused.txt'), 'refused: step 1, clause L2'),
             'maximal row that is missing: [12] [3]');
         checks.check('the clause in words',
             (await page.value(`document.querySelector('.card.failing .fault').textContent`))
                 .includes('the rows are the maximal rows of the passive constraint before, in order'));
         checks.check('why END',
-            (await explained(example('trivial-lower.txt'), 'refused: clause END'))
+            (await explained(example('first/trivial-lower.txt'), 'refused: clause END'))
                 .startsWith('solvable without communication: every node outputs '));
-        const good = example('sinkless-fixed.txt'), lines = good.split('\n');
+        const good = example('first/sinkless-fixed.txt'), lines = good.split('\n');
         const damaged = lines.map((_, at) => lines.filter((line, i) => i !== at).join('\n'))
                             .map(text => [text, answer(['check'], text).trim()])
                             .filter(([, line]) => line.startsWith('refused'));

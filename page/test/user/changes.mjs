@@ -1,5 +1,5 @@
 // Changes of a problem: merges, arrows, names, relaxations and restrictions.
-import {mapInput} from '../../src/certificates.js';
+import {mapInput} from '../../src/texts/certificates.js';
 import {answer, example, natively, whyOf} from '../place.mjs';
 import {explored, teachMissing} from '../teaching.mjs';
 import {cardsAre, drawn, MIS} from '../user.mjs';

@@ -287,7 +287,7 @@ export const effortSessions = {
                 '4'])}`).text.trim();
         checks.check(line,
             /^more than|^exactly/.test(line) &&
-                await page.until(`${notes}.some(text => text.startsWith(${quoted(`rounds 1 given that input: ${line}`)}))`));
+                await page.until(`${notes}.some(text => text.startsWith(${quoted(`rounds 1 given a colouring, 4 colours: ${line}`)}))`));
     },
 
     async 'a chain with what is given is opened'(user, page, checks) {
@@ -326,7 +326,7 @@ export const effortSessions = {
         checks.equal('the problem, and what is given', await page.value(`sent.find(([words]) => words === 'cover 2')[1]`),
             `${problem}== given\n${input}`);
         checks.equal('the line, with its model', await page.value(`document.querySelector('dialog p[role=status]').textContent`),
-            `${no} with port numbers and that input · explore solve`);
+            `${no} with port numbers and that input, by deterministic algorithms on infinite trees · explore solve < graph.txt`);
         checks.equal('what is given at each end',
             await page.value(`[...document.querySelectorAll('dialog svg.graph .end .given')].map(node => node.textContent)`),
             ['A', 'B', 'A', 'B', 'A', 'B']);
@@ -346,7 +346,7 @@ export const effortSessions = {
         await page.key('Escape');
         checks.equal('it is listed',
             await page.value(`[...document.querySelectorAll('.card.last .tried td:first-child')].map(cell => cell.textContent)`),
-            ['cover 2 given a problem']);
+            ["cover 2 given your problem 1, “A^3”"]);
         // Opened as a text, on a page without it.
         await page.go();
         await teach(page, {solve: [1, `${no}\n`]});

@@ -3,7 +3,7 @@ import {answer, example, natively} from '../place.mjs';
 import {explored, hold, isHeld, letGo} from '../teaching.mjs';
 import {cardsAre, drawn, MIS} from '../user.mjs';
 
-const fixed = example('sinkless-fixed.txt'), quoted = value => JSON.stringify(value);
+const fixed = example('first/sinkless-fixed.txt'), quoted = value => JSON.stringify(value);
 
 // What the page gets where the user pastes, or drops something, at some element.
 const pasted = (page, text, at = 'document.body') => page.value(`(() => { const data = new DataTransfer(); data.setData('text/plain', ${

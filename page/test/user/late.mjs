@@ -1,5 +1,5 @@
 // Answers that come late: what is shown of another chain, or another text, is never said of the one that is shown now.
-import {mapInput} from '../../src/certificates.js';
+import {mapInput} from '../../src/texts/certificates.js';
 import {wait} from '../browser.mjs';
 import {answer, example, natively} from '../place.mjs';
 import {explored, hold, isHeld, letGo} from '../teaching.mjs';
@@ -61,11 +61,11 @@ export const lateSessions = {
     async 'a late reason of a refusal'(user, page, checks) {
         if (!explored.has('why')) return;
         await hold(page, ['why']);
-        await user.openText(example('colouring-refused.txt'));
+        await user.openText(example('first/colouring-refused.txt'));
         await page.until(`${line}?.startsWith('refused')`);
         await isHeld(page);
         await page.click('#undo');
-        await user.openText(example('trivial-lower.txt'));
+        await user.openText(example('first/trivial-lower.txt'));
         await page.until(`document.querySelector('.card.failing .fault')?.textContent.includes('solvable without communication')`);
         await letGo(page);
         checks.check('the reason of the chain that is shown',
@@ -344,16 +344,16 @@ export const lateSessions = {
         if (!explored.has('solve')) return;
         const problem = answer(['read'], MIS.join('\n\n')), lines = '1.1 1.2\n2.1 2.2\n1.3 2.3';
         await page.value(`bench.settling.draw(${JSON.stringify(`${problem}== graph\n${lines}\n`)})`);
-        await page.until(`document.querySelector('dialog .line')`);
+        await page.until(`document.querySelector('dialog p .line')`);
         await page.value('engine.answers.clear()');
         await hold(page, ['solve']);
         await page.click('dialog button', 'Solve');
         await isHeld(page);
         await page.fill('dialog textarea', '1.1 2.1\n1.2 2.2\n1.3 2.3');
         await page.click('dialog button', 'Solve');
-        await page.until(`document.querySelector('dialog .line')`);
+        await page.until(`document.querySelector('dialog p .line')`);
         await letGo(page);
-        checks.equal('the line of the lines that stand there', await page.value(`document.querySelector('dialog .line').textContent`),
+        checks.equal('the line of the lines that stand there', await page.value(`document.querySelector('dialog p .line').textContent`),
             natively('explore', ['solve'], `${problem}== graph\n1.1 2.1\n1.2 2.2\n1.3 2.3\n`).text.split('\n', 1)[0]);
     },
 

@@ -103,6 +103,6 @@ export const placesSessions = {
         await page.until(`document.title === 'two colouring 3 – re workbench'`);
         await user.openText('A B^2\n\nA [AB]\n');
         await page.until(`${cardsAre(1)} && document.title === 'A B^2 – re workbench' && ${drawn}`);
-        checks.equal('in the list', await page.value(`document.querySelector('#card-list [aria-current] span').textContent`), '0 A B^2');
+        checks.equal('in the list', await page.value(`document.querySelector('#card-list [aria-current]').textContent`), '0 A B^2');
     },
 };

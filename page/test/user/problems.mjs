@@ -56,10 +56,10 @@ export const problemsSessions = {
         await page.fill('#editor textarea', example('problems/without-brackets.txt'), 0);
         await page.until(`document.querySelectorAll('#editor textarea')[1].value.startsWith('M PO')`);
         // A certificate with a fault stays in its window.
-        await user.openText(example('sinkless-fixed.txt').replace('[IO] B', '[IO] Z'));
+        await user.openText(example('first/sinkless-fixed.txt').replace('[IO] B', '[IO] Z'));
         const fault = await page.until(`document.querySelector('dialog .state .faulty')?.textContent`);
         checks.equal(
-            'the fault of the program', fault, answer(['check'], example('sinkless-fixed.txt').replace('[IO] B', '[IO] Z')).trim());
+            'the fault of the program', fault, answer(['check'], example('first/sinkless-fixed.txt').replace('[IO] B', '[IO] Z')).trim());
         checks.equal('its line is marked', await page.value(`document.querySelector('dialog .area').style.getPropertyValue('--fault')`),
             /line (\d+)/.exec(fault)[1]);
     },

@@ -1,6 +1,6 @@
 // Searches: in the background, stopped, asked again with more, and what they say meanwhile.
 import {PATIENCE, wait} from '../browser.mjs';
-import {inWords} from '../../src/claims.js';
+import {inWords} from '../../src/views/claims.js';
 import {answer, natively} from '../place.mjs';
 import {explored, teachMissing} from '../teaching.mjs';
 import {cardsAre, MIS} from '../user.mjs';

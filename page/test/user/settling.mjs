@@ -1,7 +1,7 @@
 // What is known of a problem: `settle` and the commands that show it, graphs without a solution, the catalogue, merges in a first
 // problem. Words that the program doesn't have yet are answered here in its place, so that the page is tested before it has them.
-import {catalogueLine} from '../../src/catalogue.js';
-import {modelOf} from '../../src/claims.js';
+import {catalogueLine} from '../../src/texts/catalogue.js';
+import {modelOf} from '../../src/views/claims.js';
 import {answer, catalogueTables, claimsOfLine, linesOfTable, natively} from '../place.mjs';
 import {explored, teach, teachMissing} from '../teaching.mjs';
 import {cardsAre, MIS} from '../user.mjs';

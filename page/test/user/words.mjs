@@ -9,7 +9,7 @@ const verdict = `document.querySelector('#verdict').textContent`;
 
 export const wordsSessions = {
     async 'a refusal at END says what is wrong'(user, page, checks) {
-        await user.openText(example('trivial-lower.txt'));
+        await user.openText(example('first/trivial-lower.txt'));
         await user.says('refused: clause END');
         const wrong = 'END: the last problem is solvable in 0 rounds, so this is no lower bound';
         checks.check('below', (await page.value(verdict)).includes(wrong));
@@ -112,7 +112,8 @@ export const wordsSessions = {
             await page.choose('#given-kind', 'a colouring');
             await page.until(`document.querySelector('#given-line .line')`);
             checks.check('of what is given',
-                (await page.value(`document.querySelector('#given-line').textContent`)).endsWith(' with port numbers and that input'));
+                (await page.value(`document.querySelector('#given-line').textContent`))
+                    .endsWith(' with port numbers and that input, by deterministic algorithms on infinite trees'));
         }
         if (explored.has('settle')) {
             await user.act('Settle');

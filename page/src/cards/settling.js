@@ -1,0 +1,177 @@
+// What is known of a problem: the words `settle`, `cover` and `solve` of `explore`, and the commands that show it.
+import {claimNodes} from '../views/claims.js';
+import {button, code, element, hint, seconds} from '../views/dom.js';
+import {openGraphDialog} from '../dialogs/graph_view.js';
+import {isGraphText} from '../texts/graphs.js';
+import {Stopped} from '../engine/engine.js';
+import {givenInput, inputCommand, raisedInput} from '../texts/inputs.js';
+import {commandsIn, leavesQuestion, nameLabels, readSettled} from '../texts/settled.js';
+import {runTask} from '../engine/tasks.js';
+import {isUnknown} from '../engine/words.js';
+
+// The most that `settle` takes.
+const MOST_SETTLE = 64;
+
+export class Settling {
+    // `searches` adds the cards of what is found, `underNames(card, view, names)` makes a card under other names, and `openText(text, title)` opens a
+    // chain of its own. `running` are the problems of which more is asked at the moment.
+    constructor({engine, facts, cards, given, notes, tries, words, searches, underNames, openText}) {
+        Object.assign(this, {engine, facts, cards, given, notes, tries, words, searches, underNames, openText, running: new Set()});
+    }
+
+    // What a word reads behind the problem of a card, as given_view.js has it, where the program reads it, else null.
+    inputOf(card, word = 'settle') { return this.words.has(`${word} given`) ? this.given.asked(this.cards.path(card.id), card) : null; }
+
+    // `effort` bounds what is tried: with twice as much the answer may say more.
+    async settle(card, view, effort = 1, input = this.inputOf(card)) {
+        const words = effort > 1 ? ['settle', String(effort)] : ['settle'], behind = input ? ` given ${input.name}` : '',
+              what = `${words.join(' ')}${behind}`, title = `${words.join(' ')} problem ${view.number.textContent}${behind}`,
+              known = this.answers(view, input?.problem)[0];
+        const isHere = view.remarks.contains(document.activeElement), runs = this.keyOf(view, input?.problem);
+        this.running.add(runs);
+        this.notes.show(view);
+        if (isHere) view.node.focus({preventScroll: true});
+        let time = 0;
+        const answer = await runTask(this.engine, title, async task => {
+            task.state = known ? `so far: ${readSettled(known.text)[0].line}` : '';
+            const said = await task.ask('explore', words, input ? givenInput(card.problem, input.problem) : card.problem);
+            time = performance.now() - task.started;
+            return said;
+        }).catch(error => {
+            view.noteHint(`${title}: ${error instanceof Stopped ? 'stopped.' : error.message}`);
+            return null;
+        });
+        this.running.delete(runs);
+        if (!answer || answer.status > 1) {
+            this.notes.show(view);
+            if (answer && isUnknown(answer)) view.noteHint(`${what} isn't available with the programs of this page.`);
+            else if (answer) view.complain(answer.text.trim());
+            return;
+        }
+        for (const {line} of readSettled(answer.text))
+            this.tries.add(view, line.startsWith('with ') ? `${what}, with identifiers` : what, line, {time, input: input?.problem});
+        this.notes.replace(
+            view, note => note.kind === 'settled' && (note.what || 'settle') === what && (note.input || '') === (input?.problem || ''));
+        view.note({kind: 'settled', what, text: answer.text, more: seconds(time), ...(input && {input: input.problem})});
+    }
+
+    // Of which problem, and given what, more is asked.
+    keyOf(view, input = '') { return `${view.card.problem}\n${input}`; }
+
+    // What was answered on a card given an input, or without one, that with the most effort first.
+    answers(view, input = '') {
+        const effortOf = ({what = 'settle'}) => Number(/^settle (\d+)/.exec(what)?.[1] || 1);
+        return this.notes.of(view.card)
+            .filter(note => note.kind === 'settled' && (note.input || '') === input)
+            .map(note => ({...note, effort: effortOf(note)}))
+            .sort((a, b) => b.effort - a.effort);
+    }
+
+    // What `settle` printed: its claim, with what shows it, and below it each further line, as that on unique identifiers.
+    lines(view, {text, what = 'settle', more, input}) {
+        const asked = input ? {name: what.slice(what.indexOf(' given ') + 7), problem: input} : null;
+        return [
+            ...readSettled(text).map(
+                ({line, shownBy}, i) => element('div.settled', {}, i ? null : element('strong', {}, `${what}: `), claimNodes(line), ' ',
+                    this.buttons(view.card, view, shownBy, {input: asked}), i ? null : hint(more))),
+            this.moreEffort(view, what, asked)
+        ];
+    }
+
+    // Behind the answer with the most effort, while it leaves a question: a button that asks with twice as much.
+    moreEffort(view, what, input) {
+        const [most] = this.answers(view, input?.problem), {running, words} = this;
+        if (most?.what !== what || !words.has('settle N') || most.effort >= MOST_SETTLE || !leavesQuestion(most.text)) return null;
+        if (running.has(this.keyOf(view, input?.problem))) return hint(`settle ${2 * most.effort} runs…`);
+        return button('More effort', () => this.settle(view.card, view, 2 * most.effort, input),
+            {title: `explore settle ${2 * most.effort}: each try with twice the work; what is known so far stays`, class: 'more-effort'});
+    }
+
+    // A button for each command that shows what is known: it opens the chain, or draws the graph. Where it was found under other names,
+    // [[label, name]], the problem takes these first, if what the command finds hangs on them: it does on the order of the labels. Where it
+    // was found given an `input`, {name, problem}, the first command reads that too.
+    buttons(card, view, shownBy, {names = [], isInOrder = true, input = null} = {}) {
+        const {engine, words} = this, isNamed = names.every(([label, name]) => label === name);
+        return element('span.group.by', {}, shownBy.length ? hint('shown by') : null, shownBy.map(text => {
+            const commands = commandsIn(text, Object.keys(engine.programs));
+            if (!commands) return code(text);
+            // A table may name words that the program lacks.
+            const lacking = commands.find(command => command.program === 'explore' && !words.has(command.words[0]));
+            if (lacking) return element('span.code', {title: `The program explore of this page has no word ${lacking.words[0]}.`}, text);
+            const under = !isNamed && (!isInOrder || nameLabels(commands)) ? names : null,
+                  where = under ? `, under the names ${under.map(pair => pair.join(' → ')).join(', ')}` : '';
+            const [first, ...others] = commands, behind = input && first.program === 'explore' ? input : null;
+            return button(text,
+                () => this.open(card, view, `${text}${behind ? ` given ${behind.name}` : ''}`,
+                    [{...first, ...(behind && {input: behind.problem})}, ...others], under),
+                {title: `run it on this problem${behind ? ' and what is given' : where}, and open what it finds`});
+        }));
+    }
+
+    // Runs commands on the card's problem, each on what the one before prints.
+    open(card, view, what, commands, names = null) {
+        const {searches} = this, asked = commands.find(command => command.input)?.input;
+        return searches.inTask(card, view, what, async task => {
+            const named = names ? [await this.underNames(card, view, names)] : [];
+            if (named.includes(null)) return null;
+            let answer = {text: [card, ...named].at(-1).problem}, given;
+            for (const {program, words, colours, isOfEdges, diagram, input} of commands) {
+                if (colours) given = await this.colouring(task, card, isOfEdges ? 'edges' : 'colouring', colours);
+                if (input) given = {kind: 'problem', problem: input};
+                const {text} = answer, behind = input || colours && given.problem;
+                answer = await task.ask(program, words, behind ? givenInput(text, behind) : diagram ? raisedInput(text, [diagram]) : text);
+                if (answer.status !== 0) break;
+            }
+            if (isGraphText(answer.text)) {
+                await this.showGraph(view, what, answer.text, asked);
+                return null;
+            }
+            if (!answer.text.startsWith('==')) {
+                await searches.tried(view, task, what, answer);
+                return null;
+            }
+            if (!await this.speaksOf([card, ...named].at(-1), answer.text)) {
+                await this.openText(answer.text, what);
+                return null;
+            }
+            const input = given && searches.inputOfChain(card, given),
+                  found = await searches.cardsOf(answer.text, {title: what, offset: searches.stepsAbove(card), asked: input});
+            return {what, certificate: answer.text, cards: found.length ? [...named, ...found] : [], input};
+        }, asked && {problem: asked});
+    }
+
+    // Whether a certificate begins with a card's problem: behind `explore reduce` it speaks of another one, and is a chain of its own.
+    async speaksOf(card, certificate) {
+        const {first} = await this.engine.work('readCertificate', certificate);
+        return (await this.engine.ask('re', ['read'], first, {quiet: true})).text === card.problem;
+    }
+
+    // A proper colouring, of active nodes or of edges, as what is given to a card's problem.
+    async colouring(task, card, kind, count) {
+        const {active, passive} = this.facts.of(card.problem).problem,
+                       {program, words} = inputCommand(this.words, kind, {active, passive}, count),
+                       {status, text} = await task.ask(program, words);
+        if (status !== 0) throw new Error(`${program} ${words.join(' ')}: ${text.trim()}`);
+        return {kind, count, problem: text};
+    }
+
+    // ---- Graphs without a solution.
+
+    // Of what the nodes are given, where the program reads it, a graph with a solution of that.
+    cover(card, view, m) {
+        const asked = this.inputOf(card, 'cover');
+        return this.open(card, view, `cover ${m}${asked ? ` given ${asked.name}` : ''}`,
+            [{program: 'explore', words: ['cover', String(m)], input: asked?.problem}]);
+    }
+
+    // `input` is the text of the problem that is given there, where one is.
+    async showGraph(view, what, text, input) {
+        const {line} = await this.solve(text).then(({text: said}) => ({line: said.trim().split('\n', 1)[0]}));
+        this.tries.add(view, what, `a graph: ${line}`, {input});
+        view.note({kind: 'graph', what, line, text, input});
+        this.draw(text);
+    }
+
+    solve(text) { return this.engine.ask('explore', ['solve'], text, {title: 'solve'}); }
+    draw(text) { openGraphDialog(text, now => this.solve(now)); }
+}

@@ -1,0 +1,138 @@
+// The report of `explore describe` on the chain that is shown, beside the cards; and all of it on paper.
+import {lineText} from './claims.js';
+import {$, button, code, copy, download, element, faulty, hint, intoView, replace} from './dom.js';
+import {blocksOfReport, partsOfText} from '../texts/reports.js';
+import {fileNameOf} from '../texts/texts.js';
+import {titleOf} from '../cards/chains.js';
+
+// A longer report is cut on the page; Copy and Download give all.
+const MOST_BLOCKS = 1500;
+
+export class ReportView {
+    constructor(workbench) {
+        Object.assign(this, {workbench, isOpen: false, text: '', latex: ''});
+        this.content = element('div.paper', {tabIndex: 0, role: 'group', 'aria-label': 'the report'});
+        const give = run => event => {
+            if (this.text) run(event.currentTarget);
+        };
+        this.latexButton = button('Copy LaTeX', give(from => copy(this.latex + this.givenLatex, from)), {disabled: true});
+        replace($('#report-box'),
+            element('header.group', {}, element('h2', {}, 'Report'), button('Copy Markdown', give(from => copy(this.whole, from))),
+                this.latexButton,
+                button('Download', give(() => download(`${fileNameOf(titleOf(this.path[0]))}.md`, this.whole, 'text/markdown'))),
+                button('Print', () => this.print(), {title: 'the chain, its diagrams, the claim and this report on paper (Ctrl+P)'}),
+                button('×', () => this.open(false), {class: 'quiet close', 'aria-label': 'close the report'})),
+            this.content);
+    }
+
+    get isOffered() { return this.workbench.words.has('describe'); }
+
+    open(isOpen) {
+        this.isOpen = isOpen;
+        $('#report-box').hidden = !isOpen;
+        $('#report').setAttribute('aria-expanded', String(isOpen));
+        document.body.classList.toggle('reading', isOpen);
+        if (isOpen) {
+            this.comeIntoView();
+            this.fill(this.path, this.verdict).then(() => this.comeIntoView());
+        } else $('#report').focus();
+    }
+
+    // Where it stands below the cards it begins at the top of what is seen.
+    comeIntoView() {
+        const isBelow = getComputedStyle($('#report-box')).position === 'static';
+        if (this.isOpen) intoView($('#report-box > header'), isBelow ? 'start' : 'nearest');
+    }
+
+    // The chain with its verdict; where there is no bound, the first problem alone.
+    async fill(path, verdict) {
+        Object.assign(this, {path, verdict});
+        if (!path?.length && this.isOpen) this.open(false);
+        if (!this.isOpen || !path?.length) return;
+        const turn = this.turn = {}, {claim, engine} = this.workbench;
+        this.text = this.latex = '';
+        this.latexButton.disabled = true;
+        replace(this.content, hint(verdict ? 'asking…' : 'The chain is not judged yet.'));
+        if (!verdict) return;
+        const ask = words => claim.forThis(engine.start('explore', words, verdict.certificate || path[0].problem, {title: 'describe'}))
+                                .catch(error => ({status: 1, text: error.message}));
+        const answer = await ask(['describe']);
+        if (turn !== this.turn) return;
+        if (answer.status !== 0) {
+            replace(this.content, faulty(answer.text.trim()));
+            return;
+        }
+        this.text = answer.text;
+        this.draw();
+        const latex = await ask(['describe', 'latex']);
+        if (turn !== this.turn || latex.status !== 0) return;
+        this.latex = latex.text;
+        this.latexButton.disabled = false;
+    }
+
+    // What is given, and the line of `explore given`, as the last part of the report.
+    get givenPart() {
+        const {given} = this.workbench, input = this.path && given.of(this.path);
+        if (!input) return '';
+        const code = text => text.trim().split('\n').map(row => `    ${row}`).join('\n');
+        const said = given.said ? `\n\nWhat \`explore given\` says of the bound with that input:\n\n${code(given.said.line)}` : '';
+        return `\n## What is given\n\nThe nodes know a solution of this problem (${given.nameOf(input)}):\n\n${code(input.problem)}${
+            said}\n`;
+    }
+
+    // The same for a paper.
+    get givenLatex() {
+        const {given} = this.workbench, input = this.path && given.of(this.path);
+        if (!input) return '';
+        const code = text => `\\begin{verbatim}\n${text.trim()}\n\\end{verbatim}\n`;
+        const said = given.said ? `\nWhat \\texttt{explore given} says of the bound with that input:\n\n${code(given.said.line)}` : '';
+        return `\n\\subsection*{What is given}\n\nThe nodes know a solution of this problem (${given.nameOf(input)}):\n\n${
+            code(input.problem)}${said}`;
+    }
+
+    get whole() { return this.text + this.givenPart; }
+
+    showGiven() {
+        if (this.isOpen && this.text) this.draw();
+    }
+
+    draw() {
+        const {verdict} = this, blocks = blocksOfReport(this.whole);
+        replace(this.content,
+            verdict.certificate ? null : hint('This chain is neither a lower nor an upper bound: the report is of its first problem.'),
+            blocks.slice(0, MOST_BLOCKS).map(blockNode),
+            blocks.length > MOST_BLOCKS ? hint('Cut here: Copy and Download give all.') : null);
+    }
+
+    // Everything that the paper shows is drawn first.
+    async print() {
+        const path = this.workbench.cards.path();
+        if (!path.length || this.isPrinting) return;
+        this.isPrinting = true;
+        const views = path.map(card => this.workbench.view(card)), open = views.map(view => view.isOpen);
+        try {
+            await Promise.all(views.map(view => {
+                view.open(true);
+                return view.comeNear();
+            }));
+            window.print();
+        } finally {
+            this.isPrinting = false;
+            views.forEach((view, i) => view.open(open[i]));
+        }
+    }
+}
+
+const PART_NODES = {
+    code: text => code(text),
+    bold: text => element('strong', {}, text),
+    plain: text => lineText(text)
+};
+const textNodes = text => partsOfText(text).map(part => PART_NODES[part.kind](part.text));
+
+function blockNode({kind, level, text, items}) {
+    if (kind === 'heading') return element(level === 1 ? 'h3' : 'h4', {}, ...textNodes(text));
+    if (kind === 'code') return element('pre', {tabIndex: 0}, lineText(text));
+    if (kind === 'list') return element('ul', {}, items.map(item => element('li', {}, ...textNodes(item))));
+    return element('p', {}, ...textNodes(text));
+}

@@ -1,0 +1,122 @@
+// Without a browser: what pictures show and where, how far undo goes, whose notes are whose, and what the engine takes for one question.
+import {allOf, numbersOf, wordsOf} from './document.mjs';
+import {Cards} from '../src/cards/cards.js';
+import {Notes} from '../src/cards/notes.js';
+import {Tries} from '../src/cards/tries.js';
+import {Engine} from '../src/engine/engine.js';
+import {graphPicture} from '../src/dialogs/graph_view.js';
+import {drawRun} from '../src/dialogs/tree_dialog.js';
+import {layout} from '../src/texts/layout.js';
+import {readGraph} from '../src/texts/graphs.js';
+import {drawDiagram, sizedNodes} from '../src/views/pictures.js';
+import {randomFrom, ringPlaces, treeAround} from '../src/texts/trees.js';
+import {checked} from './checks.mjs';
+
+const distance = ([x, y], [u, v]) => Math.hypot(x - u, y - v);
+const nearest = (place, others) => others.reduce((best, other) => distance(place, other.at) < distance(place, best.at) ? other : best);
+
+await checked('the heads of arrows are at the stronger label', checks => {
+    const classes = [['A'], ['B'], ['C'], ['D', 'E']], edges = [['A', 'B'], ['A', 'C'], ['B', 'D'], ['C', 'D']];
+    const {tied, free} = sizedNodes(classes, edges), picture = drawDiagram(layout(tied, edges), free, 'a diagram');
+    const places = allOf(picture, 'node').map(node => {
+        const [rect, text] = node.children, [x, y, width, height] = numbersOf(rect, 'x', 'y', 'width', 'height');
+        return {label: text.textContent.split(' ')[0], at: [x + width / 2, y + height / 2]};
+    });
+    const shown = allOf(picture, 'edge').map(edge => {
+        const [tip] = allOf(edge, 'head')[0].getAttribute('points').split(' '),
+              start = /^M ([-\d.]+) ([-\d.]+)/.exec(allOf(edge, 'line')[0].getAttribute('d')).slice(1).map(Number);
+        return [nearest(start, places).label, nearest(tip.split(',').map(Number), places).label];
+    });
+    checks.equal('from the weaker to the stronger', shown.map(String).sort(), edges.map(String).sort());
+    checks.equal('as it is marked', allOf(picture, 'edge').map(edge => `${edge.getAttribute('data-weak')},${edge.getAttribute('data-strong')}`).sort(), edges.map(String).sort());
+});
+
+await checked('what is given, and a solution, at the ports of a graph', checks => {
+    const lines = ['1.1 2.2', '1.2 3.3', '1.3 2.1', '2.3 3.1'], given = [['a', 'b', 'c'], ['d', 'e', 'f'], ['g', 'h', 'i']],
+          labels = given.map(row => row.map(label => label.toUpperCase()));
+    const text = `A B\n\nA B\n== given\nA B\n\nA B\n== graph\n${lines.join('\n')}\n== labels\n${given.map(row => row.join(' ')).join('\n')}\n`;
+    const picture = graphPicture(readGraph(text), labels), rects = picture.children.filter(node => node.tag === 'rect' || node.tag === 'text');
+    const nodes = rects.filter(node => node.tag === 'rect').map(rect => ({name: wordsOf(rects[rects.indexOf(rect) + 1]), at: numbersOf(rect, 'x', 'y').map(n => n + 11)}));
+    const ends = allOf(picture, 'end').map(end => {
+        const [path] = end.children, start = /^M ([-\d.]+) ([-\d.]+)/.exec(path.getAttribute('d')).slice(1).map(Number), placed = name => allOf(end, name).map(node => ({says: node.textContent, at: numbersOf(node, 'x', 'y')}));
+        return [nearest(start, nodes).name, nearest(start, placed('small')).says, placed('given')[0].says, placed('output')[0].says];
+    });
+    const wanted = lines.join(' ').split(' ').map(end => {
+        const [node, port] = end.split('.').map(Number);
+        return [String(node), String(port), given[node - 1][port - 1], labels[node - 1][port - 1]];
+    });
+    checks.equal('each at its port', ends.map(String).sort(), wanted.map(String).sort());
+});
+
+await checked('what the algorithm outputs at the ports of a tree', checks => {
+    for (const seed of [7, 8, 9]) {
+        const nodes = treeAround({active: 3, passive: 2}, 3, randomFrom(seed)), at = ringPlaces(nodes);
+        const standing = nodes.map(({isActive, depth}, v) => ({round: 2, labels: isActive && depth === 1 ? [`${v}a`, `${v}b`, `${v}c`] : null}));
+        const picture = drawRun(nodes, standing);
+        // Each node with its neighbours, by its ports.
+        const ports = nodes.map(({parent, own}, v) => parent === null ? [] : [[own, parent]]);
+        nodes.forEach(({parent, port}, v) => parent !== null && ports[parent].push([port, v]));
+        const places = at.map(({x, y}, v) => ({v, at: [x, y]}));
+        let count = 0;
+        for (const text of allOf(picture, 'output').filter(node => node.tag === 'text')) {
+            const [x, y] = numbersOf(text, 'x', 'y'), here = [x, y - 4], {v} = nearest(here, places.filter(place => standing[place.v].labels));
+            // The neighbour in whose direction it stands.
+            const angle = (to) => Math.abs(Math.atan2(Math.sin(to), Math.cos(to))), way = Math.atan2(here[1] - at[v].y, here[0] - at[v].x);
+            const [[port]] = ports[v].map(([number, u]) => [number, angle(Math.atan2(at[u].y - at[v].y, at[u].x - at[v].x) - way)]).sort((a, b) => a[1] - b[1]);
+            checks.equal(`seed ${seed}, node ${v}, port ${port}`, wordsOf(text), standing[v].labels[port - 1]);
+            count++;
+        }
+        checks.equal('three at each node that outputs', count, 3 * standing.filter(({labels}) => labels).length);
+    }
+});
+
+await checked('a hundred changes are undone', checks => {
+    const cards = new Cards();
+    for (let i = 0; i < 120; i++) cards.add(null, {kind: 'first', problem: `${i}`});
+    let undone = 0;
+    while (cards.done.length) {
+        cards.undo();
+        undone++;
+    }
+    checks.equal('so many', [undone, cards.cards.length], [100, 20]);
+    for (let i = 0; i < 100; i++) cards.redo();
+    checks.equal('and done again', cards.cards.length, 120);
+    // Changes within one are undone with it.
+    cards.change(() => {
+        cards.add(null, {kind: 'first', problem: 'a'});
+        cards.add(null, {kind: 'first', problem: 'b'});
+    });
+    cards.undo();
+    checks.equal('several at once', cards.cards.length, 120);
+});
+
+await checked('notes are those of a problem, rows those of an input', checks => {
+    const notes = new Notes({}), list = [{kind: 'hint', text: 'mine'}];
+    notes.known.set(1, {problem: 'A', list});
+    checks.equal('of the card', notes.of({id: 1, problem: 'A'}), list);
+    checks.equal('none of another one with its number', notes.of({id: 1, problem: 'B'}), []);
+    checks.equal('nor of the same problem elsewhere', notes.of({id: 2, problem: 'A'}), []);
+    const tries = new Tries({views: new Map(), otherInput: () => null}), view = {card: {problem: 'A'}};
+    for (const input of ['1', '2', undefined, '1']) tries.add(view, 'rounds 4', 'more than 4', {input});
+    checks.equal('a row for each input', tries.of('A').map(({input}) => input), ['2', undefined, '1']);
+});
+
+await checked('answers are kept for all words of a question', async checks => {
+    let sent = 0;
+    globalThis.URL.createObjectURL = () => 'worker';
+    globalThis.Worker = class {
+        addEventListener() {}
+        postMessage(request) {
+            if (!request.program) return;
+            sent++;
+            setTimeout(() => this.onmessage({data: {status: 0, text: `${request.words.join(' ')}: ${request.input}`}}));
+        }
+        terminate() {}
+    };
+    const engine = new Engine({}, '', 2), asked = [['re', ['lower', '2', '0'], 'A'], ['re', ['lower', '2', '1'], 'A'], ['re', ['lower', '2', '0'], 'B'], ['explore', ['lower', '2', '0'], 'A'], ['re', ['lower', '2'], 'A']];
+    for (const [program, words, input] of asked)
+        checks.equal(`${program} ${words.join(' ')}`, (await engine.ask(program, words, input)).text, `${words.join(' ')}: ${input}`);
+    checks.equal('each was asked', sent, asked.length);
+    for (const [program, words, input] of asked) await engine.ask(program, words, input);
+    checks.equal('and none of them again', sent, asked.length);
+});

@@ -1,0 +1,111 @@
+// What a user sees of an answer: its colour, whose it is, and what is copied, saved, printed and kept.
+import {latexOf} from '../../src/texts/texts.js';
+import {answer, natively} from '../place.mjs';
+import {explored} from '../teaching.mjs';
+import {cardsAre, drawn, MIS} from '../user.mjs';
+
+const hueOf = selector => `(() => { const [r, g, b] = getComputedStyle(document.querySelector('${selector}')).color.match(/[\\d.]+/g).map(Number); return g > r && g > b ? 'green' : r > g && r > b ? 'red' : 'none'; })()`;
+const dark = on => `document.documentElement.dataset.theme = '${on ? 'dark' : 'light'}'`;
+
+export const seeingSessions = {
+    async 'accepted is green, refused is red'(user, page, checks) {
+        for (const isDark of [false, true]) {
+            await page.go();
+            await page.value(dark(isDark));
+            await user.openProblem(...MIS);
+            await user.says('accepted: not solvable in 0 or fewer rounds');
+            checks.equal('the verdict', await page.value(hueOf('#verdict-line')), 'green');
+            if (explored.has('given')) {
+                await page.choose('#given-kind', 'a colouring');
+                await page.until(`document.querySelector('#given-line .line')?.textContent.startsWith('accepted')`);
+                checks.equal('what is given', await page.value(hueOf('#given-line .line')), 'green');
+                await user.step(2);
+                await page.choose('#given-kind', 'the two sides');
+                await page.until(`document.querySelector('#given-line .line')?.textContent.startsWith('refused')`);
+                checks.equal('and refused', await page.value(hueOf('#given-line .line')), 'red');
+            }
+            await user.openProblem('1^3\n2^3', '[12]^2');
+            await user.says('refused: clause END').catch(() => {});
+            const line = await user.verdict();
+            checks.equal(line, await page.value(hueOf('#verdict-line')), line.startsWith('accepted') ? 'green' : 'red');
+            await user.openText('== certificate 1 lower\nA^3\n\nA^2\n== end\n');
+            await page.until(`document.querySelector('#verdict-line')?.textContent === 'refused: clause END'`);
+            checks.equal('a refused one', await page.value(hueOf('#verdict-line')), 'red');
+        }
+        await page.value('delete document.documentElement.dataset.theme');
+    },
+
+    async 'notes go with their problem'(user, page, checks) {
+        await user.openProblem(...MIS);
+        await user.act('Universal rows');
+        await page.until(`document.querySelector('.card.last .note')`);
+        await page.click('#undo');
+        await page.until(cardsAre(0));
+        await user.openProblem('1^3\n2^3\n3^3', '1 2\n1 3\n2 3');
+        checks.equal('it is card 1 again', await page.value('bench.cards.path()[0].id'), 1);
+        checks.equal('without the note of the other one', await page.value(`document.querySelectorAll('.note').length`), 0);
+    },
+
+    async 'copies and pictures are those of the card in hand'(user, page, checks) {
+        await user.openProblem('O [IO]^2', 'I O');
+        await user.step(2);
+        await user.watchCopies();
+        const wanted = async at => latexOf(await page.value(`bench.linesOf(bench.cards.path()[${at}])`));
+        await page.click('.card.last .menu summary');
+        await page.click('.card.last .menu button', 'Copy for LaTeX');
+        const copied = await user.copied();
+        checks.equal('LaTeX of the later card', copied, await wanted(1));
+        checks.check('which is another one', copied !== await wanted(0));
+        await page.value(`document.querySelectorAll('.card')[0].focus()`);
+        await page.key('l');
+        checks.equal('by a key, of the card that has the focus', await user.copied(), await wanted(0));
+        if (explored.has('describe')) {
+            await page.click('.card.last .menu summary');
+            await page.click('.card.last .menu button', 'Copy its report for LaTeX');
+            checks.equal('its report', await user.copied(), natively('explore', ['describe', 'latex'], await page.value(`bench.facts.of(bench.cards.path()[1].problem).written().then(({text}) => text)`)).text);
+        }
+        if (explored.has('given')) {
+            await page.choose('#given-kind', 'an orientation');
+            await page.until(`bench.cards.path()[0].given`);
+            await page.click('.card.last .menu summary');
+            await page.click('.card.last .menu button', 'Copy with what is given');
+            const text = await user.copied();
+            checks.equal('with what is given at it', answer(['read'], text.split('== given\n')[1]), await page.value(`bench.given.at(bench.cards.path(), bench.cards.path()[1])`));
+            checks.check('that the program reads', natively('explore', ['fit'], text).status < 2);
+        }
+        // The files of its two diagrams.
+        await page.value(`(() => { const make = URL.createObjectURL.bind(URL); window.saved = []; URL.createObjectURL = blob => { blob.text().then(text => saved.push(text)); return make(blob); }; })()`);
+        for (const side of ['active', 'passive']) {
+            await page.click(`.card.last figure[data-side=${side}] .save`);
+            const file = await page.until('saved.length && saved.pop()');
+            checks.check(`that of the ${side} side`, file.startsWith('<svg') && file.includes(`<title>${side} diagram: `));
+        }
+    },
+
+    async 'the paper has what is closed on the page'(user, page, checks) {
+        await user.openProblem(...MIS);
+        for (const n of [2, 3]) await user.step(n);
+        await page.click('#close-all');
+        await page.value(`window.print = () => { window.printed = [...document.querySelectorAll('.card')].map(card => [card.classList.contains('closed'), card.querySelectorAll('svg.diagram, .classes').length]); }`);
+        await page.key('p', {modifiers: 2});
+        checks.equal('each card is open, with its diagrams', await page.until('window.printed'), [[false, 2], [false, 2], [false, 2]]);
+        checks.equal('and closed again', await page.until(`[...document.querySelectorAll('.card')].every(card => card.classList.contains('closed'))`), true);
+    },
+
+    async 'a reload keeps what was tried, and what redo brings back'(user, page, checks) {
+        await user.openProblem(...MIS);
+        for (const k of [0, 1]) {
+            await user.search('rounds', k);
+            await page.until(`document.querySelectorAll('.card.last .tried tr').length === ${k + 1}`);
+        }
+        await user.step(2);
+        await page.click('#undo');
+        await page.until(cardsAre(1));
+        await page.until('!bench.keeper.timer && location.hash.length > 20');
+        await page.reload();
+        await page.until(cardsAre(1));
+        checks.equal('both commands', await page.value(`[...document.querySelectorAll('.card.last .tried td:first-child')].map(cell => cell.textContent)`), ['rounds 0', 'rounds 1']);
+        await page.click('#redo');
+        checks.check('the step is there again', await page.until(`${cardsAre(2)} && ${drawn}`));
+    },
+};

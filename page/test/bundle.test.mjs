@@ -11,14 +11,14 @@ import {sourceIn, unpacked} from '../held.mjs';
 import {shortTable, wholeTable} from '../src/texts/tables.js';
 import {catalogueTables, html, namesOfPrograms, pageFolder, wasmOf} from './place.mjs';
 
-const LARGEST_REST = 370000, LARGEST = 1100000;
+const LARGEST_REST = 370000, LARGEST = 1050000;
 const text = html(), rest = text.length - /id="programs">([^]*?)<\/script>/.exec(text)[1].length,
       built = /This file holds <span class="build">([^]*?)<\/span>/.exec(text)[1];
 
 await checked('its size and what it holds', (checks, context) => {
     checks.check(`at most 0.37 MB beside its programs: ${rest} of ${text.length}`, rest < LARGEST_REST);
     // Programs that are built without their proofs are larger.
-    checks.check(`at most 1.1 MB: ${text.length}`, text.length <= LARGEST || built.includes('without running its proof'));
+    checks.check(`at most 1.05 MB: ${text.length}`, text.length <= LARGEST || built.includes('without running its proof'));
     checks.check(`its commit is written into it: ${built}`, /from commit [0-9a-f]{40}\b/.test(built));
     checks.equal('the programs', namesOfPrograms(), ['re', 'explore']);
     for (const name of namesOfPrograms())

@@ -3,6 +3,7 @@ ghost use Rattle.re_given.specs.Inputs.{IsInput};
 ghost use Rattle.re_problem.specs.NamedProblems.{unnamed};
 
 use re_fit::{FitFault, find_fit, input_fault};
+use re_given_words::{FEW_TRIES, Setting};
 use re_inputs::exchanged;
 use re_labels::{LabelSet, NoMemory};
 use re_problem::Problem;
@@ -19,13 +20,11 @@ pub enum Told {
     Unknown,
 }
 
-// An input problem of the problems behind an even number of steps, and the same with its sides exchanged, of those behind an odd number; and
-// the tries by which is told what is solvable.
+// An input problem of the problems behind an even number of steps, and the same with its sides exchanged, of those behind an odd number.
 #[derive(Drop)]
 struct Inputs {
     even: Problem,
     odd: Problem,
-    tries: u32,
 }
 
 /// What is given behind a search's first problem: nothing, or a solution of an input problem.
@@ -35,10 +34,10 @@ pub struct Given {
 }
 
 // What is told of the problem given the input problem.
-fn told_by(alloc: Global, problem: &Problem, input: &Problem, tries: u32) -> Result<Told, NoMemory>
+fn told_by(alloc: Global, problem: &Problem, input: &Problem) -> Result<Told, NoMemory>
     requires { IsInput (unnamed problem.now) (unnamed input.now) }
 {
-    match find_fit(alloc, problem, input, tries) {
+    match find_fit(alloc, problem, input, FEW_TRIES) {
         Ok(Some(sets)) => Ok(Told::Solvable(sets)),
         Ok(None) => Ok(Told::Unsolvable),
         Err(FitFault::TooManyTries) => Ok(Told::Unknown),
@@ -47,15 +46,10 @@ fn told_by(alloc: Global, problem: &Problem, input: &Problem, tries: u32) -> Res
 }
 
 // The same where it may be no input problem.
-fn told_if(
-    alloc: Global,
-    problem: &Problem,
-    input: &Problem,
-    tries: u32,
-) -> Result<Told, NoMemory> {
+fn told_if(alloc: Global, problem: &Problem, input: &Problem) -> Result<Told, NoMemory> {
     match input_fault(problem, input) {
         Some(_) => Ok(Told::Unknown),
-        None => told_by(alloc, problem, input, tries),
+        None => told_by(alloc, problem, input),
     }
 }
 
@@ -65,23 +59,20 @@ impl Given {
         Given { inputs: None }
     }
 
-    /// A solution of the input problem of a chain's first problem, for a search behind so many steps. What is solvable with it is told by at
-    /// most so many tries for each problem.
-    pub fn input(
-        alloc: Global,
-        input: &Problem,
-        steps: usize,
-        tries: u32,
-    ) -> Result<Given, NoMemory> {
+    /// What is given in a setting of a chain's first problem, for a search behind so many steps. What is solvable with it is told by at most
+    /// `FEW_TRIES` tries for each problem.
+    pub fn behind(alloc: Global, setting: &Setting, steps: usize) -> Result<Given, NoMemory> {
+        let Setting::Given(input) = setting else {
+            return Ok(Given { inputs: None });
+        };
         let even = input.copy()?;
         let odd = exchanged(alloc, input)?;
         let inputs = if steps % 2 == 0 {
-            Inputs { even, odd, tries }
+            Inputs { even, odd }
         } else {
             Inputs {
                 even: odd,
                 odd: even,
-                tries,
             }
         };
         Ok(Given {
@@ -95,9 +86,9 @@ impl Given {
             return Ok(Told::Unsolvable);
         };
         if steps % 2 == 0 {
-            told_if(alloc, problem, &inputs.even, inputs.tries)
+            told_if(alloc, problem, &inputs.even)
         } else {
-            told_if(alloc, problem, &inputs.odd, inputs.tries)
+            told_if(alloc, problem, &inputs.odd)
         }
     }
 

@@ -58,4 +58,4 @@ chain_word_of words = None
 
 -- the lines of help
 unfoldable pub chain_help : List ℕ
-chain_help = codes "begin lower: reads a problem, gives the certificate of a lower bound without steps\nbegin upper: reads a problem, gives the certificate of an upper bound without steps\nlast: reads a chain, gives its last problem\ntidy: reads a certificate, gives the same with its rows, entries, images and pairs in their order\nstep: reads a chain, gives the chain with one more step, to the derived problem\nmerge X Y: reads a chain of kind lower, gives the chain in whose last problem X has become Y\nname X Y: reads a chain, gives the chain in whose last problem X is called Y\ndrop X: reads a chain of kind upper, gives the chain whose last problem lacks X\n"
+chain_help = codes "begin lower, begin upper: reads a problem, gives the certificate of a lower or an upper bound without steps\nlast: reads a chain, gives its last problem\ntidy: reads a certificate, gives the same with its rows, entries, images and pairs in their order\nstep: reads a chain, gives the chain with one more step, to the derived problem\nmerge X Y: reads a chain of kind lower, gives the chain in whose last problem the label X has become Y\nname X Y: reads a chain, gives the chain in whose last problem X is called Y\ndrop X: reads a chain of kind upper, gives the chain whose last problem lacks X\n"

@@ -1,6 +1,6 @@
 -- A chain of kind lower that `given` accepts, and the fixed point of a closure that it accepts.
 use Rattle.std.proofs.Common.{◌≡◌, ℕ, true, length, refl, sym, ap, ◌∙◌, subst, codes, Option, None, Some}
-use Rattle.std.specs.Prelude.{◌&&◌, nat_le, option_map}
+use Rattle.std.specs.Prelude.{◌&&◌, IfSome, nat_le, option_map}
 use Rattle.re_labels.proofs.Tests.{and-true}
 use Rattle.re_labels.specs.declared.TheConstants.{MAX_LABELS}
 use Rattle.re_problem.proofs.ZeroPlaces.{some-place}
@@ -17,14 +17,18 @@ use Rattle.re_fit.proofs.Judged.{judged-none}
 use Rattle.re_fit.specs.InputProblems.{input_fault}
 use Rattle.re_fit.specs.declared.inputs.InputFault.{InputFault}
 use Rattle.re_frame.specs.Outcomes.{Outcome, refused}
+use Rattle.re_frame.specs.declared.output.Output.{Output}
 use Rattle.re_frame.specs.declared.status.Status.TheVariants.{Done}
 use Rattle.re_given.proofs.ChainGiven.{IsInput-lower}
 use Rattle.re_given.proofs.Ungiven.{SolvableGiven-ungiven}
 use Rattle.re_given.specs.Inputs.{IsInput}
 use Rattle.re_given_bounds.specs.GivenBounds.{IsOver, MeansGiven}
-use Rattle.re_given_words.specs.Extensions.{GoesOnGiven, IsTaken, TakenLaw}
+use Rattle.re_given_words.specs.Extensions.{GoesOnGiven, IsTaken, Refuses, TakenLaw}
 use Rattle.re_given_words.specs.InputFaults.{or_input_fault}
 use Rattle.re_given_words.specs.Meanings.{AnswerLaw}
+use Rattle.re_given_words.specs.Settings.{IsTakenIn, TakenAloneLaw, input_of}
+use Rattle.re_given_words.specs.declared.setting.Setting.{Setting}
+use Rattle.re_given_words.specs.declared.setting.Setting.TheVariants as settings
 use Rattle.re_given_words.specs.Verdicts.{end_outcome, fit_with, given_outcome, lower_with}
 use Rattle.re_given_words.specs.Walks.{input_at, walk_at}
 use Rattle.re_given_words.specs.declared.words.BoundWord.TheVariants.{Fit}
@@ -32,6 +36,7 @@ use Rattle.re_laws.proofs.ZeroRounds.{Solvable-zero}
 use Rattle.re_laws.specs.Algorithms.{Solvable}
 use Rattle.re_laws.specs.Chains.{IsLowerChain}
 use Rattle.re_walks.specs.Walking.{Walk, cut, found, nowhere}
+use Rattle.re_closure.specs.ClosureWords.{IsJudgedFixed}
 use Rattle.re_closure.specs.Closures.{IsClosed}
 
 -- ---- a chain
@@ -68,6 +73,12 @@ module _ (input : NamedProblem) (chain : Bound) where
       let solvable : Solvable (unnamed last) 0 = (Solvable-zero (unnamed last) last_is).1 ((some-place (unnamed last) (Some place) (sym there)).0 refl) in
       (law Fit input chain names over).no told (SolvableGiven-ungiven (unnamed last) (input_at input (length chain.steps)) 0 is solvable)
 
+-- the same in a setting
+pub taken_open : (setting : Setting) (chain : Bound) → AnswerLaw → TakenAloneLaw → IfSome (input_of setting) IsNamedProblem → is_bound chain ≡ true → IsOverProblems chain → IsSoundLower chain → IsTakenIn setting chain → (place : ℕ)
+    → zero_place (unnamed (last_problem chain)) ≡ Some place → ⊥
+taken_open settings.Alone chain law alone names fits problems sound taken place there = let wrong : Some place ≡ None = sym there ∙ ((alone chain).lower sound).0 taken in cc
+taken_open (settings.Given input) chain law alone names fits problems sound taken place there = taken_not_zero input chain law names fits problems sound taken place there
+
 -- ---- a fixed point
 pub closed_goes_on : (input : NamedProblem) (chain bound : Bound) → TakenLaw → IsNamedProblem input → IsClosed chain bound → IsTaken input bound → GoesOnGiven input Fixed 3 MAX_LABELS chain bound
 closed_goes_on input chain bound law names closed taken = record {
@@ -84,3 +95,8 @@ closed_goes_on input chain bound law names closed taken = record {
       (subst (λ (p : NamedProblem). MeansGiven bound.kind (length bound.steps) (unnamed p) (unnamed input)) closed.goes_on.first
       (law input bound 0 0 names closed.goes_on.fits closed.goes_on.problems taken).means);
 }
+
+-- or what `given` answers to it
+pub judged_fixed : (input : NamedProblem) (chain bound : Bound) → TakenLaw → IsNamedProblem input → IsClosed chain bound → (found : Option Output) → Refuses input bound found → IsJudgedFixed (settings.Given input) chain bound found
+judged_fixed input chain bound law names closed None taken = closed_goes_on input chain bound law names closed taken
+judged_fixed input chain bound law names closed (Some output) declines = declines

@@ -11,44 +11,27 @@ use Rattle.re_chains.specs.OverChains.{IsJudged, steps_refusal}
 use Rattle.re_check.specs.declared.verdict.Verdict.{Verdict}
 use Rattle.re_closure.specs.ClosureWords.{MayFindBy, MayGiveAt, MayGiveSound}
 use Rattle.re_closure.specs.DiagramTexts.{AreEdges}
-use Rattle.re_closure.specs.GivenClosures.{MayFindGivenWithin, MayGiveGivenAt, MayGiveGivenSound}
 use Rattle.re_frame.specs.Check.{verdict_outcome}
 use Rattle.re_frame.specs.Outcomes.{Outcome, refused}
 use Rattle.re_frame.specs.SearchLines.{not_lower_line}
-use Rattle.re_problem.specs.NamedProblems.{NamedProblem}
+use Rattle.re_given_words.specs.declared.setting.Setting.{Setting}
 
--- ---- with a diagram or without
-module _ (given : Bound) (diagram : Option (List (ℕ × ℕ))) (more : ℕ) (outcome : Outcome) where
-  pub lower_may : (chain : LowerChain) → IsJudged given (Ok (Lower chain)) → MayFindBy diagram more chain.certificate outcome → MayGiveSound (steps_refusal given) diagram more given outcome
+module _ (given : Bound) (diagram : Option (List (ℕ × ℕ))) (more : ℕ) (setting : Setting) (outcome : Outcome) where
+  pub lower_may : (chain : LowerChain) → IsJudged given (Ok (Lower chain)) → MayFindBy diagram more setting chain.certificate outcome → MayGiveSound (steps_refusal given) diagram more setting given outcome
   lower_may chain is may =
-      subst (λ refusal. MayGiveSound refusal diagram more given outcome) (sym is.1)
-      (subst (λ (b : Bound). MayGiveAt b.kind diagram more b outcome) is.0 (subst (λ k. MayGiveAt k diagram more chain.certificate outcome) (sym chain.chain.lower) may))
+      subst (λ refusal. MayGiveSound refusal diagram more setting given outcome) (sym is.1)
+      (subst (λ (b : Bound). MayGiveAt b.kind diagram more setting b outcome) is.0 (subst (λ k. MayGiveAt k diagram more setting chain.certificate outcome) (sym chain.chain.lower) may))
 
-  pub upper_may : (chain : UpperChain) → IsJudged given (Ok (Upper chain)) → outcome ≡ refused not_lower_line → MayGiveSound (steps_refusal given) diagram more given outcome
+  pub upper_may : (chain : UpperChain) → IsJudged given (Ok (Upper chain)) → outcome ≡ refused not_lower_line → MayGiveSound (steps_refusal given) diagram more setting given outcome
   upper_may chain is e =
-      subst (λ refusal. MayGiveSound refusal diagram more given outcome) (sym is.1)
-      (subst (λ (b : Bound). MayGiveAt b.kind diagram more b outcome) is.0 (subst (λ k. MayGiveAt k diagram more chain.certificate outcome) (sym chain.chain.upper) e))
+      subst (λ refusal. MayGiveSound refusal diagram more setting given outcome) (sym is.1)
+      (subst (λ (b : Bound). MayGiveAt b.kind diagram more setting b outcome) is.0 (subst (λ k. MayGiveAt k diagram more setting chain.certificate outcome) (sym chain.chain.upper) e))
 
-  pub refused_may : (verdict : Verdict) → IsJudged given (Err verdict) → outcome ≡ verdict_outcome verdict → MayGiveSound (steps_refusal given) diagram more given outcome
-  refused_may verdict is e = subst (λ refusal. MayGiveSound refusal diagram more given outcome) (sym is) e
+  pub refused_may : (verdict : Verdict) → IsJudged given (Err verdict) → outcome ≡ verdict_outcome verdict → MayGiveSound (steps_refusal given) diagram more setting given outcome
+  refused_may verdict is e = subst (λ refusal. MayGiveSound refusal diagram more setting given outcome) (sym is) e
 
 -- edges of the chain are edges of what was judged
 pub judged_edges : (given : Bound) (judged : Result Chain Verdict) (edges : List (ℕ × ℕ)) → IsJudged given judged → AreEdges (length (last_problem given).names) edges
     → IfOk judged (λ chain. AreEdges (length (last_problem (held_bound chain)).names) edges)
 judged_edges given (Ok chain) edges is are = subst (λ (b : Bound). AreEdges (length (last_problem b).names) edges) (sym is.0) are
 judged_edges given (Err verdict) edges is are = tt
-
--- ---- with an input problem
-module _ (given : Bound) (input : NamedProblem) (more : ℕ) (outcome : Outcome) where
-  pub lower_given : (chain : LowerChain) → IsJudged given (Ok (Lower chain)) → MayFindGivenWithin more input chain.certificate outcome → MayGiveGivenSound (steps_refusal given) more input given outcome
-  lower_given chain is may =
-      subst (λ refusal. MayGiveGivenSound refusal more input given outcome) (sym is.1)
-      (subst (λ (b : Bound). MayGiveGivenAt b.kind more input b outcome) is.0 (subst (λ k. MayGiveGivenAt k more input chain.certificate outcome) (sym chain.chain.lower) may))
-
-  pub upper_given : (chain : UpperChain) → IsJudged given (Ok (Upper chain)) → outcome ≡ refused not_lower_line → MayGiveGivenSound (steps_refusal given) more input given outcome
-  upper_given chain is e =
-      subst (λ refusal. MayGiveGivenSound refusal more input given outcome) (sym is.1)
-      (subst (λ (b : Bound). MayGiveGivenAt b.kind more input b outcome) is.0 (subst (λ k. MayGiveGivenAt k more input chain.certificate outcome) (sym chain.chain.upper) e))
-
-  pub refused_given : (verdict : Verdict) → IsJudged given (Err verdict) → outcome ≡ verdict_outcome verdict → MayGiveGivenSound (steps_refusal given) more input given outcome
-  refused_given verdict is e = subst (λ refusal. MayGiveGivenSound refusal more input given outcome) (sym is) e

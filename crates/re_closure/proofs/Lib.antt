@@ -6,9 +6,7 @@ mod DiagramOrders
 mod Dominations
 mod EdgeLines
 mod Filters
-mod GivenSaying
 mod GivenTaken
-mod GivenWithin
 mod Joined
 mod Judged
 mod Keeping
@@ -23,5 +21,5 @@ mod RaisedProblems
 mod RaisedSteps
 mod RaisedWithin
 mod RowLemmas
+mod SaidWithin
 mod Saying
-mod Within

@@ -210,18 +210,18 @@ limit_lines one two (inr (inr way)) given other f g = inr (inr (two, way, g))
 
 -- ---- outcomes
 pub one_outcome : OneOutcomeLaw
-one_outcome chain one two is (inl f) (inl g) = inl (f.1 ∙ ap certificate_outcome (bounds chain f.0 g.0 is f.4 g.4) ∙ sym g.1)
+one_outcome chain one two is (inl f) (inl g) = inl (f.1.one ∙ ap certificate_outcome (bounds chain f.0 g.0 is f.1.closed g.1.closed) ∙ sym g.1.one)
 one_outcome chain one two is (inl f) (inr (inl s)) =
-    absurd (not_both (unnamed (last_problem chain)) f.4.active f.4.passive s.3.active s.3.passive s.3.place is f.4.closure.closure s.3.closure.closure f.4.not_zero s.3.first)
+    absurd (not_both (unnamed (last_problem chain)) f.1.closed.active f.1.closed.passive s.3.active s.3.passive s.3.place is f.1.closed.closure.closure s.3.closure.closure f.1.closed.not_zero s.3.first)
 one_outcome chain one two is (inr (inl s)) (inl f) =
-    absurd (not_both (unnamed (last_problem chain)) f.4.active f.4.passive s.3.active s.3.passive s.3.place is f.4.closure.closure s.3.closure.closure f.4.not_zero s.3.first)
+    absurd (not_both (unnamed (last_problem chain)) f.1.closed.active f.1.closed.passive s.3.active s.3.passive s.3.place is f.1.closed.closure.closure s.3.closure.closure f.1.closed.not_zero s.3.first)
 one_outcome chain one two is (inr (inl s)) (inr (inl t)) = inl (s.1 ∙ ap (λ sets. refused (closure_line (last_problem chain) sets)) (lines (last_problem chain) s.0 t.0 is s.3 t.3) ∙ sym t.1)
 one_outcome chain one two is (inl f) (inr (inr l)) =
-    inr (inr (l.0, small_passes (unnamed (last_problem chain)) f.4.active f.4.passive l.0 is f.4.closure (room_passes chain l.0 f.3 l.2), l.1))
+    inr (inr (l.0, small_passes (unnamed (last_problem chain)) f.1.closed.active f.1.closed.passive l.0 is f.1.closed.closure (room_passes chain l.0 f.1.room l.2), l.1))
 one_outcome chain one two is (inr (inl s)) (inr (inr l)) =
     inr (inr (l.0, small_passes (unnamed (last_problem chain)) s.3.active s.3.passive l.0 is s.3.closure (room_passes chain l.0 s.2 l.2), l.1))
 one_outcome chain one two is (inr (inr l)) (inl f) =
-    inr (inl (l.0, small_passes (unnamed (last_problem chain)) f.4.active f.4.passive l.0 is f.4.closure (room_passes chain l.0 f.3 l.2), l.1))
+    inr (inl (l.0, small_passes (unnamed (last_problem chain)) f.1.closed.active f.1.closed.passive l.0 is f.1.closed.closure (room_passes chain l.0 f.1.room l.2), l.1))
 one_outcome chain one two is (inr (inr l)) (inr (inl s)) =
     inr (inl (l.0, small_passes (unnamed (last_problem chain)) s.3.active s.3.passive l.0 is s.3.closure (room_passes chain l.0 s.2 l.2), l.1))
 one_outcome chain one two is (inr (inr l)) (inr (inr m)) = limit_lines l.0 m.0 (two_limits chain l.0 m.0 is l.2 m.2) one two l.1 m.1

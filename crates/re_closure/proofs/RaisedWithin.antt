@@ -16,6 +16,7 @@ use Rattle.re_check.proofs.Meaning.{named-last}
 use Rattle.re_check.specs.Clauses.{step_fault}
 use Rattle.re_labels.specs.Configs.{IsConfig, image_at}
 use Rattle.re_frame.specs.Outcomes.{Outcome}
+use Rattle.re_given_words.specs.declared.setting.Setting.TheVariants.{Alone}
 use Rattle.re_labels.proofs.Membership.{AllByRecursion-contains, length-map'}
 use Rattle.re_labels.proofs.Tests.{and-true, true-and}
 use Rattle.re_labels.specs.Lists.{count_from}
@@ -27,6 +28,7 @@ use Rattle.re_search.proofs.Paths.{fits-more, valid-more}
 use Rattle.re_closure.proofs.Joined.{IsLonger, is_formed, one_form-of}
 use Rattle.re_closure.proofs.RaisedJoined.{written_begun}
 use Rattle.re_closure.proofs.RaisedProblems.{raised-named, raised-relaxed}
+use Rattle.re_given_words.specs.declared.setting.Setting.TheVariants.{Alone}
 use Rattle.re_closure.specs.ClosureWords.{IsRaisedLimitLine, IsRaisedLine, MayFindRaisedBehind, MayFindRaisedWithin, MayFindWithin, MayGoOnRaised}
 use Rattle.re_closure.specs.Diagrams.{raised}
 use Rattle.re_closure.specs.RaisedClosures.{raised_chain, step_to_raised}
@@ -36,7 +38,7 @@ use Rattle.re_closure_laws.proofs.Itself.{own_image}
 pub raised_limit_within : (more : ℕ) (edges : List (ℕ × ℕ)) (chain : Bound) (outcome : Outcome) → zero_place (unnamed (last_problem chain)) ≡ None → IsRaisedLimitLine edges chain outcome → MayFindRaisedWithin more edges chain outcome
 raised_limit_within zero edges chain outcome none line = subst (λ p. MayFindRaisedBehind (IsRaisedLine edges chain) p edges chain outcome) (sym none) (inr (inr line))
 raised_limit_within (suc more) edges chain outcome none line =
-    subst (λ p. MayFindRaisedBehind (MayGoOnRaised edges chain (MayFindWithin more (raised_chain edges chain))) p edges chain outcome) (sym none) (inr (inr line))
+    subst (λ p. MayFindRaisedBehind (MayGoOnRaised edges chain (MayFindWithin more Alone (raised_chain edges chain))) p edges chain outcome) (sym none) (inr (inr line))
 
 -- ---- the chain with the step to the derived problem of the raised problem
 module _ (problem relaxed : NamedProblem) (fine : IsNamedProblem problem) (is : IsRelaxed (unnamed problem) (unnamed relaxed) (λ x. x)) where

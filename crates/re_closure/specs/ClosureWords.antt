@@ -8,13 +8,13 @@ use Rattle.re_problem.specs.declared.fault.InputFault.{InputFault}
 use Rattle.re_cert.specs.Bounds.{Bound, last_problem}
 use Rattle.re_cert.specs.declared.certificate.TheConstants.{MAX_STEPS}
 use Rattle.re_cert.specs.declared.certificate.Kind.{Kind}
-use Rattle.re_cert.specs.declared.certificate.Kind.TheVariants.{Upper}
+use Rattle.re_cert.specs.declared.certificate.Kind.TheVariants.{Fixed, Upper}
 use Rattle.re_problem.specs.Numerals.{number_of}
 use Rattle.re_shaping.specs.RowForms.{by_rows}
 use Rattle.re_shaping.specs.Stepped.{stepped, stepping_fault}
 use Rattle.re_shaping.specs.declared.stepping.ChainStepFault.{ChainStepFault}
 use Rattle.re_shaping.specs.declared.stepping.ChainStepFault.TheVariants as chain_step_fault
-use Rattle.re_chains.specs.ChainTexts.{chain_fault, text_chain}
+use Rattle.re_chains.specs.ChainTexts.{text_chain}
 use Rattle.re_chains.specs.OverChains.{GivesText, certificate_outcome, steps_refusal}
 use Rattle.re_check.specs.declared.verdict.Verdict.{Verdict}
 use Rattle.re_shaping.specs.Relaxing.{relaxed_limit}
@@ -23,11 +23,22 @@ use Rattle.re_closure.specs.DiagramTexts.{diagram_edges, diagram_fault, front_ch
 use Rattle.re_closure.specs.Diagrams.{raised}
 use Rattle.re_closure.specs.RaisedClosures.{IsRaisedClosed, IsRaisedSolvableBy, RaisedLimitIs, raised_chain}
 use Rattle.re_closure.specs.declared.answering.ClosureWord.{ClosureWord}
+use Rattle.re_closure.specs.declared.going_on.Said.{Said}
+use Rattle.re_closure.specs.declared.going_on.Said.TheVariants.{Closed, Open}
 use Rattle.re_closure.specs.declared.answering.TheConstants.{MAX_FURTHER}
 use Rattle.re_closure.specs.declared.types.ClosureLimit.{ClosureLimit}
 use Rattle.re_closure.specs.declared.types.ClosureLimit.TheVariants.{Combinations, Configurations, Labels, Rows, Steps}
 use Rattle.re_frame.specs.Check.{verdict_outcome}
-use Rattle.re_frame.specs.Outcomes.{Outcome, limit, limit_of, refused}
+use Rattle.re_frame.specs.Outcomes.{Outcome, limit, limit_of, outcome_of, refused}
+use Rattle.re_frame.specs.declared.output.Output.{Output}
+use Rattle.re_given_words.specs.Extensions.{IsTaken}
+use Rattle.re_given_words.specs.SettingTexts.{parts_of}
+use Rattle.re_given_words.specs.Settings.{GivesIn, GoesOnIn, IsFaultIn, IsRefusalIn, IsSettingOf, IsTakenIn, text_outcome_in}
+use Rattle.re_given_words.specs.Verdicts.{given_outcome}
+use Rattle.re_given_words.specs.declared.setting.Setting.{Setting}
+use Rattle.re_given_words.specs.declared.setting.Setting.TheVariants.{Alone, Given}
+use Rattle.re_given_words.specs.declared.words.BoundWord.TheVariants as word
+use Rattle.re_labels.specs.declared.TheConstants.{MAX_LABELS}
 use Rattle.re_frame.specs.SearchLines.{not_lower_line, solvable_line}
 use Rattle.re_frame.specs.StepLimits.{limit_line as step_line}
 use Rattle.re_frame.specs.TextFaults.{fault_outcome}
@@ -62,9 +73,16 @@ limit_line Configurations = codes "limit: closure: more than 1048576 configurati
 limit_line Steps = (limit_of MAX_STEPS (codes "steps")).text
 
 -- ---- answers
--- the text of the fixed point of the closure of the last problem; it is read as this fixed point
-abbrev pub IsFound : Bound → Outcome → Type 0
-IsFound chain outcome = (bound : Bound) × (outcome ≡ certificate_outcome bound) × GivesText bound outcome × HasRoom chain × IsClosed chain bound
+-- the text in the setting of the fixed point of the closure of the last problem; it is read as this fixed point, which goes on from the chain there
+pub record IsClosedText (setting : Setting) (chain bound : Bound) (outcome : Outcome) : Type 0 where
+  pub one : outcome ≡ text_outcome_in setting bound
+  pub gives : GivesIn setting bound outcome
+  pub room : HasRoom chain
+  pub closed : IsClosed chain bound
+  pub goes_on : GoesOnIn setting Fixed 3 MAX_LABELS chain bound
+
+abbrev pub IsFound : Setting → Bound → Outcome → Type 0
+IsFound setting chain outcome = (bound : Bound) × IsClosedText setting chain bound outcome
 
 -- the line of the configuration that shows that the closure is solvable without communication
 abbrev pub IsClosureLine : Bound → Outcome → Type 0
@@ -75,15 +93,23 @@ IsClosureLine chain outcome =
 abbrev pub IsLimitLine : Bound → Outcome → Type 0
 IsLimitLine chain outcome = (passed : ClosureLimit) × (outcome ≡ limit (limit_line passed)) × LimitIs chain passed
 
--- what the word may give to a chain whose last problem isn't solvable without communication: the fixed point of its closure; what it gives where the closure is
--- solvable without communication; or the line of a limit
-abbrev pub MayFind : (Outcome → Type 0) → Bound → Outcome → Type 0
-MayFind MayGiveSolvable chain outcome = IsFound chain outcome ⊎ (MayGiveSolvable outcome ⊎ IsLimitLine chain outcome)
+-- the answer of `given` to the fixed point of the closure, where it doesn't accept it; alone each is accepted
+abbrev pub IsDeclined : Setting → Bound → Outcome → Type 0
+IsDeclined Alone bound outcome = ⊥
+IsDeclined (Given input) bound outcome = (IsTaken input bound → ⊥) × (outcome ≡ given_outcome word.Given input bound)
 
--- the line of the configuration where the last problem is solvable without communication, and else what may be found
-abbrev pub MayFindBehind : (Outcome → Type 0) → Option ℕ → Bound → Outcome → Type 0
-MayFindBehind MayGiveSolvable (Some place) chain outcome = outcome ≡ refused (solvable_line (last_problem chain) place)
-MayFindBehind MayGiveSolvable None chain outcome = MayFind MayGiveSolvable chain outcome
+-- there is no such fixed point, and this says why: the configuration by which the closure is solvable without communication, or the answer to its fixed point
+abbrev pub IsUnfound : Setting → Bound → Outcome → Type 0
+IsUnfound setting chain outcome = IsClosureLine chain outcome ⊎ ((bound : Bound) × HasRoom chain × IsClosed chain bound × IsDeclined setting bound outcome)
+
+-- what the word may give to a chain that is taken: the text of the fixed point; what is given where there is none; or the line of a limit
+abbrev pub MayFind : (Outcome → Type 0) → Setting → Bound → Outcome → Type 0
+MayFind MayGiveUnfound setting chain outcome = IsFound setting chain outcome ⊎ (MayGiveUnfound outcome ⊎ IsLimitLine chain outcome)
+
+-- and to one that isn't: why it isn't
+abbrev pub MayFindBehind : (Outcome → Type 0) → Setting → Bound → Outcome → Type 0
+MayFindBehind MayGiveUnfound setting chain outcome =
+    (IsTakenIn setting chain × MayFind MayGiveUnfound setting chain outcome) ⊎ ((IsTakenIn setting chain → ⊥) × IsRefusalIn setting chain outcome)
 
 -- the line of what keeps a chain from its step of this number
 abbrev pub stop_outcome : ℕ → ChainStepFault → Outcome
@@ -95,17 +121,15 @@ abbrev pub MayStep : ℕ → Option ChainStepFault → (Outcome → Type 0) → 
 MayStep number None MayGiveNext outcome = MayGiveNext outcome
 MayStep number (Some fault) MayGiveNext outcome = outcome ≡ stop_outcome number fault
 
--- the closure of the last problem is solvable without communication, and the chain goes on by its derived step
-abbrev pub MayGoOn : Bound → (Outcome → Type 0) → Outcome → Type 0
-MayGoOn chain MayGiveNext outcome =
-    HasRoom chain × ((sets : List (List ℕ)) × IsSolvableBy (last_problem chain) sets) × MayStep (suc (length chain.steps)) (stepping_fault chain) MayGiveNext outcome
+-- there is no such fixed point, and the chain goes on by its derived step
+abbrev pub MayGoOn : Setting → Bound → (Outcome → Type 0) → Outcome → Type 0
+MayGoOn setting chain MayGiveNext outcome = ((why : Outcome) × IsUnfound setting chain why) × MayStep (suc (length chain.steps)) (stepping_fault chain) MayGiveNext outcome
 
--- what the word may give to a chain of kind lower: the fixed point of the closure of its last problem, or where that closure is solvable without communication
--- what it gives to the chain with one derived step more, up to so many steps
-abbrev pub MayFindWithin : ℕ → Bound → Outcome → Type 0
-MayFindWithin zero chain outcome = MayFindBehind (IsClosureLine chain) (zero_place (unnamed (last_problem chain))) chain outcome
-MayFindWithin (suc more) chain outcome =
-    MayFindBehind (MayGoOn chain (MayFindWithin more (stepped chain))) (zero_place (unnamed (last_problem chain))) chain outcome
+-- what the word may give to a chain of kind lower: the fixed point of the closure of its last problem, or where there is none what it gives to the chain with one
+-- derived step more, up to so many steps
+abbrev pub MayFindWithin : ℕ → Setting → Bound → Outcome → Type 0
+MayFindWithin zero setting chain outcome = MayFindBehind (IsUnfound setting chain) setting chain outcome
+MayFindWithin (suc more) setting chain outcome = MayFindBehind (MayGoOn setting chain (MayFindWithin more setting (stepped chain))) setting chain outcome
 
 -- ---- answers behind a diagram
 -- the text of the fixed point of the closure of the raised problem; it is read as this fixed point
@@ -142,38 +166,62 @@ MayGoOnRaised edges chain MayGiveNext outcome =
 abbrev pub MayFindRaisedWithin : ℕ → List (ℕ × ℕ) → Bound → Outcome → Type 0
 MayFindRaisedWithin zero edges chain outcome = MayFindRaisedBehind (IsRaisedLine edges chain) (zero_place (unnamed (last_problem chain))) edges chain outcome
 MayFindRaisedWithin (suc more) edges chain outcome =
-    MayFindRaisedBehind (MayGoOnRaised edges chain (MayFindWithin more (raised_chain edges chain))) (zero_place (unnamed (last_problem chain))) edges chain outcome
+    MayFindRaisedBehind (MayGoOnRaised edges chain (MayFindWithin more Alone (raised_chain edges chain))) (zero_place (unnamed (last_problem chain))) edges chain outcome
 
--- the same with or without a diagram
-abbrev pub MayFindBy : Option (List (ℕ × ℕ)) → ℕ → Bound → Outcome → Type 0
-MayFindBy None more chain outcome = MayFindWithin more chain outcome
-MayFindBy (Some edges) more chain outcome = MayFindRaisedWithin more edges chain outcome
+-- the same with or without a diagram, which stands alone
+abbrev pub MayFindBy : Option (List (ℕ × ℕ)) → ℕ → Setting → Bound → Outcome → Type 0
+MayFindBy None more setting chain outcome = MayFindWithin more setting chain outcome
+MayFindBy (Some edges) more setting chain outcome = MayFindRaisedWithin more edges chain outcome
 
 -- ---- texts
 -- a chain of kind upper is refused
-abbrev pub MayGiveAt : Kind → Option (List (ℕ × ℕ)) → ℕ → Bound → Outcome → Type 0
-MayGiveAt Upper diagram more chain outcome = outcome ≡ refused not_lower_line
-MayGiveAt kind diagram more chain outcome = MayFindBy diagram more chain outcome
+abbrev pub MayGiveAt : Kind → Option (List (ℕ × ℕ)) → ℕ → Setting → Bound → Outcome → Type 0
+MayGiveAt Upper diagram more setting chain outcome = outcome ≡ refused not_lower_line
+MayGiveAt kind diagram more setting chain outcome = MayFindBy diagram more setting chain outcome
 
 -- the line of `check` for the first step that fails, and else what may be given to the chain
-abbrev pub MayGiveSound : Option Verdict → Option (List (ℕ × ℕ)) → ℕ → Bound → Outcome → Type 0
-MayGiveSound (Some verdict) diagram more chain outcome = outcome ≡ verdict_outcome verdict
-MayGiveSound None diagram more chain outcome = MayGiveAt chain.kind diagram more chain outcome
+abbrev pub MayGiveSound : Option Verdict → Option (List (ℕ × ℕ)) → ℕ → Setting → Bound → Outcome → Type 0
+MayGiveSound (Some verdict) diagram more setting chain outcome = outcome ≡ verdict_outcome verdict
+MayGiveSound None diagram more setting chain outcome = MayGiveAt chain.kind diagram more setting chain outcome
 
--- the line of the first fault of the text, and else what may be given to its chain
-abbrev pub MayGiveRead : Option InputFault → Option (List (ℕ × ℕ)) → ℕ → Bound → Outcome → Type 0
-MayGiveRead (Some fault) diagram more chain outcome = outcome ≡ fault_outcome fault
-MayGiveRead None diagram more chain outcome = MayGiveSound (steps_refusal chain) diagram more chain outcome
+-- the line where what is given is no input problem of the chain's first one comes before
+abbrev pub MayGiveIn : Option (List (ℕ × ℕ)) → ℕ → Setting → Bound → Outcome → Type 0
+MayGiveIn diagram more setting chain outcome =
+    IsFaultIn chain.first setting outcome ⊎ (IsSettingOf (unnamed chain.first) setting × MayGiveSound (steps_refusal chain) diagram more setting chain outcome)
+
+-- and that of the first fault of the text
+abbrev pub MayGiveRead : Option InputFault → Option (List (ℕ × ℕ)) → ℕ → Setting → Bound → Outcome → Type 0
+MayGiveRead (Some fault) diagram more setting chain outcome = outcome ≡ fault_outcome fault
+MayGiveRead None diagram more setting chain outcome = MayGiveIn diagram more setting chain outcome
 
 -- the chain of a text, from which goes on what is found; with a diagram its maps are by rows
 abbrev pub closure_chain : List ℕ → Bound
-closure_chain bytes = if has_diagram bytes then by_rows (front_chain bytes) else text_chain bytes
+closure_chain bytes = if has_diagram bytes then by_rows (front_chain bytes) else text_chain (parts_of bytes).front
+
+-- what is given there: behind a diagram there is no input problem
+abbrev pub closure_setting : List ℕ → Setting
+closure_setting bytes = if has_diagram bytes then Alone else (parts_of bytes).setting
 
 -- what the word may give to a text with a diagram, and to one without
 abbrev pub MayGiveBy : Bool → ClosureWord → List ℕ → Outcome → Type 0
-MayGiveBy true word bytes outcome = MayGiveRead (diagram_fault bytes) (Some (diagram_edges bytes)) word.steps (front_chain bytes) outcome
-MayGiveBy false word bytes outcome = MayGiveRead (chain_fault bytes) None word.steps (text_chain bytes) outcome
+MayGiveBy true word bytes outcome = MayGiveRead (diagram_fault bytes) (Some (diagram_edges bytes)) word.steps Alone (front_chain bytes) outcome
+MayGiveBy false word bytes outcome = MayGiveRead (parts_of bytes).fault None word.steps (parts_of bytes).setting (text_chain (parts_of bytes).front) outcome
 
 -- what it may give to a text, which has a diagram where it has the line of one
 unfoldable pub MayGive : ClosureWord → List ℕ → Outcome → Type 0
 MayGive word bytes outcome = MayGiveBy (has_diagram bytes) word bytes outcome
+
+-- ---- calls
+-- nothing is given
+abbrev pub NoOutcome : Outcome → Type 0
+NoOutcome outcome = ⊥
+
+-- what is said of a chain without a further step: all that is to say; or it is taken, but there is no such fixed point
+abbrev pub Closes : Setting → Bound → Said → Type 0
+Closes setting chain (Closed output) = MayFindBehind NoOutcome setting chain (outcome_of output)
+Closes setting chain (Open output) = IsTakenIn setting chain × IsUnfound setting chain (outcome_of output)
+
+-- the fixed point of the closure goes on from the chain, or the answer to it
+abbrev pub IsJudgedFixed : Setting → Bound → Bound → Option Output → Type 0
+IsJudgedFixed setting chain bound None = GoesOnIn setting Fixed 3 MAX_LABELS chain bound
+IsJudgedFixed setting chain bound (Some output) = IsDeclined setting bound (outcome_of output)

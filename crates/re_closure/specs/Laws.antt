@@ -8,6 +8,7 @@ use Rattle.re_closure.specs.declared.types.ClosureLimit.TheVariants.{Combination
 use Rattle.re_frame.specs.Outcomes.{Outcome, limit}
 use Rattle.re_closure.specs.ClosureWords.{IsClosureLine, IsRaisedLine, MayFind, MayFindRaised, limit_line}
 use Rattle.re_closure.specs.Diagrams.{raised}
+use Rattle.re_given_words.specs.declared.setting.Setting.TheVariants.{Alone}
 
 -- a limit of the way to the closure: of the lines that come together, or of the combinations that are looked at
 abbrev pub IsOnWay : ClosureLimit → Type 0
@@ -23,7 +24,7 @@ IsWayLine outcome = (passed : ClosureLimit) × IsOnWay passed × (outcome ≡ li
 
 -- the chain decides what the word gives, but for the limits of the way to the closure
 abbrev pub OneOutcomeLaw : Type 0
-OneOutcomeLaw = (chain : Bound) (one two : Outcome) → IsProblem (unnamed (last_problem chain)) → MayFind (IsClosureLine chain) chain one → MayFind (IsClosureLine chain) chain two → (one ≡ two) ⊎ (IsWayLine one ⊎ IsWayLine two)
+OneOutcomeLaw = (chain : Bound) (one two : Outcome) → IsProblem (unnamed (last_problem chain)) → MayFind (IsClosureLine chain) Alone chain one → MayFind (IsClosureLine chain) Alone chain two → (one ≡ two) ⊎ (IsWayLine one ⊎ IsWayLine two)
 
 -- with a diagram too
 abbrev pub OneRaisedOutcomeLaw : Type 0

@@ -4,7 +4,6 @@ pub mod Closures
 pub mod Combining
 pub mod DiagramTexts
 pub mod Diagrams
-pub mod GivenClosures
 pub mod Kept
 pub mod Laws
 pub mod Limits

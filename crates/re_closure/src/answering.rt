@@ -1,33 +1,34 @@
 //! The word, and what it answers.
 ghost use Rattle.re_cert.specs.Bounds.{Bound, last_problem};
+ghost use Rattle.re_cert.specs.declared.certificate.Kind.TheVariants.{Fixed};
 ghost use Rattle.re_chains.specs.HeldBounds.{held_bound};
-ghost use Rattle.re_chains.specs.ChainTexts.{chain_fault, text_chain};
+ghost use Rattle.re_chains.specs.ChainTexts.{text_chain};
 ghost use Rattle.re_chains.specs.OverChains.{IsJudged, steps_refusal};
-ghost use Rattle.re_closure.specs.ClosureWords.{MayFindWithin, MayGive, MayGiveRead, MayGiveSound, closure_help, closure_with, closure_word_of, stop_outcome};
+ghost use Rattle.re_closure.specs.ClosureWords.{MayGive, MayGiveIn, MayGiveRead, MayGiveSound, closure_help, closure_with, closure_word_of, stop_outcome};
 ghost use Rattle.re_closure.specs.DiagramTexts.{AreEdges, diagram_edges, diagram_fault, front_chain};
-ghost use Rattle.re_closure.specs.GivenClosures.{MayGiveText, has_input};
+ghost use Rattle.re_given_words.specs.SettingTexts.{parts_of};
+ghost use Rattle.re_given_words.specs.declared.setting.Setting.TheVariants.{Alone};
 ghost use Rattle.re_frame.specs.Outcomes.{outcome_of};
 ghost use Rattle.re_io.specs.declared.read.TheConstants.{MAX_BYTES};
 ghost use Rattle.re_chains.specs.TwoTexts.{IsCut};
 ghost use Rattle.std.specs.Prelude.{◌≡◌, ◌<◌, ◌≤◌, ◌+◌, ℕ, Err, IfOk, List, None, Some, codes, length, map, string_bytes};
 
-use crate::given::given_output;
-use crate::limit_lines::{limit_output, solvable_closure};
+use crate::going_on::closure_output;
+use crate::limit_lines::limit_output;
 use crate::raised_output::raised_output;
 use crate::reading::{DiagramText, read_diagram};
-use crate::{Closing, ClosureFault, ClosureLimit, find_closure};
-use re_chains::{
-    Chain, Cut, LowerChain, certificate_output, cut_at, has_line, judged_chain, read_chain,
-};
+use crate::types::ClosureLimit;
+use re_cert::Certificate;
+use re_chains::{Chain, Cut, cut_at, judged_chain};
 use re_check::Verdict;
 use re_frame::{
     Finding, Output, fault_output, limit_output as step_limit_output, not_lower_output,
-    solvable_output, verdict_output,
+    verdict_output,
 };
-use re_given_words::GIVEN;
+use re_given_words::{Setting, SettingTexts, input_refusal_in, read_in};
 use re_labels::NoMemory;
 use re_problem::{TextFault, read_number};
-use re_shaping::{ChainStepFault, step_lower};
+use re_shaping::ChainStepFault;
 use std::alloc::Global;
 
 /// The most steps by which the word goes on where a closure is solvable without communication.
@@ -103,36 +104,18 @@ pub(crate) fn stop_output(
     }
 }
 
-/// What the word gives to a chain of kind lower, which it goes on from by up to so many steps: the fixed point of the closure of its
-/// last problem, or of the first of the next ones whose closure isn't solvable without communication.
-pub fn closure_output(alloc: Global, chain: &LowerChain, more: u8) -> Result<Output, NoMemory>
-    ensures { IfOk result (λ output. MayFindWithin more chain.now.certificate (outcome_of output)) }
-{
-    let sets = match find_closure(alloc, chain) {
-        Ok(Closing::Found(certificate)) => return certificate_output(alloc, &certificate),
-        Ok(Closing::Solvable(place)) => {
-            return solvable_output(alloc, chain.certificate.last(), place);
-        }
-        Ok(Closing::SolvableClosure(sets)) => sets,
-        Err(ClosureFault::Limit(limit)) => return limit_output(alloc, limit),
-        Err(ClosureFault::NoMemory) => return Err(NoMemory),
-    };
-    if more == 0 {
-        return solvable_closure(alloc, chain.certificate.last(), sets.as_slice());
-    }
-    match step_lower(alloc, chain) {
-        Ok(next) => closure_output(alloc, &next, more - 1),
-        Err(fault) => stop_output(alloc, chain.certificate.steps().len() as u8 + 1, fault),
-    }
-}
-
 // What the word gives to a chain that was judged.
-fn chain_output(alloc: Global, judged: Result<Chain, Verdict>, more: u8) -> Result<Output, NoMemory>
+fn chain_output(
+    alloc: Global,
+    setting: &Setting,
+    judged: Result<Chain, Verdict>,
+    more: u8,
+) -> Result<Output, NoMemory>
     ensures { (given : Bound) → IsJudged given judged →
-        IfOk result (λ output. MayGiveSound (steps_refusal given) None more given (outcome_of output)) }
+        IfOk result (λ output. MayGiveSound (steps_refusal given) None more setting.now given (outcome_of output)) }
 {
     match judged {
-        Ok(Chain::Lower(chain)) => closure_output(alloc, &chain, more),
+        Ok(Chain::Lower(chain)) => closure_output(alloc, setting, &chain, more),
         Ok(Chain::Upper(_)) => not_lower_output(alloc),
         Err(verdict) => Ok(verdict_output(alloc, verdict)?),
     }
@@ -147,7 +130,7 @@ fn diagram_output(
 ) -> Result<Output, NoMemory>
     requires { IfOk judged (λ chain. AreEdges (length (last_problem (held_bound chain)).names) edges.now) }
     ensures { (given : Bound) → IsJudged given judged →
-        IfOk result (λ output. MayGiveSound (steps_refusal given) (Some edges.now) more given (outcome_of output)) }
+        IfOk result (λ output. MayGiveSound (steps_refusal given) (Some edges.now) more Alone given (outcome_of output)) }
 {
     match judged {
         Ok(Chain::Lower(chain)) => raised_output(alloc, &chain, edges, more),
@@ -156,13 +139,29 @@ fn diagram_output(
     }
 }
 
+// What the word gives to a chain in a setting.
+fn setting_output(
+    alloc: Global,
+    setting: &Setting,
+    chain: Certificate,
+    steps: u8,
+) -> Result<Output, NoMemory>
+    requires { chain.kind ≡ Fixed → ⊥ }
+    ensures { IfOk result (λ output. MayGiveIn None steps setting.now chain (outcome_of output)) }
+{
+    match input_refusal_in(alloc, setting, chain.first())? {
+        Some(output) => Ok(output),
+        None => chain_output(alloc, setting, judged_chain(chain), steps),
+    }
+}
+
 // What the word gives to a text without a diagram.
 fn plain_output(alloc: Global, steps: u8, text: &[u8]) -> Result<Output, NoMemory>
     requires { length text.now ≤ MAX_BYTES }
-    ensures { IfOk result (λ output. MayGiveRead (chain_fault text.now) None steps (text_chain text.now) (outcome_of output)) }
+    ensures { IfOk result (λ output. MayGiveRead (parts_of text.now).fault None steps (parts_of text.now).setting (text_chain (parts_of text.now).front) (outcome_of output)) }
 {
-    match read_chain(alloc, text) {
-        Ok(chain) => chain_output(alloc, judged_chain(chain), steps),
+    match read_in(alloc, text) {
+        Ok(SettingTexts { chain, setting }) => setting_output(alloc, &setting, chain, steps),
         Err(TextFault::Bad(fault)) => Ok(fault_output(alloc, fault)?),
         Err(TextFault::NoMemory) => Err(NoMemory),
     }
@@ -175,7 +174,7 @@ fn cut_output(alloc: Global, steps: u8, cut: Cut<'_>) -> Result<Output, NoMemory
     requires within { 0 < length cut.behind.now → cut.byte + length cut.behind.now ≤ MAX_BYTES }
     requires number { 1 < cut.number }
     ensures { (text : List ℕ) → IsCut (codes "diagram") text cut.entry →
-        IfOk result (λ output. MayGiveRead (diagram_fault text) (Some (diagram_edges text)) steps (front_chain text) (outcome_of output)) }
+        IfOk result (λ output. MayGiveRead (diagram_fault text) (Some (diagram_edges text)) steps Alone (front_chain text) (outcome_of output)) }
 {
     match read_diagram(alloc, cut) {
         Ok(text) => {
@@ -187,9 +186,9 @@ fn cut_output(alloc: Global, steps: u8, cut: Cut<'_>) -> Result<Output, NoMemory
     }
 }
 
-// What the word gives to a text without an input problem.
+// What the word gives to a text.
 #[tactic(auto, unfolding(crate::specs::ClosureWords::MayGive))]
-fn bare_output(alloc: Global, word: ClosureWord, text: &[u8]) -> Result<Output, NoMemory>
+fn text_output(alloc: Global, word: ClosureWord, text: &[u8]) -> Result<Output, NoMemory>
     requires { length text.now ≤ MAX_BYTES }
     ensures { IfOk result (λ output. MayGive word text.now (outcome_of output)) }
 {
@@ -199,34 +198,13 @@ fn bare_output(alloc: Global, word: ClosureWord, text: &[u8]) -> Result<Output, 
     }
 }
 
-// Whether the text has an input problem.
-fn has_input(text: &[u8]) -> bool
-    requires { length text.now ≤ MAX_BYTES }
-    ensures { result ≡ has_input text.now }
-{
-    !has_line(DIAGRAM, text) && has_line(GIVEN, text)
-}
-
-// What the word gives to a text.
-#[tactic(auto, unfolding(crate::specs::GivenClosures::MayGiveText))]
-fn text_output(alloc: Global, word: ClosureWord, text: &[u8]) -> Result<Output, NoMemory>
-    requires { length text.now ≤ MAX_BYTES }
-    ensures { IfOk result (λ output. MayGiveText word text.now (outcome_of output)) }
-{
-    if has_input(text) {
-        given_output(alloc, word, text)
-    } else {
-        bare_output(alloc, word, text)
-    }
-}
-
 impl Finding for ClosureWord {
     ghost use Rattle.std.specs.Prelude.{true};
-    ghost use Rattle.re_closure.specs.GivenClosures.{MayGiveText};
+    ghost use Rattle.re_closure.specs.ClosureWords.{MayGive};
 
     ghost fits = { λ _. Unit {0} };
 
-    ghost may = { MayGiveText };
+    ghost may = { MayGive };
 
     ghost judging = { λ _. true };
 

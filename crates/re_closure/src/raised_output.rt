@@ -16,8 +16,9 @@ ghost use Rattle.re_labels.specs.declared.TheConstants.{MAX_LABELS};
 ghost use Rattle.re_table.specs.declared.constraint_table.TheConstants.{MAX_CONFIGURATIONS};
 ghost use Rattle.std.specs.Prelude.{◌≡◌, ◌≤◌, ◌∷◌, ◌++◌, [], Err, IfOk, None, Some, length, option_map, true};
 
-use crate::answering::{closure_output, stop_output};
+use crate::answering::stop_output;
 use crate::diagrams::raised;
+use crate::going_on::closure_output;
 use crate::limit_lines::{limit_output, solvable_closure};
 use crate::raising::find_raised;
 use crate::types::{Closing, ClosureFault};
@@ -25,6 +26,7 @@ use arrayvec::ArrayVec;
 use re_cert::{Certificate, Kind, Step};
 use re_chains::{LowerChain, certificate_output, copied_steps, over_problems};
 use re_frame::{Output, solvable_output};
+use re_given_words::Setting;
 use re_labels::NoMemory;
 use re_problem::Problem;
 use re_shaping::{ChainStepFault, by_rows, relaxed_step};
@@ -138,7 +140,7 @@ pub(crate) fn raised_output(
         return solvable_closure(alloc, chain.certificate.last(), sets.as_slice());
     }
     match next_raised(alloc, chain, edges) {
-        Ok(next) => closure_output(alloc, &next, more - 1),
+        Ok(next) => closure_output(alloc, &Setting::Alone, &next, more - 1),
         Err(fault) => stop_output(alloc, chain.certificate.steps().len() as u8 + 1, fault),
     }
 }

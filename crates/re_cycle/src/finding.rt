@@ -1,18 +1,16 @@
 //! The certificate of the cycle.
-ghost use Rattle.re_cert.specs.Bounds.{last_problem};
 ghost use Rattle.re_cert.specs.declared.certificate.Kind.TheVariants.{Fixed};
-ghost use Rattle.re_cycle.specs.Answers.{Answers, AnswersGiven, IsFailure};
-ghost use Rattle.re_problem.specs.NamedProblems.{unnamed};
-ghost use Rattle.re_problem.specs.Zero.{zero_place};
-ghost use Rattle.std.specs.Prelude.{◌≡◌, IfOk, IfSome, None};
+ghost use Rattle.re_cycle.specs.Answers.{Answers, IsFailure};
+ghost use Rattle.std.specs.Prelude.{◌≡◌, IfOk, IfSome};
 
 use crate::nodes::{Graph, Return};
 use crate::walking::{Left, Walk, Walked};
 use re_cert::{Certificate, Kind, MAX_STEPS, Step};
-use re_given_words::extended_given;
+use re_chains::LowerChain;
+use re_given_words::{Setting, extended_in};
 use re_labels::{MAX_LABELS, NoMemory};
-use re_problem::{LabelMap, Problem, zero_round};
-use re_shaping::{Extension, extended, route_steps, takes_merges};
+use re_problem::LabelMap;
+use re_shaping::{Extension, route_steps, takes_merges};
 use std::alloc::Global;
 
 /// What the search comes to.
@@ -20,15 +18,12 @@ use std::alloc::Global;
 pub enum Cycle {
     /// The certificate of a fixed point, which goes on from the given chain.
     Found(Certificate),
-    /// The chain's last problem is solvable without communication: the place of its first active configuration that shows it.
-    Solvable(usize),
-    /// There is none among the problems that were looked at: how many these were; and how many times the derived problem of one passed a
-    /// limit, a renaming of two was given up, or merges of the chain's last problem couldn't be looked at. Where that is 0, no walk of so many
-    /// steps with so many merges each comes back.
+    /// None was found. That says nothing of the problem.
     NotFound {
-        /// How many problems.
+        /// How many problems were looked at.
         nodes: u32,
-        /// How many limits, renamings that were given up, and looks that there couldn't be.
+        /// How many times the derived problem of one passed a limit, a renaming of two was given up, or merges of the chain's last problem
+        /// couldn't be looked at.
         cut: u32,
     },
     /// None was found among the most problems that may be looked at.
@@ -140,8 +135,8 @@ fn way_of(
 // be, though merges are asked for, it counts as cut once.
 fn look_behind(
     alloc: Global,
+    setting: &Setting,
     chain: &Certificate,
-    input: Option<&Problem>,
     size: Size,
     begins: bool,
 ) -> Result<Searched, NoMemory>
@@ -154,7 +149,7 @@ fn look_behind(
         alloc,
         graph: Graph::of_chain(alloc, chain)?,
         left: Left {
-            input,
+            setting,
             steps: before as u8,
         },
         most: size.nodes as usize,
@@ -173,43 +168,22 @@ fn look_behind(
     })
 }
 
-// The answer by what is found, where the chain's last problem isn't solvable without communication.
+// The answer by what is found.
 fn answer_of(
     alloc: Global,
+    setting: &Setting,
     chain: &Certificate,
-    steps: u8,
-    found: Searched,
-) -> Result<Cycle, NoMemory>
-    requires ends { zero_place (unnamed (last_problem chain.now)) ≡ None }
-    requires way { IfSome found.way (λ way. way.kind ≡ Fixed) }
-    ensures { IfOk result (Answers steps chain.now) }
-{
-    let failed = found.failed();
-    let Some(way) = found.way else {
-        return Ok(failed);
-    };
-    match extended(alloc, chain, way, steps, MAX_LABELS)? {
-        Some(certificate) => Ok(Cycle::Found(certificate)),
-        None => Ok(failed),
-    }
-}
-
-// The answer by what is found given the input problem.
-fn answer_given(
-    alloc: Global,
-    chain: &Certificate,
-    input: &Problem,
     steps: u8,
     found: Searched,
 ) -> Result<Cycle, NoMemory>
     requires { IfSome found.way (λ way. way.kind ≡ Fixed) }
-    ensures { IfOk result (AnswersGiven input.now steps chain.now) }
+    ensures { IfOk result (Answers setting.now steps chain.now) }
 {
     let failed = found.failed();
     let Some(way) = found.way else {
         return Ok(failed);
     };
-    match extended_given(alloc, chain, way, input, steps, MAX_LABELS)? {
+    match extended_in(alloc, setting, chain, way, steps, MAX_LABELS)? {
         Some(certificate) => Ok(Cycle::Found(certificate)),
         None => Ok(failed),
     }
@@ -228,62 +202,35 @@ fn goes_on(
     }
 }
 
-/// Searches for a fixed point that goes on from a sound chain: with at most so many further steps, each to what at most so many merges
+/// Searches for a fixed point that goes on from a chain of kind lower: with at most so many further steps, each to what at most so many merges
 /// have made of a derived problem, looking at so many problems at most. Where there is none, it searches once more, where one of the merges of
-/// the first step may be of labels of the chain's last problem itself; only where `takes_merges` holds of the chain. What is found is accepted by
-/// `check`, and shows that no algorithm solves the chain's first problem in any number of rounds. The answer is `Solvable` exactly where the
-/// chain's last problem is solvable without communication.
+/// the first step may be of labels of the chain's last problem itself; only where `takes_merges` holds of the chain. What is found is taken in
+/// the setting, and shows that no algorithm solves the chain's first problem there in any number of rounds. The walk leaves out what is solvable
+/// without communication, and given an input problem what `ends_after` of `re_given_words` knows to be solvable in 0 rounds given it, exchanged
+/// as often as there are steps; the chain's own last problem isn't asked.
 ///
 /// The crate's page says in what order the problems are looked at, and what is kept of them.
 pub fn find_cycle(
     alloc: Global,
-    chain: &Certificate,
+    setting: &Setting,
+    chain: &LowerChain,
     steps: u8,
     merges: u8,
     nodes: u32,
 ) -> Result<Cycle, NoMemory>
-    ensures { IfOk result (Answers steps chain.now) }
+    ensures { IfOk result (Answers setting.now steps chain.now.certificate) }
 {
-    if let Some(place) = zero_round(chain.last()) {
-        return Ok(Cycle::Solvable(place));
-    }
+    let chain = &chain.certificate;
     let size = Size {
         steps,
         merges,
         nodes,
     };
-    let found = look_behind(alloc, chain, None, size, false)?;
-    let answer = answer_of(alloc, chain, steps, found)?;
+    let found = look_behind(alloc, setting, chain, size, false)?;
+    let answer = answer_of(alloc, setting, chain, steps, found)?;
     if goes_on(alloc, chain, merges, &answer)? {
-        let found = look_behind(alloc, chain, None, size, true)?;
-        return answer_of(alloc, chain, steps, found);
-    }
-    Ok(answer)
-}
-
-/// The same given an input problem of the chain's first problem: the walk leaves out what `ends_after` of `re_given_words` knows to be solvable
-/// in 0 rounds given it, exchanged as often as there are steps, and what is found is accepted by `given`. The answer is never `Solvable`:
-/// the chain's own last problem isn't asked.
-pub fn find_cycle_given(
-    alloc: Global,
-    chain: &Certificate,
-    input: &Problem,
-    steps: u8,
-    merges: u8,
-    nodes: u32,
-) -> Result<Cycle, NoMemory>
-    ensures { IfOk result (AnswersGiven input.now steps chain.now) }
-{
-    let size = Size {
-        steps,
-        merges,
-        nodes,
-    };
-    let found = look_behind(alloc, chain, Some(input), size, false)?;
-    let answer = answer_given(alloc, chain, input, steps, found)?;
-    if goes_on(alloc, chain, merges, &answer)? {
-        let found = look_behind(alloc, chain, Some(input), size, true)?;
-        return answer_given(alloc, chain, input, steps, found);
+        let found = look_behind(alloc, setting, chain, size, true)?;
+        return answer_of(alloc, setting, chain, steps, found);
     }
     Ok(answer)
 }

@@ -25,4 +25,4 @@ mod nodes;
 mod returning;
 mod walking;
 
-pub use finding::{Cycle, find_cycle, find_cycle_given};
+pub use finding::{Cycle, find_cycle};

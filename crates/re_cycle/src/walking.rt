@@ -2,7 +2,7 @@
 use crate::nodes::{Graph, Origin, Return};
 use crate::returning::shortest_return;
 use re_changes::{Change, Changed};
-use re_given_words::{Ends, ends_after};
+use re_given_words::{Ends, Setting, ends_after};
 use re_labels::NoMemory;
 use re_problem::{LabelMap, Problem, zero_round};
 use re_step::{Derived, StepFault, step};
@@ -25,7 +25,7 @@ pub(crate) enum Walked {
 /// solvable in 0 rounds given it, exchanged as often as there are steps to them. How many steps lead to the first one is told, too.
 #[derive(Clone, Copy)]
 pub(crate) struct Left<'a> {
-    pub(crate) input: Option<&'a Problem>,
+    pub(crate) setting: &'a Setting,
     pub(crate) steps: u8,
 }
 
@@ -35,12 +35,12 @@ impl<'a> Left<'a> {
         if zero_round(problem).is_some() {
             return Ok(true);
         }
-        match self.input {
-            Some(input) => {
+        match self.setting {
+            Setting::Given(input) => {
                 let steps = self.steps.saturating_add(depth);
                 Ok(ends_after(alloc, problem, input, steps)? == Ends::Solvable)
             }
-            None => Ok(false),
+            Setting::Alone => Ok(false),
         }
     }
 }

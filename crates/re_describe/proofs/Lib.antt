@@ -1,6 +1,7 @@
 pub mod Covering
 pub mod GraphRounds
 pub mod Grouping
+pub mod Growing
 pub mod Lines
 pub mod Thinning
 mod Saying

@@ -1,13 +1,12 @@
 -- The words `describe` and `condense`, and what they may answer.
 use Rattle.std.specs.Prelude.{◌≡◌, ◌≤◌, ℕ, ◌&&◌, List, [], ◌∷◌, codes, length, if◌then◌else◌, Option, Some, None}
-use Rattle.std.specs.Io.{StartsWith}
 use Rattle.std.specs.Str.{bytes_eq}
 use Rattle.re_io.specs.declared.read.TheConstants.{MAX_BYTES}
 use Rattle.re_problem.specs.declared.fault.InputFault.{InputFault}
 use Rattle.re_cert.specs.Bounds.{Bound}
 use Rattle.re_chains.specs.ChainTexts.{chain_fault, is_certificate_text, text_bound}
-use Rattle.re_describe.specs.Heads.{head}
 use Rattle.re_describe.specs.Latex.{latex_of}
+use Rattle.re_describe.specs.Reports.{IsMarkdown}
 use Rattle.re_describe.specs.declared.answering.DescribeWord.{DescribeWord}
 use Rattle.re_describe.specs.declared.answering.DescribeWord.TheVariants.{Groups, Latex, Markdown}
 use Rattle.re_frame.specs.Outcomes.{Outcome}
@@ -27,17 +26,17 @@ describe_word_of words = None
 unfoldable pub describe_help : List ℕ
 describe_help = codes "describe, describe latex: reads a certificate or a problem, gives a report on it in Markdown, or in LaTeX\ncondense: reads a certificate or a problem, gives the same with its configurations in groups\n"
 
--- the outcome is Done, with a text that begins with the head of the report on the certificate
+-- the outcome is Done, with the report on the bound
 pub record IsReport (bound : Bound) (outcome : Outcome) : Type 0 where
   pub status : outcome.status ≡ Done
-  pub head : StartsWith outcome.text (head bound)
+  pub report : IsMarkdown bound outcome.text
 
--- the outcome is Done, with such a text written for LaTeX
+-- the outcome is Done, with the report written for LaTeX
 pub record IsLatexReport (bound : Bound) (outcome : Outcome) : Type 0 where
   pub status : outcome.status ≡ Done
-  pub report : List ℕ
-  pub head : StartsWith report (head bound)
-  pub latex : outcome.text ≡ latex_of report
+  pub markdown : List ℕ
+  pub report : IsMarkdown bound markdown
+  pub latex : outcome.text ≡ latex_of markdown
 
 -- the text can be read, has no fault, is that of a certificate where the other one is, and writes the bound
 pub record WritesSame (bytes : List ℕ) (bound : Bound) (text : List ℕ) : Type 0 where

@@ -1,11 +1,13 @@
 -- A report written for LaTeX, line by line.
-use Rattle.std.specs.Prelude.{ℕ, ◌==◌, Bool, true, false, not, ◌||◌, List, [], ◌∷◌, ◌++◌, codes, drop, if◌then◌else◌, eqb}
+use Rattle.std.specs.Prelude.{ℕ, ◌==◌, Bool, true, false, List, [], ◌∷◌, ◌++◌, codes, drop, if◌then◌else◌}
 use Rattle.std.specs.List.{slice_split, starts_with}
 use Rattle.re_describe.specs.declared.latex.Form.{Form}
+use Rattle.re_describe.specs.declared.latex.Mode.{Mode}
+use Rattle.re_describe.specs.declared.latex.Mode.TheVariants.{Code, Formula, Plain}
 use Rattle.re_describe.specs.declared.latex.Form.TheVariants.{Fails, Item, Section, Title, Verbatim, Words}
 
 -- ---- within a line
--- a byte of words: what means something else to LaTeX is escaped, and a star, which marks bold words, isn't written
+-- a byte of words: what means something else to LaTeX is escaped; a line may end behind an underscore, and a star, which marks bold words, isn't written
 abbrev pub escaped : ℕ → List ℕ
 escaped byte =
     if byte == 42 then []
@@ -18,21 +20,33 @@ escaped byte =
     else if byte == 36 then codes "\\$"
     else if byte == 37 then codes "\\%"
     else if byte == 38 then codes "\\&"
-    else if byte == 95 then codes "\\_"
+    else if byte == 95 then codes "\\_\\allowbreak{}"
     else if byte == 123 then codes "\\{"
     else if byte == 125 then codes "\\}"
     else byte ∷ []
 
--- what a backtick is: the end of code where it stands in code, and else its beginning
-abbrev pub tick : Bool → List ℕ
-tick true = codes "}"
-tick false = codes "\\texttt{"
+-- the words behind a byte: a backtick begins code and ends it, a dollar begins a formula and ends it
+abbrev pub mode_behind : Mode → ℕ → Mode
+mode_behind Plain byte = if byte == 96 then Code else if byte == 36 then Formula else Plain
+mode_behind Code byte = if byte == 96 then Plain else Code
+mode_behind Formula byte = if byte == 36 then Plain else Formula
 
--- words, the first of which stand in code or don't; code ends with them
-abbrev pub latex_words : Bool → List ℕ → List ℕ
-latex_words true [] = tick true
-latex_words false [] = []
-latex_words code (byte ∷ words) = if byte == 96 then tick code ++ latex_words (not code) words else escaped byte ++ latex_words code words
+-- a byte: formulas stand as they are
+abbrev pub written : Mode → ℕ → List ℕ
+written Plain byte = if byte == 96 then codes "\\texttt{" else if byte == 36 then codes "$" else escaped byte
+written Code byte = if byte == 96 then codes "}" else escaped byte
+written Formula byte = byte ∷ []
+
+-- what ends with the words
+abbrev pub ending : Mode → List ℕ
+ending Plain = []
+ending Code = codes "}"
+ending Formula = codes "$"
+
+-- words, the first of which are so
+abbrev pub latex_words : Mode → List ℕ → List ℕ
+latex_words mode [] = ending mode
+latex_words mode (byte ∷ words) = written mode byte ++ latex_words (mode_behind mode byte) words
 
 -- ---- lines
 -- whether a line begins so
@@ -64,11 +78,11 @@ words_of form line = drop (mark form) line
 
 -- a line of this form
 abbrev pub latex_line : Form → List ℕ → List ℕ
-latex_line Title line = codes "\\section*{" ++ latex_words false (words_of Title line) ++ codes "}\n"
-latex_line Section line = codes "\\subsection*{" ++ latex_words false (words_of Section line) ++ codes "}\n"
-latex_line Item line = codes "\\item " ++ latex_words false (words_of Item line) ++ codes "\n"
-latex_line Fails line = codes "\\textbf{" ++ latex_words false (words_of Fails line) ++ codes "}\n"
-latex_line Words line = codes "" ++ latex_words false (words_of Words line) ++ codes "\n"
+latex_line Title line = codes "\\section*{" ++ latex_words Plain (words_of Title line) ++ codes "}\n"
+latex_line Section line = codes "\\subsection*{" ++ latex_words Plain (words_of Section line) ++ codes "}\n"
+latex_line Item line = codes "\\item " ++ latex_words Plain (words_of Item line) ++ codes "\n"
+latex_line Fails line = codes "\\textbf{" ++ latex_words Plain (words_of Fails line) ++ codes "}\n"
+latex_line Words line = codes "" ++ latex_words Plain (words_of Words line) ++ codes "\n"
 latex_line Verbatim line = words_of Verbatim line ++ codes "\n"
 
 -- ---- environments: items stand in a list, and lines that stand as they are in `verbatim`

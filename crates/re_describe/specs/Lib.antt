@@ -1,6 +1,11 @@
+pub mod Blocks
 pub mod GraphRounds
 pub mod Heads
 pub mod Latex
 pub mod Meanings
+pub mod Pieces
+pub mod Reports
+pub mod SetRuns
 pub mod Spelling
+pub mod Steps
 pub mod DescribeWords

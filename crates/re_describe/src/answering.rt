@@ -1,6 +1,6 @@
 //! The words, and what they answer.
 ghost use Rattle.re_chains.specs.ChainTexts.{chain_fault, text_bound};
-ghost use Rattle.re_describe.specs.DescribeWords.{IsGivenBy, IsLatexReport, MayDescribe, describe_help, describe_word_of};
+ghost use Rattle.re_describe.specs.DescribeWords.{IsGivenBy, IsLatexReport, IsReport, MayDescribe, describe_help, describe_word_of};
 ghost use Rattle.re_frame.specs.Outcomes.{outcome_of};
 ghost use Rattle.re_io.specs.declared.read.TheConstants.{MAX_BYTES};
 ghost use Rattle.std.specs.Prelude.{◌≡◌, ◌≤◌, IfOk, None, length, map, string_bytes};
@@ -61,12 +61,21 @@ pub fn describe_help() -> &'static str
     "describe, describe latex: reads a certificate or a problem, gives a report on it in Markdown, or in LaTeX\ncondense: reads a certificate or a problem, gives the same with its configurations in groups\n"
 }
 
+// The report on the certificate, in Markdown.
+fn markdown_report(alloc: Global, certificate: &Certificate) -> Result<Output, NoMemory>
+    ensures { IfOk result (λ output. IsReport certificate.now (outcome_of output)) }
+{
+    let text = report(alloc, certificate)?;
+    Ok(done(text))
+}
+
 // The report on the certificate, in LaTeX.
 fn latex_report(alloc: Global, certificate: &Certificate) -> Result<Output, NoMemory>
     ensures { IfOk result (λ output. IsLatexReport certificate.now (outcome_of output)) }
 {
     let text = report(alloc, certificate)?;
-    Ok(done(in_latex(alloc, text.as_slice())?))
+    let latex = in_latex(alloc, text.as_slice())?;
+    Ok(done(latex))
 }
 
 // What the word gives to the text of this certificate.
@@ -82,7 +91,7 @@ fn given(
     ensures { IfOk result (λ output. IsGivenBy word text.now certificate.now (outcome_of output)) }
 {
     match word {
-        DescribeWord::Markdown => Ok(done(report(alloc, certificate)?)),
+        DescribeWord::Markdown => markdown_report(alloc, certificate),
         DescribeWord::Latex => latex_report(alloc, certificate),
         DescribeWord::Groups => Ok(done(in_groups(alloc, text, certificate)?)),
     }

@@ -7,9 +7,10 @@ ghost use Rattle.re_table.specs.Constraints.{IsConstraint};
 ghost use Rattle.std.specs.Prelude.{◌≡◌, ◌≤◌, IfOk, IsTrue, None, length};
 
 use crate::condensing::condensed;
+use crate::items::push_items;
 use crate::joining::{Line, joined_lines};
 use crate::latex::lines_of;
-use crate::pieces::{push_count, push_items};
+use crate::pieces::push_count;
 use re_cert::Certificate;
 use re_chains::{is_certificate_text, read_bound};
 use re_frame::push_words;

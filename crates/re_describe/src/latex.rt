@@ -1,6 +1,7 @@
 //! A report in LaTeX, made of its Markdown line by line.
-ghost use Rattle.re_describe.specs.Latex.{change, closing, escaped, form_of, goes_on, latex_line, latex_lines, latex_of, latex_words, mark, opening, tick};
-ghost use Rattle.std.specs.Prelude.{◌≡◌, ◌≤◌, ◌++◌, false, true, IfOk, OnOk, drop, length, map, ◌==◌};
+ghost use Rattle.re_describe.specs.Latex.{change, closing, ending, escaped, form_of, goes_on, latex_line, latex_lines, latex_of, latex_words, mark, mode_behind, opening, written};
+ghost use Rattle.re_describe.specs.declared.latex.Mode.TheVariants as plain;
+ghost use Rattle.std.specs.Prelude.{◌≡◌, ◌≤◌, ◌++◌, IfOk, OnOk, drop, length, map, ◌==◌};
 ghost use Rattle.std.specs.List.{slice_split};
 
 use re_frame::push_words;
@@ -59,42 +60,73 @@ fn push_escaped(text: &mut Vec<u8>, byte: u8) -> Result<(), NoMemory>
         b'$' => push_words(text, "\\$"),
         b'%' => push_words(text, "\\%"),
         b'&' => push_words(text, "\\&"),
-        b'_' => push_words(text, "\\_"),
+        b'_' => push_words(text, "\\_\\allowbreak{}"),
         b'{' => push_words(text, "\\{"),
         b'}' => push_words(text, "\\}"),
         _ => Ok(text.push(byte)?),
     }
 }
 
-// Appends what a backtick is, where code ends or begins.
-fn push_tick(text: &mut Vec<u8>, in_code: bool) -> Result<(), NoMemory>
-    ensures { OnOk result (text.new.items ≡ text.old.items ++ tick in_code) }
+/// How words are read: as they are, as code, or as a formula.
+#[derive(Clone, Copy, Debug, PartialEq, Eq)]
+pub(crate) enum Mode {
+    Plain,
+    Code,
+    Formula,
+}
+
+// The words behind a byte.
+fn mode_behind(mode: Mode, byte: u8) -> Mode
+    ensures { result ≡ mode_behind mode byte }
 {
-    push_words(text, if in_code { "}" } else { "\\texttt{" })
+    match (mode, byte) {
+        (Mode::Plain, b'`') => Mode::Code,
+        (Mode::Plain, b'$') => Mode::Formula,
+        (Mode::Code, b'`') => Mode::Plain,
+        (Mode::Formula, b'$') => Mode::Plain,
+        _ => mode,
+    }
+}
+
+// Appends a byte, which in a formula stands as it is.
+fn push_written(text: &mut Vec<u8>, mode: Mode, byte: u8) -> Result<(), NoMemory>
+    ensures { OnOk result (text.new.items ≡ text.old.items ++ written mode byte) }
+{
+    match (mode, byte) {
+        (Mode::Plain, b'`') => push_words(text, "\\texttt{"),
+        (Mode::Plain, b'$') => push_words(text, "$"),
+        (Mode::Code, b'`') => push_words(text, "}"),
+        (Mode::Formula, _) => Ok(text.push(byte)?),
+        _ => push_escaped(text, byte),
+    }
+}
+
+// What ends with the words.
+fn ending(mode: Mode) -> &'static str
+    ensures { result.now ≡ ending mode }
+{
+    match mode {
+        Mode::Plain => "",
+        Mode::Code => "}",
+        Mode::Formula => "$",
+    }
 }
 
 // Appends words.
 fn push_latex_words(text: &mut Vec<u8>, words: &[u8]) -> Result<(), NoMemory>
-    ensures { OnOk result (text.new.items ≡ text.old.items ++ latex_words false words.now) }
+    ensures { OnOk result (text.new.items ≡ text.old.items ++ latex_words plain.Plain words.now) }
 {
-    let mut in_code = false;
+    let mut mode = Mode::Plain;
     for byte in words {
-        if *byte == b'`' {
-            push_tick(text, in_code)?;
-            in_code = !in_code;
-        } else {
-            push_escaped(text, *byte)?;
-        }
+        push_written(text, mode, *byte)?;
+        mode = mode_behind(mode, *byte);
     }
-    if in_code {
-        push_tick(text, true)?;
-    }
-    Ok(())
+    push_words(text, ending(mode))
 }
 
 // Appends words between others.
 fn push_within(text: &mut Vec<u8>, before: &str, words: &[u8], behind: &str) -> Result<(), NoMemory>
-    ensures { OnOk result (text.new.items ≡ text.old.items ++ (before.now ++ latex_words false words.now ++ behind.now)) }
+    ensures { OnOk result (text.new.items ≡ text.old.items ++ (before.now ++ latex_words plain.Plain words.now ++ behind.now)) }
 {
     push_words(text, before)?;
     push_latex_words(text, words)?;

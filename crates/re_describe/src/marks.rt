@@ -1,10 +1,16 @@
 //! Marks where the check of a certificate fails.
-use re_check::{Clause, Verdict};
-use re_frame::push_words;
+ghost use Rattle.re_describe.specs.Reports.{asked, fails_text};
+ghost use Rattle.std.specs.Prelude.{◌≡◌, ◌++◌, IfOk};
+
+use re_check::Clause;
+use re_frame::{begun, push_words};
 use re_labels::NoMemory;
+use std::alloc::Global;
 
 // The name of a clause, and what it asks.
-fn asked(clause: Clause) -> &'static str {
+fn asked(clause: Clause) -> &'static str
+    ensures { result.now ≡ asked clause }
+{
     match clause {
         Clause::L1 => "L1: the degrees of the next problem are those of the one before, exchanged",
         Clause::L2 => {
@@ -36,49 +42,12 @@ fn asked(clause: Clause) -> &'static str {
     }
 }
 
-// A line that says that the clause fails.
-fn push_mark(text: &mut Vec<u8>, clause: Clause) -> Result<(), NoMemory> {
-    push_words(text, "\n**The check fails here, at clause ")?;
-    push_words(text, asked(clause))?;
-    push_words(text, ". `explore why` shows what refutes it.**\n")
-}
-
-/// Appends the mark of the step of this number, where one of its clauses fails first.
-pub(crate) fn push_step_mark(
-    text: &mut Vec<u8>,
-    verdict: Verdict,
-    number: usize,
-) -> Result<(), NoMemory> {
-    match verdict {
-        Verdict::Accepted { .. }
-        | Verdict::Refused {
-            clause: Clause::End | Clause::Back,
-            ..
-        } => Ok(()),
-        Verdict::Refused { step, clause } => {
-            if step as usize == number {
-                push_mark(text, clause)
-            } else {
-                Ok(())
-            }
-        }
-    }
-}
-
-/// Appends the mark of END or of BACK, where it is this clause that fails first.
-pub(crate) fn push_end_mark(
-    text: &mut Vec<u8>,
-    verdict: Verdict,
-    ending: Clause,
-) -> Result<(), NoMemory> {
-    match verdict {
-        Verdict::Refused { clause, .. } => {
-            if clause == ending {
-                push_mark(text, clause)
-            } else {
-                Ok(())
-            }
-        }
-        Verdict::Accepted { .. } => Ok(()),
-    }
+/// The line that says that the clause fails here.
+pub(crate) fn fails_text(alloc: Global, clause: Clause) -> Result<Vec<u8>, NoMemory>
+    ensures { IfOk result (λ text. text.items ≡ fails_text clause) }
+{
+    let mut text = begun(alloc, "\n**The check fails here, at clause ")?;
+    push_words(&mut text, asked(clause))?;
+    push_words(&mut text, ". `explore why` shows what refutes it.**\n")?;
+    Ok(text)
 }

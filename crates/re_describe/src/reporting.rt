@@ -1,113 +1,169 @@
-//! The whole report.
-ghost use Rattle.re_describe.specs.Heads.{head};
-ghost use Rattle.std.specs.Io.{StartsWith};
-ghost use Rattle.std.specs.Prelude.{IfOk};
+//! The whole report, block by block.
+ghost use Rattle.re_check.specs.Verdicts.{verdict_of};
+ghost use Rattle.re_describe.specs.Reports.{IsMarkdown, Says, Writes};
+ghost use Rattle.re_describe.specs.declared.blocks.Block.TheVariants as block;
+ghost use Rattle.re_frame.specs.Check.{verdict_line};
+ghost use Rattle.std.specs.Prelude.{◌≡◌, ◌++◌, ◌-◌, IfOk, MatchOption, codes, slice_get};
+ghost use Rattle.re_describe.specs.Steps.{SaysStep};
+ghost use Rattle.re_cert.specs.Bounds.{problem_at};
+ghost use Rattle.re_describe.specs.Heads.{claim, graph_claim, identifiers_claim, model, problem_text};
 
-use crate::heads::head;
-use crate::marks::push_end_mark;
-use crate::pieces::{push_count, push_margin, push_named};
-use crate::problems::push_problem;
-use crate::steps::push_step;
+use crate::blocks::{Block, report_of};
+use crate::endings::{back_text, check_text, notation_text, step_text};
+use crate::heads::{push_claim, push_graph_claim, push_identifiers, push_model};
+use crate::marks::fails_text;
+use crate::orders::problem_order;
+use crate::problems::{constraint_text, problem_of, push_problem};
+use crate::steps::labels_text;
 use re_cert::Certificate;
-use re_check::{Clause, Kind, Verdict, check};
-use re_frame::push_words;
+use re_check::{Verdict, check};
+use re_frame::{begun, verdict_output};
 use re_labels::NoMemory;
 use std::alloc::Global;
 
-// The way back of a fixed point: to which problem, and the renaming.
-fn push_back(
-    text: &mut Vec<u8>,
-    certificate: &Certificate,
-    verdict: Verdict,
-) -> Result<(), NoMemory> {
-    let back = certificate.back() as usize;
-    let steps = certificate.steps().len();
-    if back > steps {
-        return Ok(());
-    }
-    let last = certificate.last().names();
-    let target = certificate.problem_at(back).names();
-    push_count(text, "\n## The way back\n\nProblem ", steps)?;
-    push_count(text, " becomes problem ", back)?;
-    push_words(text, " under this renaming:\n\n")?;
-    for (from, to) in certificate.renaming() {
-        push_margin(text)?;
-        push_named(text, last, *from)?;
-        push_words(text, " becomes ")?;
-        push_named(text, target, *to)?;
-        push_words(text, "\n")?;
-    }
-    push_end_mark(text, verdict, Clause::Back)
-}
-
-// How constraints and labels are written.
-fn push_notation(text: &mut Vec<u8>) -> Result<(), NoMemory> {
-    push_words(
-        text,
-        "\n## Notation\n\nA line of a constraint is a row of sets of labels, one for each edge of a node; `[AB]` is the set of `A` and `B`, and `A^2` stands for `A A`. Each choice of one label of each set is a configuration, and the lines of a constraint have all its configurations and no others. Labels of a problem behind a step stand for sets of labels of the problem before: `<A,B>` is the set of all labels that are at least as strong as `A` or `B` around passive nodes of the problem before. Where several sets became one label, it is merged.\n",
-    )
-}
-
-// How to check the certificate.
-fn push_ending(text: &mut Vec<u8>, verdict: Verdict) -> Result<(), NoMemory> {
-    push_words(
-        text,
-        "\n## How to check it\n\n`re check < FILE`, where FILE holds the certificate, prints the line at the top of this report and ends with exit status ",
-    )?;
-    match verdict {
-        Verdict::Accepted { .. } => push_words(text, "0")?,
-        Verdict::Refused { .. } => push_words(text, "1")?,
-    }
-    push_words(
-        text,
-        ". It accepts exactly the valid certificates, and an accepted one means what the top of this report says: both are proved of its source. Nothing else here has to be believed. Of a problem text `explore begin lower` gives the certificate.\n",
-    )
-}
-
-// The problems and the steps, in turn.
-fn push_chain(
-    text: &mut Vec<u8>,
-    certificate: &Certificate,
-    verdict: Verdict,
-) -> Result<(), NoMemory> {
-    push_problem(text, certificate.first(), 0)?;
-    let steps = certificate.steps();
-    for place in 0..steps.len() {
-        let step = &steps[place];
-        push_step(
-            text,
-            certificate.problem_at(place),
-            step,
-            place + 1,
-            verdict,
-        )?;
-        push_problem(text, step.next(), place + 1)?;
-    }
-    push_end_mark(text, verdict, Clause::End)
-}
-
-// What stands behind the head.
-fn body(alloc: Global, certificate: &Certificate, verdict: Verdict) -> Result<Vec<u8>, NoMemory> {
-    let mut text = Vec::new(alloc);
-    push_notation(&mut text)?;
-    push_chain(&mut text, certificate, verdict)?;
-    if certificate.kind() == Kind::Fixed {
-        push_back(&mut text, certificate, verdict)?;
-    }
-    push_ending(&mut text, verdict)?;
+// The line of the verdict.
+fn line(alloc: Global, verdict: Verdict) -> Result<Vec<u8>, NoMemory>
+    ensures { IfOk result (λ text. text.items ≡ codes "\n    " ++ verdict_line verdict) }
+{
+    let line = verdict_output(alloc, verdict)?.text;
+    let mut text = begun(alloc, "\n    ")?;
+    text.extend_from_slice(line.as_slice())?;
     Ok(text)
 }
 
-/// The report on a certificate, in Markdown: the line of `check` and what it says in words; each problem with its numbers and its
-/// constraints in few rows (`condensed`); each step with what the labels behind it stand for (`meaning_of`), and a mark where its
-/// first clause fails; the renaming of a fixed point; and how to check it. It takes the time of `check` and, at each constraint of at
-/// most `MOST_LISTED` configurations, that of `condensed`.
+// What the verdict says.
+fn claim_text(alloc: Global, verdict: Verdict) -> Result<Vec<u8>, NoMemory>
+    ensures { IfOk result (λ text. text.items ≡ claim verdict) }
+{
+    let mut text = Vec::new(alloc);
+    push_claim(&mut text, verdict)?;
+    Ok(text)
+}
+
+fn graph_text(alloc: Global, verdict: Verdict) -> Result<Vec<u8>, NoMemory>
+    ensures { IfOk result (λ text. text.items ≡ graph_claim verdict) }
+{
+    let mut text = Vec::new(alloc);
+    push_graph_claim(&mut text, verdict)?;
+    Ok(text)
+}
+
+fn identifiers_text(alloc: Global, active: u8, verdict: Verdict) -> Result<Vec<u8>, NoMemory>
+    ensures { IfOk result (λ text. text.items ≡ identifiers_claim active verdict) }
+{
+    let mut text = Vec::new(alloc);
+    push_identifiers(&mut text, active, verdict)?;
+    Ok(text)
+}
+
+fn model_text(alloc: Global, active: u8, passive: u8) -> Result<Vec<u8>, NoMemory>
+    ensures { IfOk result (λ text. text.items ≡ model active passive) }
+{
+    let mut text = Vec::new(alloc);
+    push_model(&mut text, active, passive)?;
+    Ok(text)
+}
+
+// The problem of this number.
+fn problem_block(alloc: Global, certificate: &Certificate, number: u8) -> Result<Vec<u8>, NoMemory>
+    ensures { IfOk result (λ text. text.items ≡ problem_text number (problem_at certificate.now number)) }
+{
+    let mut text = Vec::new(alloc);
+    push_problem(&mut text, number as usize, problem_of(certificate, number))?;
+    Ok(text)
+}
+
+// What the labels behind the step of this number stand for.
+fn labels_block(alloc: Global, certificate: &Certificate, number: u8) -> Result<Vec<u8>, NoMemory>
+    ensures { IfOk result (λ text. Says certificate.now (block.Labels number) text.items) }
+{
+    let place = number.saturating_sub(1);
+    match certificate.steps().get(place as usize) {
+        None => begun(alloc, ""),
+        Some(step) => labels_text(alloc, problem_of(certificate, place), place as usize, step),
+    }
+}
+
+// The active constraint of the problem of this number.
+fn active_block(alloc: Global, certificate: &Certificate, number: u8) -> Result<Vec<u8>, NoMemory>
+    ensures { IfOk result (λ text. Says certificate.now (block.Active number) text.items) }
+{
+    let problem = problem_of(certificate, number);
+    let names = problem.names();
+    let _labels = names.len();
+    constraint_text(alloc, "\nActive constraint", names, problem.active())
+}
+
+// The passive one.
+fn passive_block(alloc: Global, certificate: &Certificate, number: u8) -> Result<Vec<u8>, NoMemory>
+    ensures { IfOk result (λ text. Says certificate.now (block.Passive number) text.items) }
+{
+    let problem = problem_of(certificate, number);
+    let names = problem.names();
+    let _labels = names.len();
+    constraint_text(alloc, "\nPassive constraint", names, problem.passive())
+}
+
+// A block that the certificate's verdict and degrees alone decide, or that is the same in each report.
+fn said(
+    alloc: Global,
+    certificate: &Certificate,
+    verdict: Verdict,
+    block: Block,
+) -> Result<Vec<u8>, NoMemory>
+    requires { verdict ≡ verdict_of certificate.now }
+    ensures { IfOk result (λ text. Says certificate.now block text.items) }
+{
+    match block {
+        Block::Title => begun(alloc, "# Report on a certificate\n"),
+        Block::Line => line(alloc, verdict),
+        Block::Claim => claim_text(alloc, verdict),
+        Block::Model => {
+            let degrees = certificate.first().degrees();
+            model_text(alloc, degrees.active, degrees.passive)
+        }
+        Block::Graph => graph_text(alloc, verdict),
+        Block::Identifiers => {
+            let degrees = certificate.first().degrees();
+            identifiers_text(alloc, degrees.active, verdict)
+        }
+        Block::Order => problem_order(alloc, certificate.first()),
+        Block::Notation => notation_text(alloc),
+        Block::Problem(number) => problem_block(alloc, certificate, number),
+        Block::Active(number) => active_block(alloc, certificate, number),
+        Block::Passive(number) => passive_block(alloc, certificate, number),
+        Block::Step(number) => step_text(alloc, number),
+        Block::Labels(number) => labels_block(alloc, certificate, number),
+        Block::Fails(clause) => fails_text(alloc, clause),
+        Block::WayBack => back_text(alloc, certificate),
+        Block::Check => check_text(alloc, verdict),
+    }
+}
+
+/// What the blocks say of a certificate with this verdict of `check`, in Markdown, one behind the other.
+pub fn markdown(
+    alloc: Global,
+    certificate: &Certificate,
+    verdict: Verdict,
+    blocks: &[Block],
+) -> Result<Vec<u8>, NoMemory>
+    requires { verdict ≡ verdict_of certificate.now }
+    ensures { IfOk result (λ text. Writes certificate.now blocks.now text.items) }
+{
+    let mut text = Vec::new(alloc);
+    for block in blocks {
+        let words = said(alloc, certificate, verdict, *block)?;
+        text.extend_from_slice(words.as_slice())?;
+    }
+    Ok(text)
+}
+
+/// The report on a certificate, in Markdown: what `report_of` lists. It takes the time of `check`, at each constraint of at most `MOST_LISTED`
+/// configurations that of `condensed`, and behind a fixed point that of `re_flexible::flexibility_of`.
 pub fn report(alloc: Global, certificate: &Certificate) -> Result<Vec<u8>, NoMemory>
-    ensures { IfOk result (λ text. StartsWith text.items (head certificate.now)) }
+    ensures { IfOk result (λ text. IsMarkdown certificate.now text.items) }
 {
     let verdict = check(certificate);
-    let mut text = head(alloc, certificate, verdict)?;
-    let rest = body(alloc, certificate, verdict)?;
-    text.extend_from_slice(rest.as_slice())?;
-    Ok(text)
+    let blocks = report_of(alloc, certificate, verdict)?;
+    markdown(alloc, certificate, verdict, blocks.as_slice())
 }

@@ -1,5 +1,5 @@
-mod GivenClosureWorth
-mod GivenWorth
+mod Refusals
 pub mod Said
 pub mod TextsWorth
 mod Undone
+mod WorthIn

@@ -6,12 +6,11 @@ use Rattle.re_frame.specs.Runs.{MaySay}
 use Rattle.re_frame.specs.declared.output.Output.{Output}
 use Rattle.re_frame.specs.declared.status.Status.{Status}
 use Rattle.re_frame.specs.declared.status.Status.TheVariants.{BadInput, BadWords, Done, Limit, No, NoMemory, ReadFault, WriteFault}
-use Rattle.re_explore.specs.Commands.{bad_words, command_of, is_judging}
-use Rattle.re_explore.specs.Expected.{Says}
+use Rattle.re_explore.specs.Commands.{IsOutcome, bad_words, command_of, is_judging, is_reading}
+use Rattle.re_explore.specs.Expected.{IsExpected, Says, reads_input}
 use Rattle.re_explore.specs.declared.command.Command.{Command}
 
-pub says_none : (words : List (List ℕ)) (output : Output) → None ≡ command_of words → outcome_of output ≡ bad_words → Says (status_of output.answer) (command_of words)
-unfolding bad_words
+pub says_none : (words : List (List ℕ)) (output : Output) → None ≡ command_of words → outcome_of output ≡ bad_words words → Says (status_of output.answer) (command_of words)
 says_none words output is bad = subst (Says (status_of output.answer)) is (ap (λ (o : Outcome). o.status) bad)
 
 pub says_of : {E : Type 0} (words : List (List ℕ)) (command : Command) (result : Result Output E) → Some command ≡ command_of words
@@ -21,6 +20,14 @@ says_of words command (Err fault) is says = tt
 
 pub says_by : (words : List (List ℕ)) (command : Command) (status : Status) → Some command ≡ command_of words → MaySay status (is_judging (Some command)) → Says status (command_of words)
 says_by words command status is says = subst (Says status) is says
+
+-- what a command may answer that the words name, they may, and where it reads, they do
+pub expected_of : (words : List (List ℕ)) (command : Command) (bytes : List ℕ) (outcome : Outcome) → Some command ≡ command_of words → IsOutcome words (Some command) bytes outcome
+    → IsExpected words bytes outcome
+expected_of words command bytes outcome is may = subst (λ c. IsOutcome words c bytes outcome) is may
+
+pub reading_of : (words : List (List ℕ)) (command : Command) → Some command ≡ command_of words → IsTrue (is_reading (Some command)) → IsTrue (reads_input words)
+reading_of words command is reads = subst (λ c. IsTrue (is_reading c)) is reads
 
 pub says_bad_words : (command : Option Command) (answer result : Status) → Says answer command → result ≡ answer
     → (result ≡ BadWords → command ≡ None) × (command ≡ None → result ≡ BadWords)
@@ -42,9 +49,9 @@ is_answer ReadFault memory read write = absurd (read refl)
 is_answer WriteFault memory read write = absurd (write refl)
 is_answer NoMemory memory read write = absurd (memory refl)
 
--- five texts one behind the other
-pub joined_five : (a b c d e : List ℕ) → (((a ++ b) ++ c) ++ d) ++ e ≡ a ++ (b ++ (c ++ (d ++ e)))
-joined_five a b c d e = append_assoc ((a ++ b) ++ c) d e ∙ append_assoc (a ++ b) c (d ++ e) ∙ append_assoc a b (c ++ (d ++ e))
+-- four texts one behind the other
+pub joined_four : (a b c d : List ℕ) → ((a ++ b) ++ c) ++ d ≡ a ++ (b ++ (c ++ d))
+joined_four a b c d = append_assoc (a ++ b) c d ∙ append_assoc a b (c ++ d)
 
 -- six texts one behind the other
 pub joined_six : (a b c d e f : List ℕ) → ((((a ++ b) ++ c) ++ d) ++ e) ++ f ≡ a ++ (b ++ (c ++ (d ++ (e ++ f))))

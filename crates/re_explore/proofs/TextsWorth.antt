@@ -1,55 +1,56 @@
 -- What the text of an answer Done is worth, by what the command may answer.
-use Rattle.std.proofs.Common.{◌≡◌, ◌≤◌, ◌+◌, ℕ, zero, suc, Bool, true, false, List, [], ◌∷◌, ◌++◌, append_assoc, length, refl, sym, ap, ◌∙◌, subst, Option, Some, None, inl, inr, arith}
-use Rattle.std.specs.Prelude.{Contains, codes, if◌then◌else◌, option_map}
-use Rattle.std.proofs.lemmas.List.Elements.{Contains-append_right}
-use Rattle.re_labels.proofs.Membership.{AllByRecursion-contains, Contains-here, Contains-map}
+use Rattle.std.proofs.Common.{◌≡◌, ◌≤◌, ◌+◌, ℕ, zero, suc, Bool, true, false, List, [], ◌∷◌, ◌++◌, length, refl, subst, Option, Some, None, inl, inr, arith}
+use Rattle.std.specs.Prelude.{if◌then◌else◌, option_map}
 use Rattle.std.proofs.lemmas.Bool.{cases_lt}
 use Rattle.re_labels.specs.declared.TheConstants.{MAX_LABELS}
-use Rattle.re_problem.specs.NamedProblems.{IsNamedProblem, unnamed}
+use Rattle.re_problem.specs.NamedProblems.{unnamed}
 use Rattle.re_problem.specs.Zero.{zero_place}
 use Rattle.re_problem.specs.declared.fault.InputFault.{InputFault}
-use Rattle.re_cert.specs.Bounds.{Bound, BoundStep, last_problem, next_problems}
+use Rattle.re_cert.specs.Bounds.{Bound, BoundStep, last_problem}
 use Rattle.re_cert.specs.declared.certificate.Kind.{Kind}
 use Rattle.re_cert.specs.declared.certificate.Kind.TheVariants as kind
+use Rattle.re_cert.specs.declared.certificate.TheConstants.{MAX_STEPS}
+use Rattle.re_shaping.specs.Relaxing.{relaxed_limit}
+use Rattle.re_asking.proofs.Besides.{done_beside}
+use Rattle.re_asking.specs.Beside.{first_problem, input_named, text_beside}
 use Rattle.re_shaping.specs.RowForms.{by_rows}
 use Rattle.re_shaping.specs.Stepped.{next_step, stepped, stepping_fault}
 use Rattle.re_shaping.specs.declared.stepping.ChainStepFault.{ChainStepFault}
 use Rattle.re_shaping.specs.declared.stepping.ChainStepFault.TheVariants as chain_step_fault
-use Rattle.re_chains.proofs.WordsGiven.{fault_not_done, text_checked}
+use Rattle.re_chains.proofs.WordsGiven.{fault_not_done}
 use Rattle.re_chains.specs.ChainTexts.{chain_fault, text_chain}
-use Rattle.re_chains.specs.OverChains.{IsTextOf, refusal_of}
-use Rattle.re_check.specs.Verdicts.{Means, steps_fault}
+use Rattle.re_chains.specs.OverChains.{refusal_of}
+use Rattle.re_check.specs.Verdicts.{steps_fault}
 use Rattle.re_check.specs.declared.verdict.ClauseFault.{ClauseFault}
-use Rattle.re_check.specs.declared.verdict.Verdict.TheVariants.{Accepted}
-use Rattle.re_shaping.specs.Relaxing.{relaxed_limit}
-use Rattle.re_closure.specs.ClosureWords.{IsClosureLine, IsRaisedLine, MayFind as MayClose, MayFindBehind as MayCloseBehind, MayFindBy, MayFindRaisedBehind, MayFindRaisedWithin, MayFindWithin as MayCloseWithin, MayGive as MayGiveClosure, MayGiveAt as MayCloseAt, MayGiveBy as MayGiveClosureBy, MayGiveRead as MayCloseRead, MayGiveSound as MayCloseSound, MayGoOn, MayGoOnRaised, MayStep, closure_chain, stop_outcome}
+use Rattle.re_closure.specs.ClosureWords.{IsRaisedLine, IsUnfound, MayFindBehind as MayCloseBehind, MayFindBy as MayCloseBy, MayFindRaisedBehind, MayFindRaisedWithin, MayFindWithin as MayCloseWithin, MayGive as MayGiveClosure, MayGiveAt as MayCloseAt, MayGiveBy as MayGiveClosureBy, MayGiveRead as MayCloseRead, MayGiveSound as MayCloseSound, MayGoOn, MayGoOnRaised, MayStep, closure_chain, closure_setting, stop_outcome}
 use Rattle.re_closure.specs.DiagramTexts.{diagram_edges, diagram_fault, front_chain, has_diagram}
 use Rattle.re_closure.specs.Diagrams.{raised}
-use Rattle.re_closure.specs.GivenClosures.{MayGiveText as MayGiveClosureText, MayGiveTextBy as MayGiveClosureTextBy, has_input}
 use Rattle.re_closure.specs.RaisedClosures.{raised_chain, step_to_raised}
 use Rattle.re_closure.specs.declared.answering.ClosureWord.{ClosureWord}
-use Rattle.re_shaping.specs.Extensions.{GoesOn}
 use Rattle.re_frame.specs.Answers.{MayAnswer}
-use Rattle.re_frame.specs.Check.{verdict_outcome}
 use Rattle.re_frame.specs.Outcomes.{Outcome, too_long}
 use Rattle.re_frame.specs.TextFaults.{fault_outcome}
 use Rattle.re_frame.specs.declared.status.Status.TheVariants.{Done}
+use Rattle.re_given_words.specs.SettingTexts.{parts_of}
+use Rattle.re_given_words.specs.Settings.{GoesOnIn, IsTakenIn, IsTextIn}
+use Rattle.re_given_words.specs.declared.setting.Setting.{Setting}
+use Rattle.re_given_words.specs.declared.setting.Setting.TheVariants as settings
 use Rattle.re_io.specs.declared.read.TheConstants.{MAX_BYTES}
-use Rattle.re_cert.specs.declared.certificate.TheConstants.{MAX_STEPS}
-use Rattle.re_relaxed.specs.Words.{MayGive as MayGiveRelaxed}
+use Rattle.re_relaxed.specs.Words.{MayGive as MayGiveRelaxed, looked_at}
 use Rattle.re_relaxed.specs.declared.words.RelaxedWord.{RelaxedWord}
-use Rattle.re_search_words.specs.GivenAnswers.{MayGiveBy, MayGiveText}
-use Rattle.re_search_words.specs.MayGive.{IsFound, MayFind, MayFindBehind, MayGive, MayGiveAt, MayGiveRead, MayGiveSound, MayShorten, word_chain}
+use Rattle.re_search_words.specs.MayGive.{IsFound, MayFind, MayFindBy, MayFindElse, MayGive, MayGiveAt, MayGiveRead, MayGiveSound, word_chain}
 use Rattle.re_search_words.specs.declared.words.SearchWord.{SearchWord}
 use Rattle.re_search_words.specs.declared.words.SearchWord.TheVariants.{Cycle, Longest, Shortest}
-use Rattle.re_chains.specs.TwoTexts.{has_line}
-use Rattle.re_explore.proofs.GivenClosureWorth.{closure_given_worth}
-use Rattle.re_explore.proofs.GivenWorth.{given_worth}
+use Rattle.re_explore.proofs.Refusals.{declined_undone, fault_undone, refusal_undone}
 use Rattle.re_explore.proofs.Undone.{stop_undone, undone}
+use Rattle.re_explore.proofs.WorthIn.{accepted, gives_text, no_more, one_less}
 use Rattle.re_explore.specs.Commands.{IsOutcome}
-use Rattle.re_explore.specs.Worth.{ClosureWorthBy, IsAccepted, SearchWorth, SearchWorthBy, TextWorth}
+use Rattle.re_explore.specs.TextWords.{MayGiveWord}
+use Rattle.re_explore.specs.Worth.{IsAccepted, SearchWorth, TextWordWorth, TextWorth}
 use Rattle.re_explore.specs.declared.command.Command.{Command}
-use Rattle.re_explore.specs.declared.command.Command.TheVariants.{Bridges, Chains, Closes, Describes, Explains, Flexes, Givens, Graphs, Help, Inputs, Relaxes, Searches, Settles}
+use Rattle.re_explore.specs.declared.command.Command.TheVariants.{Beside, Chains, Describes, Explains, Forests, Help, HelpOn, Inputs, Reads, Relaxes}
+use Rattle.re_explore.specs.declared.text_words.TextWord.{TextWord}
+use Rattle.re_explore.specs.declared.text_words.TextWord.TheVariants.{Bridges, Closes, Givens, Graphs, Searches, Settles}
 
 -- ---- inputs that aren't too long
 pub within : (may : List ℕ → Outcome → Type 0) (bytes : List ℕ) (outcome : Outcome) → MayAnswer may bytes outcome → outcome.status ≡ Done → may bytes outcome
@@ -58,156 +59,103 @@ within may bytes outcome is finished = elim (cases_lt MAX_BYTES (length bytes)) 
   | inr short ↦ is.within short
 ]
 
--- ---- bounds that go on from a chain
-accepted : (kind : Kind) (most labels : ℕ) (chain bound : Bound) (text : List ℕ) → IsTextOf bound text → GoesOn kind most labels chain bound → IsAccepted kind most labels chain text
-accepted kind most labels chain bound text text_of on = record {
-  bound = bound;
-  text_of = text_of;
-  goes_on = on;
-  checked = text_checked bound text text_of ∙ ap verdict_outcome on.valid;
-}
-
-found_worth : (kind : Kind) (most labels : ℕ) (chain : Bound) (outcome : Outcome) → IsFound kind most labels chain outcome → outcome.status ≡ Done → IsAccepted kind most labels chain outcome.text
-found_worth kind most labels chain outcome (bound, on) finished = accepted kind most labels chain bound outcome.text (on.gives finished) on.goes_on
-
 -- ---- the words `longest`, `shortest` and `cycle`
-find_worth : (word : SearchWord) (chain : Bound) (outcome : Outcome) → MayFind word chain outcome → outcome.status ≡ Done → SearchWorth word chain outcome.text
-find_worth (Longest steps labels) chain outcome (found, only) finished = found_worth kind.Lower steps labels chain outcome found finished
-find_worth (Shortest steps labels) chain outcome may finished = absurd may
-find_worth (Cycle steps merges nodes) chain outcome (inl may) finished = found_worth kind.Fixed steps MAX_LABELS chain outcome may finished
-find_worth (Cycle steps merges nodes) chain outcome (inr (inl may)) finished = undone outcome _ may.2 (λ e. cc) finished
-find_worth (Cycle steps merges nodes) chain outcome (inr (inr may)) finished = undone outcome _ may (λ e. cc) finished
+module _ (setting : Setting) (chain : Bound) (outcome : Outcome) (finished : outcome.status ≡ Done) where
+  found_worth : (kind : Kind) (most labels : ℕ) → IsFound setting kind most labels chain outcome → IsAccepted setting kind most labels chain outcome.text
+  found_worth kind most labels (bound, on) = accepted setting kind most labels chain bound outcome.text (gives_text setting bound outcome on.gives finished) on.goes_on
 
-behind_worth : (place : Option ℕ) (word : SearchWord) (chain : Bound) (outcome : Outcome) → MayFindBehind place word chain outcome → outcome.status ≡ Done → SearchWorth word chain outcome.text
-behind_worth (Some place) word chain outcome may finished = undone outcome _ may (λ e. cc) finished
-behind_worth None word chain outcome may finished = find_worth word chain outcome may finished
+  find_worth : (word : SearchWord) → MayFind word setting chain outcome → SearchWorth word setting chain outcome.text
+  find_worth (Longest steps labels) (found, only) = found_worth kind.Lower steps labels found
+  find_worth (Shortest steps labels) may = found_worth kind.Upper steps labels (chain, may)
+  find_worth (Cycle steps merges nodes) (inl may) = found_worth kind.Fixed steps MAX_LABELS may
+  find_worth (Cycle steps merges nodes) (inr (inl may)) = undone outcome _ may.2 (λ e. cc) finished
+  find_worth (Cycle steps merges nodes) (inr (inr may)) = undone outcome _ may (λ e. cc) finished
 
-shorten_worth : (place : Option ℕ) (steps labels : ℕ) (chain : Bound) (outcome : Outcome) → MayShorten place steps labels chain outcome → outcome.status ≡ Done
-    → IsAccepted kind.Upper steps labels chain outcome.text
-shorten_worth (Some place) steps labels chain outcome may finished = found_worth kind.Upper steps labels chain outcome (chain, may) finished
-shorten_worth None steps labels chain outcome (inl may) finished = found_worth kind.Upper steps labels chain outcome may finished
-shorten_worth None steps labels chain outcome (inr may) finished = undone outcome _ may.2 (λ e. cc) finished
+  else_worth : (word : SearchWord) → (IsTakenIn setting chain → ⊥) → MayFindElse word setting chain outcome → SearchWorth word setting chain outcome.text
+  else_worth (Longest steps labels) not_taken may = refusal_undone setting chain outcome not_taken may finished
+  else_worth (Shortest steps labels) not_taken (inl may) = found_worth kind.Upper steps labels may
+  else_worth (Shortest steps labels) not_taken (inr may) = undone outcome _ may.2 (λ e. cc) finished
+  else_worth (Cycle steps merges nodes) not_taken may = refusal_undone setting chain outcome not_taken may finished
 
-at_worth : (of : Kind) (word : SearchWord) (chain : Bound) (outcome : Outcome) → MayGiveAt of word chain outcome → outcome.status ≡ Done → SearchWorth word chain outcome.text
-at_worth kind.Upper (Shortest steps labels) chain outcome may finished = shorten_worth (zero_place (unnamed (last_problem chain))) steps labels chain outcome may finished
-at_worth kind.Lower (Shortest steps labels) chain outcome may finished = undone outcome _ may (λ e. cc) finished
-at_worth kind.Fixed (Shortest steps labels) chain outcome may finished = undone outcome _ may (λ e. cc) finished
-at_worth kind.Lower (Longest steps labels) chain outcome may finished = behind_worth (zero_place (unnamed (last_problem chain))) (Longest steps labels) chain outcome may finished
-at_worth kind.Upper (Longest steps labels) chain outcome may finished = undone outcome _ may (λ e. cc) finished
-at_worth kind.Fixed (Longest steps labels) chain outcome may finished = behind_worth (zero_place (unnamed (last_problem chain))) (Longest steps labels) chain outcome may finished
-at_worth kind.Lower (Cycle steps merges nodes) chain outcome may finished = behind_worth (zero_place (unnamed (last_problem chain))) (Cycle steps merges nodes) chain outcome may finished
-at_worth kind.Upper (Cycle steps merges nodes) chain outcome may finished = undone outcome _ may (λ e. cc) finished
-at_worth kind.Fixed (Cycle steps merges nodes) chain outcome may finished = behind_worth (zero_place (unnamed (last_problem chain))) (Cycle steps merges nodes) chain outcome may finished
+  behind_worth : (word : SearchWord) → MayFindBy word setting chain outcome → SearchWorth word setting chain outcome.text
+  behind_worth word (inl may) = find_worth word may.1
+  behind_worth word (inr may) = else_worth word may.0 may.1
 
-sound_worth : (fault : Option ClauseFault) (word : SearchWord) (chain : Bound) (outcome : Outcome) → MayGiveSound (option_map refusal_of fault) word chain outcome → outcome.status ≡ Done
-    → SearchWorth word chain outcome.text
-sound_worth (Some fault) word chain outcome may finished = undone outcome _ may (λ e. cc) finished
-sound_worth None word chain outcome may finished = at_worth chain.kind word chain outcome may finished
+  at_worth : (of : Kind) (word : SearchWord) → MayGiveAt of word setting chain outcome → SearchWorth word setting chain outcome.text
+  at_worth kind.Upper (Shortest steps labels) may = behind_worth (Shortest steps labels) may
+  at_worth kind.Lower (Shortest steps labels) may = undone outcome _ may (λ e. cc) finished
+  at_worth kind.Fixed (Shortest steps labels) may = undone outcome _ may (λ e. cc) finished
+  at_worth kind.Upper (Longest steps labels) may = undone outcome _ may (λ e. cc) finished
+  at_worth kind.Upper (Cycle steps merges nodes) may = undone outcome _ may (λ e. cc) finished
+  at_worth kind.Lower (Longest steps labels) may = behind_worth (Longest steps labels) may
+  at_worth kind.Lower (Cycle steps merges nodes) may = behind_worth (Cycle steps merges nodes) may
+  at_worth kind.Fixed (Longest steps labels) may = behind_worth (Longest steps labels) may
+  at_worth kind.Fixed (Cycle steps merges nodes) may = behind_worth (Cycle steps merges nodes) may
 
-read_worth : (fault : Option InputFault) (word : SearchWord) (chain : Bound) (outcome : Outcome) → MayGiveRead fault word chain outcome → outcome.status ≡ Done → SearchWorth word chain outcome.text
-read_worth (Some fault) word chain outcome may finished = undone outcome (fault_outcome fault) may (fault_not_done fault) finished
-read_worth None word chain outcome may finished = sound_worth (steps_fault chain.first 1 chain.steps) word chain outcome may finished
+  sound_worth : (fault : Option ClauseFault) (word : SearchWord) → MayGiveSound (option_map refusal_of fault) word setting chain outcome → SearchWorth word setting chain outcome.text
+  sound_worth (Some fault) word may = undone outcome _ may (λ e. cc) finished
+  sound_worth None word may = at_worth chain.kind word may
 
-search_worth : (word : SearchWord) (bytes : List ℕ) (outcome : Outcome) → MayGive word bytes outcome → outcome.status ≡ Done → SearchWorth word (word_chain word bytes) outcome.text
+  read_worth : (fault : Option InputFault) (word : SearchWord) → MayGiveRead fault word setting chain outcome → SearchWorth word setting chain outcome.text
+  read_worth (Some fault) word may = undone outcome (fault_outcome fault) may (fault_not_done fault) finished
+  read_worth None word (inl fault) = fault_undone chain.first setting outcome fault finished
+  read_worth None word (inr may) = sound_worth (steps_fault chain.first 1 chain.steps) word may.1
+
+search_worth : (word : SearchWord) (bytes : List ℕ) (outcome : Outcome) → MayGive word bytes outcome → outcome.status ≡ Done
+    → SearchWorth word (parts_of bytes).setting (word_chain word (parts_of bytes).front) outcome.text
 unfolding MayGive
-search_worth word bytes outcome may finished = read_worth (chain_fault bytes) word (word_chain word bytes) outcome may finished
-
--- with an input problem, too
-search_text_worth : (word : SearchWord) (bytes : List ℕ) (outcome : Outcome) → MayGiveText word bytes outcome → outcome.status ≡ Done → SearchWorthBy (has_line (codes "given") bytes) word bytes outcome.text
-unfolding MayGiveText
-search_text_worth word bytes outcome may finished = go (has_line (codes "given") bytes) may
-  where
-    go : (b : Bool) → MayGiveBy b word bytes outcome → SearchWorthBy b word bytes outcome.text
-    go true given = given_worth word bytes outcome given finished
-    go false given = search_worth word bytes outcome given finished
+search_worth word bytes outcome may finished = read_worth (parts_of bytes).setting (word_chain word (parts_of bytes).front) outcome finished (parts_of bytes).fault word may
 
 -- ---- the word `closure`
--- a bound that goes on from the chain with a step more goes on from the chain
-one_less : (most : ℕ) (chain longer bound : Bound) (s : BoundStep) → longer.first ≡ chain.first → longer.steps ≡ chain.steps ++ s ∷ [] → GoesOn kind.Fixed most MAX_LABELS longer bound
-    → GoesOn kind.Fixed (suc most) MAX_LABELS chain bound
-one_less most chain longer bound s first steps on = record {
-  fits = on.fits;
-  problems = on.problems;
-  of_kind = on.of_kind;
-  first = on.first ∙ first;
-  more = s ∷ on.more;
-  steps = all;
-  few = (let few = on.few in omega (arith, few));
-  small = (named.names.few, on.small);
-  valid = on.valid;
-  means = subst (λ p. Means (Accepted kind.Fixed (length bound.steps)) (unnamed p)) first on.means;
-}
-  where
-    all : bound.steps ≡ chain.steps ++ s ∷ on.more
-    all = on.steps ∙ ap (λ l. l ++ on.more) steps ∙ append_assoc chain.steps (s ∷ []) on.more
+-- the text is read in the setting as a fixed point that goes on from the chain with at most so many more steps
+abbrev IsFixedText : Setting → ℕ → Bound → List ℕ → Type 0
+IsFixedText setting most chain text = (bound : Bound) × IsTextIn setting bound text × GoesOnIn setting kind.Fixed most MAX_LABELS chain bound
 
-    stands : Contains bound.steps s
-    stands = subst (λ steps. Contains steps s) (sym all) (Contains-append_right chain.steps (s ∷ on.more) s (Contains-here s on.more))
+step_worth : (setting : Setting) (Next : Outcome → Type 0) (most number : ℕ) (chain longer : Bound) (s : BoundStep) → longer.first ≡ chain.first → longer.steps ≡ chain.steps ++ s ∷ []
+    → ((o : Outcome) → Next o → o.status ≡ Done → IsFixedText setting most longer o.text)
+    → (fault : Option ChainStepFault) (outcome : Outcome) → MayStep number fault Next outcome → outcome.status ≡ Done → IsFixedText setting (suc most) chain outcome.text
+step_worth setting Next most number chain longer s first steps next None outcome may finished =
+    let found = next outcome may finished in (found.0, found.1, one_less setting most chain longer found.0 s first steps found.2)
+step_worth setting Next most number chain longer s first steps next (Some fault) outcome may finished = undone outcome (stop_outcome number fault) may (stop_undone number fault) finished
 
-    named : IsNamedProblem s.next
-    named = AllByRecursion-contains IsNamedProblem (next_problems bound.steps) s.next on.problems.next (Contains-map (λ (s : BoundStep). s.next) bound.steps s stands)
+close_behind : (setting : Setting) (Rest : Outcome → Type 0) (most : ℕ) (chain : Bound) → 3 ≤ most → ((o : Outcome) → Rest o → o.status ≡ Done → IsFixedText setting most chain o.text)
+    → (outcome : Outcome) → MayCloseBehind Rest setting chain outcome → outcome.status ≡ Done → IsFixedText setting most chain outcome.text
+close_behind setting Rest most chain three rest outcome (inl (taken, inl found)) finished =
+    (found.0, gives_text setting found.0 outcome found.1.gives finished, no_more setting 3 most chain found.0 three found.1.goes_on)
+close_behind setting Rest most chain three rest outcome (inl (taken, inr (inl more))) finished = rest outcome more finished
+close_behind setting Rest most chain three rest outcome (inl (taken, inr (inr line))) finished = undone outcome _ line.1 (λ e. cc) finished
+close_behind setting Rest most chain three rest outcome (inr (not_taken, refusal)) finished = refusal_undone setting chain outcome not_taken refusal finished
 
--- one with few more steps has no more than many
-no_more : (few most : ℕ) (chain bound : Bound) → few ≤ most → GoesOn kind.Fixed few MAX_LABELS chain bound → GoesOn kind.Fixed most MAX_LABELS chain bound
-no_more few most chain bound less on = record {
-  fits = on.fits;
-  problems = on.problems;
-  of_kind = on.of_kind;
-  first = on.first;
-  more = on.more;
-  steps = on.steps;
-  few = (let short = on.few in omega (arith, short, less));
-  small = on.small;
-  valid = on.valid;
-  means = on.means;
-}
+unfound_undone : {A : Type 0} (setting : Setting) (chain : Bound) (outcome : Outcome) → IsUnfound setting chain outcome → outcome.status ≡ Done → A
+unfound_undone setting chain outcome (inl line) finished = undone outcome _ line.1 (λ e. cc) finished
+unfound_undone setting chain outcome (inr (bound, room, closed, declined)) finished = declined_undone setting bound outcome declined finished
 
--- the text is read as a fixed point that goes on from the chain with at most so many more steps
-abbrev IsFixedText : ℕ → Bound → List ℕ → Type 0
-IsFixedText most chain text = (bound : Bound) × IsTextOf bound text × GoesOn kind.Fixed most MAX_LABELS chain bound
-
-close_worth : (Rest : Outcome → Type 0) (most : ℕ) (chain : Bound) → 3 ≤ most → ((o : Outcome) → Rest o → o.status ≡ Done → IsFixedText most chain o.text)
-    → (outcome : Outcome) → MayClose Rest chain outcome → outcome.status ≡ Done → IsFixedText most chain outcome.text
-close_worth Rest most chain three rest outcome (inl found) finished = (found.0, found.2 finished, no_more 3 most chain found.0 three found.4.goes_on)
-close_worth Rest most chain three rest outcome (inr (inl more)) finished = rest outcome more finished
-close_worth Rest most chain three rest outcome (inr (inr line)) finished = undone outcome _ line.1 (λ e. cc) finished
-
-close_behind : (Rest : Outcome → Type 0) (most : ℕ) (chain : Bound) → 3 ≤ most → ((o : Outcome) → Rest o → o.status ≡ Done → IsFixedText most chain o.text)
-    → (place : Option ℕ) (outcome : Outcome) → MayCloseBehind Rest place chain outcome → outcome.status ≡ Done → IsFixedText most chain outcome.text
-close_behind Rest most chain three rest (Some place) outcome may finished = undone outcome _ may (λ e. cc) finished
-close_behind Rest most chain three rest None outcome may finished = close_worth Rest most chain three rest outcome may finished
-
-step_worth : (Next : Outcome → Type 0) (most number : ℕ) (chain longer : Bound) (s : BoundStep) → longer.first ≡ chain.first → longer.steps ≡ chain.steps ++ s ∷ [] → ((o : Outcome) → Next o → o.status ≡ Done → IsFixedText most longer o.text)
-    → (fault : Option ChainStepFault) (outcome : Outcome) → MayStep number fault Next outcome → outcome.status ≡ Done → IsFixedText (suc most) chain outcome.text
-step_worth Next most number chain longer s first steps next None outcome may finished = let found = next outcome may finished in (found.0, found.1, one_less most chain longer found.0 s first steps found.2)
-step_worth Next most number chain longer s first steps next (Some fault) outcome may finished = undone outcome (stop_outcome number fault) may (stop_undone number fault) finished
-
-within_worth : (more : ℕ) (chain : Bound) (outcome : Outcome) → MayCloseWithin more chain outcome → outcome.status ≡ Done → IsFixedText (more + 3) chain outcome.text
-within_worth zero chain outcome may finished =
-    close_behind (IsClosureLine chain) (0 + 3) chain (omega arith) (λ o line over. undone o _ line.1 (λ e. cc) over) (zero_place (unnamed (last_problem chain))) outcome may finished
-within_worth (suc more) chain outcome may finished =
-    close_behind (MayGoOn chain (MayCloseWithin more (stepped chain))) (suc more + 3) chain (omega arith)
+within_worth : (more : ℕ) (setting : Setting) (chain : Bound) (outcome : Outcome) → MayCloseWithin more setting chain outcome → outcome.status ≡ Done → IsFixedText setting (more + 3) chain outcome.text
+within_worth zero setting chain outcome may finished = close_behind setting (IsUnfound setting chain) (0 + 3) chain (omega arith) (λ o none over. unfound_undone setting chain o none over) outcome may finished
+within_worth (suc more) setting chain outcome may finished =
+    close_behind setting (MayGoOn setting chain (MayCloseWithin more setting (stepped chain))) (suc more + 3) chain (omega arith)
     (λ o on over. let same : suc (more + 3) ≡ suc more + 3 = omega arith in
-    subst (λ most. IsFixedText most chain o.text) same (step_worth (MayCloseWithin more (stepped chain)) (more + 3) (suc (length chain.steps)) chain (stepped chain) (next_step chain) refl refl (within_worth more (stepped chain)) (stepping_fault chain) o on.2 over))
-    (zero_place (unnamed (last_problem chain))) outcome may finished
+    subst (λ most. IsFixedText setting most chain o.text) same
+    (step_worth setting (MayCloseWithin more setting (stepped chain)) (more + 3) (suc (length chain.steps)) chain (stepped chain) (next_step chain) refl refl (within_worth more setting (stepped chain)) (stepping_fault chain) o on.1 over))
+    outcome may finished
 
 -- with a diagram
-raised_behind : (Rest : Outcome → Type 0) (most : ℕ) (edges : List (ℕ × ℕ)) (chain : Bound) → 3 ≤ most → ((o : Outcome) → Rest o → o.status ≡ Done → IsFixedText most (by_rows chain) o.text)
-    → (place : Option ℕ) (outcome : Outcome) → MayFindRaisedBehind Rest place edges chain outcome → outcome.status ≡ Done → IsFixedText most (by_rows chain) outcome.text
+raised_behind : (Rest : Outcome → Type 0) (most : ℕ) (edges : List (ℕ × ℕ)) (chain : Bound) → 3 ≤ most → ((o : Outcome) → Rest o → o.status ≡ Done → IsFixedText settings.Alone most (by_rows chain) o.text)
+    → (place : Option ℕ) (outcome : Outcome) → MayFindRaisedBehind Rest place edges chain outcome → outcome.status ≡ Done → IsFixedText settings.Alone most (by_rows chain) outcome.text
 raised_behind Rest most edges chain three rest (Some place) outcome may finished = undone outcome _ may (λ e. cc) finished
-raised_behind Rest most edges chain three rest None outcome (inl found) finished = (found.0, found.2 finished, no_more 3 most (by_rows chain) found.0 three found.4.goes_on)
+raised_behind Rest most edges chain three rest None outcome (inl found) finished = (found.0, found.2 finished, no_more settings.Alone 3 most (by_rows chain) found.0 three found.4.goes_on)
 raised_behind Rest most edges chain three rest None outcome (inr (inl more)) finished = rest outcome more finished
 raised_behind Rest most edges chain three rest None outcome (inr (inr line)) finished = undone outcome _ line.1 (λ e. cc) finished
 
-raised_worth : (more : ℕ) (edges : List (ℕ × ℕ)) (chain : Bound) (outcome : Outcome) → MayFindRaisedWithin more edges chain outcome → outcome.status ≡ Done → IsFixedText (more + 3) (by_rows chain) outcome.text
+raised_worth : (more : ℕ) (edges : List (ℕ × ℕ)) (chain : Bound) (outcome : Outcome) → MayFindRaisedWithin more edges chain outcome → outcome.status ≡ Done → IsFixedText settings.Alone (more + 3) (by_rows chain) outcome.text
 raised_worth zero edges chain outcome may finished =
     raised_behind (IsRaisedLine edges chain) (0 + 3) edges chain (omega arith) (λ o line over. undone o _ line.1 (λ e. cc) over) (zero_place (unnamed (last_problem chain))) outcome may finished
 raised_worth (suc more) edges chain outcome may finished =
-    raised_behind (MayGoOnRaised edges chain (MayCloseWithin more (raised_chain edges chain))) (suc more + 3) edges chain (omega arith)
+    raised_behind (MayGoOnRaised edges chain (MayCloseWithin more settings.Alone (raised_chain edges chain))) (suc more + 3) edges chain (omega arith)
     (λ o on over. let same : suc (more + 3) ≡ suc more + 3 = omega arith in
-    subst (λ most. IsFixedText most (by_rows chain) o.text) same
-    (step_worth (MayCloseWithin more (raised_chain edges chain)) (more + 3) (suc (length chain.steps)) (by_rows chain) (raised_chain edges chain) (step_to_raised edges (last_problem chain)) refl refl
-    (within_worth more (raised_chain edges chain)) (option_map chain_step_fault.Limit (relaxed_limit (last_problem chain) (raised edges (last_problem chain)))) o on.2 over))
+    subst (λ most. IsFixedText settings.Alone most (by_rows chain) o.text) same
+    (step_worth settings.Alone (MayCloseWithin more settings.Alone (raised_chain edges chain)) (more + 3) (suc (length chain.steps)) (by_rows chain) (raised_chain edges chain) (step_to_raised edges (last_problem chain)) refl refl
+    (within_worth more settings.Alone (raised_chain edges chain)) (option_map chain_step_fault.Limit (relaxed_limit (last_problem chain) (raised edges (last_problem chain)))) o on.2 over))
     (zero_place (unnamed (last_problem chain))) outcome may finished
 
 -- the chain from which goes on what is found
@@ -215,64 +163,76 @@ abbrev chain_by : Option (List (ℕ × ℕ)) → Bound → Bound
 chain_by None chain = chain
 chain_by (Some edges) chain = by_rows chain
 
-by_worth : (diagram : Option (List (ℕ × ℕ))) (more : ℕ) (chain : Bound) (outcome : Outcome) → MayFindBy diagram more chain outcome → outcome.status ≡ Done → IsFixedText (more + 3) (chain_by diagram chain) outcome.text
-by_worth None more chain outcome may finished = within_worth more chain outcome may finished
-by_worth (Some edges) more chain outcome may finished = raised_worth more edges chain outcome may finished
+-- behind a diagram nothing is given
+abbrev setting_by : Option (List (ℕ × ℕ)) → Setting → Setting
+setting_by None setting = setting
+setting_by (Some edges) setting = settings.Alone
 
-close_at : (of : Kind) (diagram : Option (List (ℕ × ℕ))) (more : ℕ) (chain : Bound) (outcome : Outcome) → MayCloseAt of diagram more chain outcome → outcome.status ≡ Done → IsFixedText (more + 3) (chain_by diagram chain) outcome.text
-close_at kind.Lower diagram more chain outcome may finished = by_worth diagram more chain outcome may finished
-close_at kind.Upper diagram more chain outcome may finished = undone outcome _ may (λ e. cc) finished
-close_at kind.Fixed diagram more chain outcome may finished = by_worth diagram more chain outcome may finished
+module _ (diagram : Option (List (ℕ × ℕ))) (more : ℕ) (setting : Setting) (chain : Bound) (outcome : Outcome) (finished : outcome.status ≡ Done) where
+  abbrev IsWorth : Type 0
+  IsWorth = IsFixedText (setting_by diagram setting) (more + 3) (chain_by diagram chain) outcome.text
 
-close_sound : (fault : Option ClauseFault) (diagram : Option (List (ℕ × ℕ))) (more : ℕ) (chain : Bound) (outcome : Outcome) → MayCloseSound (option_map refusal_of fault) diagram more chain outcome → outcome.status ≡ Done
-    → IsFixedText (more + 3) (chain_by diagram chain) outcome.text
-close_sound (Some fault) diagram more chain outcome may finished = undone outcome _ may (λ e. cc) finished
-close_sound None diagram more chain outcome may finished = close_at chain.kind diagram more chain outcome may finished
+  close_by : MayCloseBy diagram more setting chain outcome → IsWorth
+  close_by may = go diagram may
+    where
+      go : (d : Option (List (ℕ × ℕ))) → MayCloseBy d more setting chain outcome → IsFixedText (setting_by d setting) (more + 3) (chain_by d chain) outcome.text
+      go None may = within_worth more setting chain outcome may finished
+      go (Some edges) may = raised_worth more edges chain outcome may finished
 
-close_read : (fault : Option InputFault) (diagram : Option (List (ℕ × ℕ))) (more : ℕ) (chain : Bound) (outcome : Outcome) → MayCloseRead fault diagram more chain outcome → outcome.status ≡ Done
-    → IsFixedText (more + 3) (chain_by diagram chain) outcome.text
-close_read (Some fault) diagram more chain outcome may finished = undone outcome (fault_outcome fault) may (fault_not_done fault) finished
-close_read None diagram more chain outcome may finished = close_sound (steps_fault chain.first 1 chain.steps) diagram more chain outcome may finished
+  close_at : (of : Kind) → MayCloseAt of diagram more setting chain outcome → IsWorth
+  close_at kind.Lower may = close_by may
+  close_at kind.Upper may = undone outcome _ may (λ e. cc) finished
+  close_at kind.Fixed may = close_by may
+
+  close_sound : (fault : Option ClauseFault) → MayCloseSound (option_map refusal_of fault) diagram more setting chain outcome → IsWorth
+  close_sound (Some fault) may = undone outcome _ may (λ e. cc) finished
+  close_sound None may = close_at chain.kind may
+
+  close_read : (fault : Option InputFault) → MayCloseRead fault diagram more setting chain outcome → IsWorth
+  close_read (Some fault) may = undone outcome (fault_outcome fault) may (fault_not_done fault) finished
+  close_read None (inl fault) = fault_undone chain.first setting outcome fault finished
+  close_read None (inr may) = close_sound (steps_fault chain.first 1 chain.steps) may.1
 
 closure_worth : (word : ClosureWord) (bytes : List ℕ) (outcome : Outcome) → MayGiveClosure word bytes outcome → outcome.status ≡ Done
-    → IsAccepted kind.Fixed (word.steps + 3) MAX_LABELS (closure_chain bytes) outcome.text
+    → IsAccepted (closure_setting bytes) kind.Fixed (word.steps + 3) MAX_LABELS (closure_chain bytes) outcome.text
 unfolding MayGiveClosure
 closure_worth word bytes outcome may finished =
-    let found : IsFixedText (word.steps + 3) (closure_chain bytes) outcome.text = go (has_diagram bytes) may in
-    accepted kind.Fixed (word.steps + 3) MAX_LABELS (closure_chain bytes) found.0 outcome.text found.1 found.2
+    let found : IsFixedText (closure_setting bytes) (word.steps + 3) (closure_chain bytes) outcome.text = go (has_diagram bytes) may in
+    accepted (closure_setting bytes) kind.Fixed (word.steps + 3) MAX_LABELS (closure_chain bytes) found.0 outcome.text found.1 found.2
   where
-    go : (b : Bool) → MayGiveClosureBy b word bytes outcome → IsFixedText (word.steps + 3) (if b then by_rows (front_chain bytes) else text_chain bytes) outcome.text
-    go true given = close_read (diagram_fault bytes) (Some (diagram_edges bytes)) word.steps (front_chain bytes) outcome given finished
-    go false given = close_read (chain_fault bytes) None word.steps (text_chain bytes) outcome given finished
+    go : (b : Bool) → MayGiveClosureBy b word bytes outcome
+        → IsFixedText (if b then settings.Alone else (parts_of bytes).setting) (word.steps + 3) (if b then by_rows (front_chain bytes) else text_chain (parts_of bytes).front) outcome.text
+    go true given = close_read (Some (diagram_edges bytes)) word.steps settings.Alone (front_chain bytes) outcome finished (diagram_fault bytes) given
+    go false given = close_read None word.steps (parts_of bytes).setting (text_chain (parts_of bytes).front) outcome finished (parts_of bytes).fault given
 
--- with an input problem, too
-closure_text_worth : (word : ClosureWord) (bytes : List ℕ) (outcome : Outcome) → MayGiveClosureText word bytes outcome → outcome.status ≡ Done → ClosureWorthBy (has_input bytes) word bytes outcome.text
-unfolding MayGiveClosureText
-closure_text_worth word bytes outcome may finished = go (has_input bytes) may
-  where
-    go : (b : Bool) → MayGiveClosureTextBy b word bytes outcome → ClosureWorthBy b word bytes outcome.text
-    go true given = closure_given_worth word bytes outcome given finished
-    go false given = closure_worth word bytes outcome given finished
-
--- ---- the word `relaxed`
+-- ---- the words `relaxed` and `through`
 relaxed_worth : (word : RelaxedWord) (bytes : List ℕ) (outcome : Outcome) → MayGiveRelaxed word bytes outcome → outcome.status ≡ Done
-    → IsAccepted kind.Fixed MAX_STEPS MAX_LABELS (text_chain bytes) outcome.text
+    → IsAccepted settings.Alone kind.Fixed MAX_STEPS MAX_LABELS (text_chain bytes) outcome.text
 unfolding MayGiveRelaxed
-relaxed_worth word bytes outcome may finished = search_worth (Cycle MAX_STEPS 0 word.nodes) bytes outcome may finished
+relaxed_worth word bytes outcome may finished = read_worth settings.Alone (text_chain bytes) outcome finished (chain_fault bytes) (Cycle MAX_STEPS 0 (looked_at word)) may
+
+-- ---- words whose text may have an input problem
+word_worth : (word : TextWord) (bytes : List ℕ) (outcome : Outcome) → MayGiveWord word bytes outcome → outcome.status ≡ Done → TextWordWorth word bytes outcome.text
+word_worth (Searches word) bytes outcome is finished = search_worth word bytes outcome is finished
+word_worth (Closes word) bytes outcome is finished = closure_worth word bytes outcome is finished
+word_worth (Bridges word) bytes outcome is finished = is.worth finished
+word_worth (Graphs word) bytes outcome is finished = tt
+word_worth (Givens word) bytes outcome is finished = tt
+word_worth (Settles word) bytes outcome is finished = tt
 
 -- ---- all commands
-pub worth_of : (command : Option Command) (bytes : List ℕ) (outcome : Outcome) → IsOutcome command bytes outcome → outcome.status ≡ Done → TextWorth command bytes outcome.text
-worth_of (Some (Chains word)) bytes outcome is finished = (within _ bytes outcome is finished).worth finished
-worth_of (Some (Searches word)) bytes outcome is finished = search_text_worth word bytes outcome (within _ bytes outcome is finished) finished
-worth_of (Some (Closes word)) bytes outcome is finished = closure_text_worth word bytes outcome (within _ bytes outcome is finished) finished
-worth_of (Some (Relaxes word)) bytes outcome is finished = relaxed_worth word bytes outcome (within _ bytes outcome is finished) finished
-worth_of (Some (Bridges word)) bytes outcome is finished = (within _ bytes outcome is finished).worth finished
-worth_of (Some Explains) bytes outcome is finished = tt
-worth_of (Some (Describes word)) bytes outcome is finished = tt
-worth_of (Some (Graphs word)) bytes outcome is finished = tt
-worth_of (Some (Givens word)) bytes outcome is finished = tt
-worth_of (Some (Inputs word)) bytes outcome is finished = tt
-worth_of (Some (Settles word)) bytes outcome is finished = tt
-worth_of (Some Flexes) bytes outcome is finished = tt
-worth_of (Some Help) bytes outcome is finished = tt
-worth_of None bytes outcome is finished = tt
+pub worth_of : (words : List (List ℕ)) (command : Option Command) (bytes : List ℕ) (outcome : Outcome) → IsOutcome words command bytes outcome → outcome.status ≡ Done → TextWorth command bytes outcome.text
+worth_of words (Some (Chains word)) bytes outcome is finished = (within _ bytes outcome is finished).worth finished
+worth_of words (Some (Reads word)) bytes outcome is finished = word_worth word bytes outcome (within _ bytes outcome is finished) finished
+worth_of words (Some (Beside beside)) bytes outcome is finished =
+    let longer = text_beside (input_named beside.input (first_problem beside.front bytes)) bytes in
+    word_worth beside.word longer outcome
+    (within _ longer outcome (done_beside (MayGiveWord beside.word) beside.front beside.input bytes outcome (within _ bytes outcome is finished) finished) finished) finished
+worth_of words (Some (Relaxes word)) bytes outcome is finished = relaxed_worth word bytes outcome (within _ bytes outcome is finished) finished
+worth_of words (Some Explains) bytes outcome is finished = tt
+worth_of words (Some (Describes word)) bytes outcome is finished = tt
+worth_of words (Some (Inputs word)) bytes outcome is finished = tt
+worth_of words (Some (Forests word)) bytes outcome is finished = tt
+worth_of words (Some Help) bytes outcome is finished = tt
+worth_of words (Some HelpOn) bytes outcome is finished = tt
+worth_of words None bytes outcome is finished = tt

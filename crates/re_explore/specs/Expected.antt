@@ -9,7 +9,7 @@ use Rattle.re_explore.specs.declared.command.Command.{Command}
 
 -- the outcome is one that these words may have and, where the command reads, these bytes
 abbrev pub IsExpected : List (List ℕ) → List ℕ → Outcome → Type 0
-IsExpected words bytes outcome = IsOutcome (command_of words) bytes outcome
+IsExpected words bytes outcome = IsOutcome words (command_of words) bytes outcome
 
 -- the words name a command that reads its input
 abbrev pub reads_input : List (List ℕ) → Bool

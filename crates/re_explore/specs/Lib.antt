@@ -1,3 +1,4 @@
 pub mod Commands
 pub mod Expected
+pub mod TextWords
 pub mod Worth

@@ -3,6 +3,7 @@
 
 mod command;
 mod sure;
+mod text_words;
 mod tool;
 
 pub use re_frame::Status;

@@ -8,12 +8,10 @@ ghost use Rattle.re_explore.specs.Worth.{TextWorth};
 ghost use Rattle.re_frame.specs.Outcomes.{IsAnswer, Outcome, outcome_of, status_of};
 ghost use Rattle.re_frame.specs.Runs.{Answers, StopsWithin, TakesInput, Tells};
 
-use crate::command::{Command, bad_words, command_from, help};
-use re_flexible_words::Flexible;
+use crate::command::{Command, bad_words, command_from, help, help_on};
 use re_frame::{Output, OutputFault, Status, answer_input, find_input, put_output};
 use re_inputs::input_output;
 use re_io::{MAX_BYTES, Sink, Source};
-use re_settle::SettleText;
 use re_why::Why;
 use std::alloc::Global;
 
@@ -35,20 +33,17 @@ fn output_from<S: Source>(
     ensures later { S.faults source.old ≤ S.faults source.new }
 {
     match command_from(words) {
-        None => Ok(bad_words(alloc)?),
+        None => Ok(bad_words(alloc, words)?),
         Some(Command::Help) => Ok(help(alloc)?),
+        Some(Command::HelpOn) => Ok(help_on(alloc, words)?),
         Some(Command::Chains(word)) => find_input(alloc, &word, source),
         Some(Command::Explains) => answer_input(alloc, &Why, source),
-        Some(Command::Searches(word)) => find_input(alloc, &word, source),
-        Some(Command::Closes(word)) => find_input(alloc, &word, source),
+        Some(Command::Reads(word)) => find_input(alloc, &word, source),
+        Some(Command::Beside(beside)) => find_input(alloc, &beside, source),
         Some(Command::Relaxes(word)) => find_input(alloc, &word, source),
-        Some(Command::Bridges(word)) => find_input(alloc, &word, source),
         Some(Command::Describes(word)) => find_input(alloc, &word, source),
-        Some(Command::Flexes) => find_input(alloc, &Flexible, source),
-        Some(Command::Graphs(word)) => find_input(alloc, &word, source),
-        Some(Command::Givens(word)) => find_input(alloc, &word, source),
+        Some(Command::Forests(word)) => find_input(alloc, &word, source),
         Some(Command::Inputs(word)) => Ok(input_output(alloc, word)?),
-        Some(Command::Settles(word)) => find_input(alloc, &SettleText { word }, source),
     }
 }
 

@@ -91,7 +91,7 @@ refused_isnt_no input None (Some verdict) outcome says = absurd (verdict_isnt ve
 refused_isnt_no input None None outcome says = (refl, refl, says)
 
 -- steps are refused, and not accepted
-steps_are_refused : (bound : Bound) (verdict : Verdict) → steps_refusal bound ≡ Some verdict → (verdict_outcome verdict).status ≡ Done → ⊥
+pub steps_are_refused : (bound : Bound) (verdict : Verdict) → steps_refusal bound ≡ Some verdict → (verdict_outcome verdict).status ≡ Done → ⊥
 steps_are_refused bound verdict e says = go (steps_fault bound.first 1 bound.steps) e
   where
     go : (o : Option ClauseFault) → option_map refusal_of o ≡ Some verdict → ⊥

@@ -16,4 +16,7 @@ pub mod RowsOrdered
 pub mod Saying
 pub mod Serving
 pub mod SetsAdded
+pub mod SettingSays
+mod TakenAlone
+mod TextsThatFit
 pub mod TwoRounds

@@ -10,6 +10,8 @@ pub mod ProductTexts
 pub mod RoundsTexts
 pub mod RowTests
 pub mod Searching
+pub mod SettingTexts
+pub mod Settings
 pub mod Verdicts
 pub mod Walks
 pub mod Words

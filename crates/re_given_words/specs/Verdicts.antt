@@ -1,21 +1,23 @@
 -- The words `fit` and `given`: what they answer to a bound and an input problem of its first problem.
-use Rattle.std.specs.Prelude.{ℕ, zero, suc, nat_lt, Bool, true, false, ◌&&◌, List, [], ◌++◌, codes, length, if◌then◌else◌, Option, None, Some}
+use Rattle.std.specs.Prelude.{◌≡◌, ◌≤◌, ℕ, zero, suc, nat_lt, Bool, true, false, ◌&&◌, List, [], ◌++◌, codes, length, if◌then◌else◌, Option, None, Some}
 use Rattle.std.specs.Fmt.{decimal}
-use Rattle.re_cert.specs.Bounds.{Bound}
+use Rattle.re_cert.specs.Bounds.{Bound, problem_at}
 use Rattle.re_cert.specs.declared.certificate.Kind.{Kind}
 use Rattle.re_cert.specs.declared.certificate.Kind.TheVariants.{Fixed, Lower, Upper}
 use Rattle.re_chains.specs.OverChains.{or_fault, or_refusal, steps_refusal}
 use Rattle.re_check.specs.Verdicts.{meets_back}
 use Rattle.re_check.specs.declared.verdict.Verdict.TheVariants.{Refused}
 use Rattle.re_check.specs.declared.clause.Clause.TheVariants.{Back}
-use Rattle.re_fit.specs.InputProblems.{input_fault}
+use Rattle.re_fit.specs.InputProblems.{IsJudged, input_fault}
 use Rattle.re_frame.specs.Check.{verdict_outcome}
 use Rattle.re_frame.specs.Outcomes.{Outcome, done, refused}
-use Rattle.re_problem.specs.NamedProblems.{NamedProblem}
+use Rattle.re_problem.specs.NamedProblems.{NamedProblem, unnamed}
 use Rattle.re_chains.specs.TwoTexts.{back_problem, front_bound, two_fault}
 use Rattle.re_walks.specs.Walking.{Walk, cut, found, nowhere}
-use Rattle.re_given_words.specs.InputFaults.{or_input_fault}
-use Rattle.re_given_words.specs.Walks.{shown_at, tries_outcome, walk_at}
+use Rattle.re_given_words.specs.InputFaults.{fault_line, or_input_fault}
+use Rattle.re_given_words.specs.Walks.{AreFirst, fit_text, input_at, shown_at, tries_outcome, walk_at}
+use Rattle.re_given_words.specs.declared.verdicts.GivenVerdict.{GivenVerdict}
+use Rattle.re_given_words.specs.declared.verdicts.GivenVerdict.TheVariants as verdict
 use Rattle.re_given_words.specs.declared.words.BoundWord.{BoundWord}
 use Rattle.re_given_words.specs.declared.words.BoundWord.TheVariants.{Fit, Given}
 
@@ -119,3 +121,24 @@ given_outcome word input bound = or_input_fault input (input_fault bound.first i
 -- what the word answers to a text: a chain or a certificate, a line `== given` and an input problem
 unfoldable pub bound_outcome : BoundWord → List ℕ → Outcome
 bound_outcome word bytes = or_fault (two_fault (codes "given") bytes) (given_outcome word (back_problem (codes "given") bytes) (front_bound (codes "given") bytes))
+
+-- ---- verdicts
+-- the outcome of a verdict on a bound
+abbrev pub rendered : NamedProblem → Bound → GivenVerdict → Outcome
+rendered input bound verdict.Accepted = accepted bound
+rendered input bound (verdict.NoInput fault) = refused (fault_line input fault)
+rendered input bound (verdict.Fails refusal) = verdict_outcome refusal
+rendered input bound (verdict.Solvable number sets holds) = refused (end_line number ++ fit_text (problem_at bound number) input sets.items ++ kept_line holds)
+rendered input bound verdict.Unsolvable = refused (end_line (length bound.steps))
+rendered input bound verdict.NotBack = verdict_outcome (Refused (length bound.steps) Back)
+rendered input bound verdict.TooManyTries = tries_outcome
+
+-- the cause that a verdict names stands: the problem is no input problem, the step is the first that fails, and the sets are the first that solve the problem
+abbrev pub HasCause : NamedProblem → Bound → GivenVerdict → Type 0
+HasCause input bound (verdict.NoInput fault) = IsJudged bound.first input (Some fault)
+HasCause input bound (verdict.Fails refusal) = steps_refusal bound ≡ Some refusal
+HasCause input bound (verdict.Solvable number sets holds) = (number ≤ length bound.steps) × AreFirst (unnamed (problem_at bound number)) (input_at input number) sets.items
+HasCause input bound verdict.Accepted = Unit {0}
+HasCause input bound verdict.Unsolvable = Unit {0}
+HasCause input bound verdict.NotBack = Unit {0}
+HasCause input bound verdict.TooManyTries = Unit {0}

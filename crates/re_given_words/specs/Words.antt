@@ -32,5 +32,5 @@ unfoldable pub given_help : List ℕ
 given_help =
     codes "fit: reads a chain, a line == given and an input problem, gives the labels that solve its last problem in 0 rounds given that input\n"
     ++ codes "given: reads a chain or a certificate, a line == given and an input problem, gives the verdict on it given that input\n"
-    ++ codes "rounds K: reads a problem, or one with a line == given and an input problem, gives its number of rounds, up to K, given that input\n"
+    ++ codes "rounds K: reads a problem, or one with a line == given and an input problem, gives its number of rounds, up to K, which is at most 64, given that input\n"
     ++ codes "product: reads a problem, a line == given and an input problem, gives the problem whose labels are pairs of a label of each\n"

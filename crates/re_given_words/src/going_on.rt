@@ -1,73 +1,20 @@
-//! Bounds that go on from a chain, judged given an input problem.
+//! Bounds that go on from a chain, in a setting.
+ghost use Rattle.re_given_words.specs.Extensions.{GoesOnGiven};
+ghost use Rattle.re_given_words.specs.Settings.{GoesOnIn, IsTakenIn};
 ghost use Rattle.re_shaping.specs.Extensions.{continued};
-ghost use Rattle.re_frame.specs.Outcomes.{outcome_of, status_of};
-ghost use Rattle.re_frame.specs.declared.status.Status.TheVariants.{Done};
-ghost use Rattle.re_given_words.specs.Extensions.{GoesOnGiven, IsTaken, Refuses, TakenLaw};
-ghost use Rattle.re_given_words.specs.Verdicts.{given_outcome};
-ghost use Rattle.re_given_words.specs.declared.words.BoundWord.TheVariants.{Given};
-ghost use Rattle.std.specs.Prelude.{◌≡◌, ◌↔◌, IfOk, IfSome, IsTrue, None};
+ghost use Rattle.std.specs.Prelude.{◌≡◌, IfOk, IfSome, None};
 
-use crate::judging::given_output;
-use crate::words::BoundWord;
+use crate::setting::Setting;
+use crate::taken::is_taken_given;
 use re_cert::Certificate;
 use re_chains::over_problems;
-use re_frame::{Answer, Output};
 use re_labels::NoMemory;
 use re_problem::Problem;
-use re_shaping::{Extension, are_small, joined};
+use re_shaping::{Extension, are_small, extended, joined};
 use std::alloc::Global;
 
-/// What `given` answers to a bound and a problem behind it.
-pub fn given_verdict(
-    alloc: Global,
-    bound: &Certificate,
-    input: &Problem,
-) -> Result<Output, NoMemory>
-    ensures { IfOk result (λ output. outcome_of output ≡ given_outcome Given input.now bound.now) }
-{
-    given_output(alloc, BoundWord::Given, bound, input)
-}
-
-/// Whether the answer is Done.
-pub fn is_done(answer: Answer) -> bool
-    ensures { IsTrue result ↔ status_of answer ≡ Done }
-{
-    matches!(answer, Answer::Done)
-}
-
-/// Whether `given` accepts the bound given the input problem. Its cost is that of the word.
-pub fn is_accepted(alloc: Global, bound: &Certificate, input: &Problem) -> Result<bool, NoMemory>
-    ensures { IfOk result (λ taken. IsTrue taken ↔ IsTaken input.now bound.now) }
-{
-    let output = given_verdict(alloc, bound, input)?;
-    Ok(is_done(output.answer))
-}
-
-/// The answer of `given` to the bound, where that isn't that it accepts it.
-pub fn given_refusal(
-    alloc: Global,
-    bound: &Certificate,
-    input: &Problem,
-) -> Result<Option<Output>, NoMemory>
-    ensures { IfOk result (Refuses input.now bound.now) }
-{
-    let output = given_verdict(alloc, bound, input)?;
-    if is_done(output.answer) {
-        Ok(None)
-    } else {
-        Ok(Some(output))
-    }
-}
-
-/// A bound that `given` accepts goes on from itself.
-pub fn taken_law()
-    ensures { TakenLaw }
-{}
-
-/// The certificate of the chain and what is to stand behind it, judged given the input problem. None exactly where this doesn't go on from
-/// the chain: where the steps are more than `most`, one of them leads to a problem of more labels than `labels`, the whole makes no
-/// certificate, or `given` doesn't accept it. Its cost is that of `given`.
-pub fn extended_given(
+// As `extended_in`, given the input problem.
+fn extended_given(
     alloc: Global,
     chain: &Certificate,
     extension: Extension,
@@ -91,9 +38,56 @@ pub fn extended_given(
     over_problems(&certificate);
     let _kind = certificate.kind();
     let _names = input.names();
-    if is_accepted(alloc, &certificate, input)? {
+    if is_taken_given(alloc, &certificate, input)? {
         Ok(Some(certificate))
     } else {
         Ok(None)
+    }
+}
+
+/// The certificate of the chain and what is to stand behind it, judged in the setting. None exactly where this doesn't go on from the chain:
+/// where the steps are more than `most`, one of them leads to a problem of more labels than `labels`, the whole makes no certificate, or it
+/// isn't taken. Its cost is that of `check` or `given`.
+pub fn extended_in(
+    alloc: Global,
+    setting: &Setting,
+    chain: &Certificate,
+    extension: Extension,
+    most: u8,
+    labels: u8,
+) -> Result<Option<Certificate>, NoMemory>
+    ensures goes_on { IfOk result (λ found. IfSome found (GoesOnIn setting.now extension.kind most labels chain.now)) }
+    ensures whole { IfOk result (λ found. IfSome found (λ bound. bound ≡ continued chain.now extension)) }
+    ensures none { IfOk result (λ found. found ≡ None → GoesOnIn setting.now extension.kind most labels chain.now (continued chain.now extension) → ⊥) }
+{
+    match setting {
+        Setting::Alone => extended(alloc, chain, extension, most, labels),
+        Setting::Given(input) => extended_given(alloc, chain, extension, input, most, labels),
+    }
+}
+
+/// A bound that is taken, as it is: it goes on from itself, with any number of steps and labels. Its cost is that of `check` or `given`.
+pub fn repeated_in(
+    alloc: Global,
+    setting: &Setting,
+    bound: &Certificate,
+    most: u8,
+    labels: u8,
+) -> Result<Certificate, NoMemory>
+    requires { IsTakenIn setting.now bound.now }
+    ensures goes_on { IfOk result (GoesOnIn setting.now bound.now.kind most labels bound.now) }
+    ensures same { IfOk result (λ certificate. certificate ≡ bound.now) }
+{
+    over_problems(bound);
+    let _input = setting.input();
+    let extension = Extension {
+        kind: bound.kind(),
+        back: bound.back(),
+        steps: Vec::new(alloc),
+        renaming: Vec::from_slice(alloc, bound.renaming())?,
+    };
+    match extended_in(alloc, setting, bound, extension, most, labels)? {
+        Some(certificate) => Ok(certificate),
+        None => unreachable!(),
     }
 }

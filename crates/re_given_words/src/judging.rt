@@ -5,6 +5,7 @@ ghost use Rattle.re_given.specs.Inputs.{IsInput};
 ghost use Rattle.re_given_words.specs.Meanings.{AnswerMeans, IsJudged};
 ghost use Rattle.re_given_words.specs.Verdicts.{fit_with, given_outcome, sound_outcome};
 ghost use Rattle.re_given_words.specs.Walks.{walk_at};
+ghost use Rattle.re_given_words.specs.declared.words.BoundWord.TheVariants.{Fit, Given};
 ghost use Rattle.re_io.specs.declared.read.TheConstants.{MAX_BYTES};
 ghost use Rattle.re_problem.specs.NamedProblems.{unnamed};
 ghost use Rattle.std.specs.Prelude.{◌≡◌, ◌≤◌, IfOk, None, length};
@@ -12,7 +13,8 @@ ghost use Rattle.std.specs.Prelude.{◌≡◌, ◌≤◌, IfOk, None, length};
 use crate::faults::input_fault_output;
 use crate::fitting::{FitAnswer, fit_at, push_fit, tries_output};
 use crate::texts::GIVEN;
-use crate::verdicts::end_output;
+use crate::verdict_lines::given_verdict_output;
+use crate::verdicts::given_verdict;
 use crate::words::BoundWord;
 use re_cert::Certificate;
 use re_chains::{TwoTexts, over_problems, read_two, steps_refusal};
@@ -46,41 +48,37 @@ fn fit_output(alloc: Global, bound: &Certificate, input: &Problem) -> Result<Out
     }
 }
 
-// What the word gives to a bound each step of which meets its clauses.
-fn sound_output(
-    alloc: Global,
-    word: BoundWord,
-    bound: &Certificate,
-    input: &Problem,
-) -> Result<Output, NoMemory>
-    requires sound { steps_refusal bound.now ≡ None }
-    requires input { IsInput (unnamed bound.now.first) (unnamed input.now) }
-    ensures { IfOk result (λ output. outcome_of output ≡ sound_outcome word input.now bound.now) }
-{
-    match word {
-        BoundWord::Fit => fit_output(alloc, bound, input),
-        BoundWord::Given => end_output(alloc, bound, input),
-    }
-}
-
-// What it gives to a bound of whose first problem it is an input problem.
-fn steps_output(
-    alloc: Global,
-    word: BoundWord,
-    bound: &Certificate,
-    input: &Problem,
-) -> Result<Output, NoMemory>
+// What `fit` gives to a bound of whose first problem it is an input problem.
+fn fit_steps(alloc: Global, bound: &Certificate, input: &Problem) -> Result<Output, NoMemory>
     requires { IsInput (unnamed bound.now.first) (unnamed input.now) }
-    ensures { IfOk result (λ output. outcome_of output ≡ or_refusal (steps_refusal bound.now) (sound_outcome word input.now bound.now)) }
+    ensures { IfOk result (λ output. outcome_of output ≡ or_refusal (steps_refusal bound.now) (sound_outcome Fit input.now bound.now)) }
 {
     match steps_refusal(bound) {
         Some(verdict) => Ok(verdict_output(alloc, verdict)?),
-        None => sound_output(alloc, word, bound, input),
+        None => fit_output(alloc, bound, input),
     }
 }
 
-/// What it gives to a bound and a problem behind it.
-pub(crate) fn given_output(
+// What `fit` gives to a bound and a problem behind it.
+fn fit_input(alloc: Global, bound: &Certificate, input: &Problem) -> Result<Output, NoMemory>
+    ensures { IfOk result (λ output. outcome_of output ≡ given_outcome Fit input.now bound.now) }
+{
+    match input_fault(bound.first(), input) {
+        Some(fault) => input_fault_output(alloc, input, fault),
+        None => fit_steps(alloc, bound, input),
+    }
+}
+
+// What `given` gives to them.
+fn verdict_given(alloc: Global, bound: &Certificate, input: &Problem) -> Result<Output, NoMemory>
+    ensures { IfOk result (λ output. outcome_of output ≡ given_outcome Given input.now bound.now) }
+{
+    let verdict = given_verdict(alloc, bound, input)?;
+    given_verdict_output(alloc, bound, input, &verdict)
+}
+
+// What the word gives to a bound and a problem behind it.
+fn given_output(
     alloc: Global,
     word: BoundWord,
     bound: &Certificate,
@@ -88,9 +86,9 @@ pub(crate) fn given_output(
 ) -> Result<Output, NoMemory>
     ensures { IfOk result (λ output. outcome_of output ≡ given_outcome word input.now bound.now) }
 {
-    match input_fault(bound.first(), input) {
-        Some(fault) => input_fault_output(alloc, input, fault),
-        None => steps_output(alloc, word, bound, input),
+    match word {
+        BoundWord::Fit => fit_input(alloc, bound, input),
+        BoundWord::Given => verdict_given(alloc, bound, input),
     }
 }
 

@@ -1,86 +1,48 @@
-//! What `given` answers to a bound each step of which meets its clauses.
+//! The verdict on a bound given an input problem.
 ghost use Rattle.re_cert.specs.Bounds.{problem_at};
-ghost use Rattle.re_chains.specs.OverChains.{steps_refusal};
+ghost use Rattle.re_chains.specs.OverChains.{or_refusal, steps_refusal};
 ghost use Rattle.re_check.specs.Verdicts.{meets_back};
-ghost use Rattle.re_frame.specs.Outcomes.{outcome_of};
 ghost use Rattle.re_given.specs.Given.{ZeroGiven};
 ghost use Rattle.re_given.specs.Inputs.{IsInput};
-ghost use Rattle.re_given_words.specs.Verdicts.{accepted, accepted_line, end_line, end_number, end_outcome, fixed_at, held_line, is_nowhere, kept_line, kept_steps, lower_with, or_back, upper_with};
-ghost use Rattle.re_given_words.specs.Walks.{AreFirst, fit_text, input_at, walk_at};
+ghost use Rattle.re_given_words.specs.Verdicts.{HasCause, end_number, end_outcome, fixed_at, given_outcome, is_nowhere, kept_steps, lower_with, or_back, rendered, upper_with};
+ghost use Rattle.re_given_words.specs.Walks.{input_at, walk_at};
+ghost use Rattle.re_given_words.specs.declared.words.BoundWord.TheVariants.{Given};
 ghost use Rattle.re_problem.specs.NamedProblems.{unnamed};
-ghost use Rattle.std.specs.Prelude.{◌≡◌, ◌≤◌, ◌<◌, ◌++◌, IfOk, None, length};
+ghost use Rattle.std.specs.Prelude.{◌≡◌, ◌≤◌, IfOk, None, length};
 
-use crate::fitting::{FitAnswer, fit_at, push_fit, tries_output};
+use crate::fitting::{FitAnswer, fit_at};
 use re_cert::{Certificate, Kind};
-use re_chains::over_problems;
-use re_check::{Clause, Verdict, check};
-use re_frame::{Output, begun, done, push_number, push_words, refused, verdict_output};
+use re_chains::{over_problems, steps_refusal};
+use re_check::{Verdict, check};
+use re_fit::{InputFault, input_fault};
 use re_labels::{LabelSet, NoMemory};
 use re_problem::Problem;
 use std::alloc::Global;
 
-// The line of a bound of this kind and of so many steps that holds given the input.
-fn accepted_line(alloc: Global, kind: Kind, steps: usize) -> Result<Vec<u8>, NoMemory>
-    ensures { IfOk result (λ text. text.items ≡ accepted_line kind steps) }
-{
-    match kind {
-        Kind::Lower => {
-            let mut text = begun(alloc, "accepted: given that input, not solvable in ")?;
-            push_number(alloc, &mut text, steps)?;
-            push_words(&mut text, " or fewer rounds\n")?;
-            Ok(text)
-        }
-        Kind::Upper => {
-            let mut text = begun(alloc, "accepted: given that input, solvable in ")?;
-            push_number(alloc, &mut text, steps)?;
-            push_words(&mut text, " rounds\n")?;
-            Ok(text)
-        }
-        Kind::Fixed => begun(
-            alloc,
-            "accepted: given that input, not solvable in any number of rounds\n",
-        ),
-    }
-}
-
-// The output of a bound that holds given the input.
-fn accepted(alloc: Global, bound: &Certificate) -> Result<Output, NoMemory>
-    ensures { IfOk result (λ output. outcome_of output ≡ accepted bound.now) }
-{
-    Ok(done(accepted_line(alloc, bound.kind(), bound.steps().len())?))
-}
-
-// The line where END fails at the problem behind so many steps.
-fn end_line(alloc: Global, number: u8) -> Result<Vec<u8>, NoMemory>
-    ensures { IfOk result (λ text. text.items ≡ end_line number) }
-{
-    let mut text = begun(alloc, "refused: given that input, step ")?;
-    push_number(alloc, &mut text, number as usize)?;
-    push_words(&mut text, ", clause END\n")?;
-    Ok(text)
-}
-
-// That line, and these sets for the labels of the input problem.
-fn shown_end(
-    alloc: Global,
-    bound: &Certificate,
-    input: &Problem,
-    number: u8,
-    sets: &[LabelSet],
-) -> Result<Vec<u8>, NoMemory>
-    requires few { number ≤ length bound.now.steps }
-    requires sets { AreFirst (unnamed (problem_at bound.now number)) (input_at input.now number) sets.now }
-    ensures { IfOk result (λ text. text.items ≡ end_line number ++ fit_text (problem_at bound.now number) input.now sets.now) }
-{
-    let mut text = end_line(alloc, number)?;
-    push_fit(
-        alloc,
-        &mut text,
-        bound.problem_at(number as usize),
-        input,
-        sets,
-    )?;
-    Ok(text)
+/// The verdict on a bound given an input problem of its first problem.
+#[derive(Drop)]
+pub enum GivenVerdict {
+    /// The bound holds given the input problem.
+    Accepted,
+    /// The other problem is no input problem of the bound's first one, for this reason.
+    NoInput(InputFault),
+    /// A step fails: what `check` says of the first that does.
+    Fails(Verdict),
+    /// END fails: a problem that is not to be solvable in 0 rounds is.
+    Solvable {
+        /// The steps that lead to it.
+        number: u8,
+        /// The sets of its labels that solve it, one for each input label.
+        sets: Vec<LabelSet>,
+        /// The most steps of a lower bound, fewer than all, that the walks show to hold.
+        holds: Option<u8>,
+    },
+    /// END fails: the last problem of an upper bound isn't solvable in 0 rounds.
+    Unsolvable,
+    /// BACK fails.
+    NotBack,
+    /// The tries don't suffice to tell.
+    TooManyTries,
 }
 
 // Whether the walk shows that the problem behind so many steps has no sets.
@@ -124,147 +86,150 @@ fn kept_steps(
     kept_steps(alloc, bound, input, number - 1)
 }
 
-// The line of so many steps of a lower bound that hold where the whole doesn't.
-fn held_line(alloc: Global, steps: usize) -> Result<Vec<u8>, NoMemory>
-    ensures { IfOk result (λ text. text.items ≡ held_line steps) }
+// The verdict on a lower bound.
+fn lower_verdict(
+    alloc: Global,
+    bound: &Certificate,
+    input: &Problem,
+) -> Result<GivenVerdict, NoMemory>
+    requires sound { steps_refusal bound.now ≡ None }
+    requires input { IsInput (unnamed bound.now.first) (unnamed input.now) }
+    ensures outcome { IfOk result (λ verdict. rendered input.now bound.now verdict ≡ lower_with input.now bound.now (walk_at input.now bound.now (length bound.now.steps))) }
+    ensures cause { IfOk result (HasCause input.now bound.now) }
 {
-    let mut text = begun(alloc, "holds: given that input, not solvable in ")?;
-    push_number(alloc, &mut text, steps)?;
-    push_words(&mut text, " or fewer rounds\n")?;
-    Ok(text)
-}
-
-// Appends the line of the bound with so many steps.
-fn push_kept(alloc: Global, text: &mut Vec<u8>, kept: Option<u8>) -> Result<(), NoMemory>
-    ensures { IfOk result (λ _. text.new.items ≡ text.old.items ++ kept_line kept) }
-{
-    match kept {
-        Some(steps) => {
-            let line = held_line(alloc, steps as usize)?;
-            Ok(text.extend_from_slice(line.as_slice())?)
+    let number = bound.steps().len() as u8;
+    match fit_at(alloc, bound, input, number)? {
+        FitAnswer::Sets(sets) => {
+            let holds = kept_steps(alloc, bound, input, number)?;
+            Ok(GivenVerdict::Solvable {
+                number,
+                sets,
+                holds,
+            })
         }
-        None => Ok(()),
+        FitAnswer::Missing => Ok(GivenVerdict::Accepted),
+        FitAnswer::TooMany => Ok(GivenVerdict::TooManyTries),
     }
 }
 
-// What is given to a lower bound whose last problem has these sets.
-fn lower_refused(
+// The verdict on an upper bound.
+fn upper_verdict(
     alloc: Global,
     bound: &Certificate,
     input: &Problem,
-    sets: &[LabelSet],
-) -> Result<Output, NoMemory>
+) -> Result<GivenVerdict, NoMemory>
     requires sound { steps_refusal bound.now ≡ None }
     requires input { IsInput (unnamed bound.now.first) (unnamed input.now) }
-    requires sets { AreFirst (unnamed (problem_at bound.now (length bound.now.steps))) (input_at input.now (length bound.now.steps)) sets.now }
-    ensures { IfOk result (λ output. outcome_of output ≡ lower_with input.now bound.now (walk_at input.now bound.now (length bound.now.steps))) }
+    ensures outcome { IfOk result (λ verdict. rendered input.now bound.now verdict ≡ upper_with bound.now (walk_at input.now bound.now (length bound.now.steps))) }
+    ensures cause { IfOk result (HasCause input.now bound.now) }
 {
-    let steps = bound.steps().len() as u8;
-    let mut text = shown_end(alloc, bound, input, steps, sets)?;
-    let kept = kept_steps(alloc, bound, input, steps)?;
-    push_kept(alloc, &mut text, kept)?;
-    Ok(refused(text))
-}
-
-// What is given to a lower bound.
-fn lower_output(alloc: Global, bound: &Certificate, input: &Problem) -> Result<Output, NoMemory>
-    requires sound { steps_refusal bound.now ≡ None }
-    requires input { IsInput (unnamed bound.now.first) (unnamed input.now) }
-    ensures { IfOk result (λ output. outcome_of output ≡ lower_with input.now bound.now (walk_at input.now bound.now (length bound.now.steps))) }
-{
-    let steps = bound.steps().len() as u8;
-    match fit_at(alloc, bound, input, steps)? {
-        FitAnswer::Sets(sets) => lower_refused(alloc, bound, input, sets.as_slice()),
-        FitAnswer::Missing => accepted(alloc, bound),
-        FitAnswer::TooMany => tries_output(alloc),
+    let number = bound.steps().len() as u8;
+    match fit_at(alloc, bound, input, number)? {
+        FitAnswer::Sets(_) => Ok(GivenVerdict::Accepted),
+        FitAnswer::Missing => Ok(GivenVerdict::Unsolvable),
+        FitAnswer::TooMany => Ok(GivenVerdict::TooManyTries),
     }
 }
 
-// What is given to an upper bound.
-fn upper_output(alloc: Global, bound: &Certificate, input: &Problem) -> Result<Output, NoMemory>
-    requires sound { steps_refusal bound.now ≡ None }
-    requires input { IsInput (unnamed bound.now.first) (unnamed input.now) }
-    ensures { IfOk result (λ output. outcome_of output ≡ upper_with bound.now (walk_at input.now bound.now (length bound.now.steps))) }
-{
-    let steps = bound.steps().len() as u8;
-    match fit_at(alloc, bound, input, steps)? {
-        FitAnswer::Sets(_) => accepted(alloc, bound),
-        FitAnswer::Missing => Ok(refused(end_line(alloc, steps)?)),
-        FitAnswer::TooMany => tries_output(alloc),
-    }
-}
-
-// What is given to a fixed point that ends well: where `check` refuses it, it is for BACK.
-fn back_output(
-    alloc: Global,
-    bound: &Certificate,
-    input: &Problem,
-    number: u8,
-) -> Result<Output, NoMemory>
+// The verdict on a fixed point that ends well: where `check` refuses it, it is for BACK.
+fn back_verdict(bound: &Certificate, input: &Problem, number: u8) -> GivenVerdict
     requires kind { bound.now.kind ≡ Kind.Fixed }
     requires back { bound.now.back ≤ number }
     requires few { number ≤ length bound.now.steps }
     requires sound { steps_refusal bound.now ≡ None }
     requires input { IsInput (unnamed bound.now.first) (unnamed input.now) }
     requires ends { ZeroGiven (unnamed (problem_at bound.now number)) (input_at input.now number) → ⊥ }
-    ensures { IfOk result (λ output. outcome_of output ≡ or_back (meets_back bound.now) bound.now) }
+    ensures outcome { rendered input.now bound.now result ≡ or_back (meets_back bound.now) bound.now }
+    ensures cause { HasCause input.now bound.now result }
 {
     over_problems(bound);
-    let step = bound.steps().len() as u8;
+    let _kind = bound.kind();
     match check(bound) {
-        Verdict::Accepted { .. } => accepted(alloc, bound),
-        Verdict::Refused { .. } => {
-            let clause = Clause::Back;
-            Ok(verdict_output(alloc, Verdict::Refused { step, clause })?)
-        }
+        Verdict::Accepted { .. } => GivenVerdict::Accepted,
+        Verdict::Refused { .. } => GivenVerdict::NotBack,
     }
 }
 
-// What is given to a fixed point of which END is judged from this problem down.
-fn fixed_output(
+// The verdict on a fixed point of which END is judged from this problem down.
+fn fixed_verdict(
     alloc: Global,
     bound: &Certificate,
     input: &Problem,
     number: u8,
-) -> Result<Output, NoMemory>
+) -> Result<GivenVerdict, NoMemory>
     requires kind { bound.now.kind ≡ Kind.Fixed }
     requires back { bound.now.back ≤ number }
     requires few { number ≤ length bound.now.steps }
     requires sound { steps_refusal bound.now ≡ None }
     requires input { IsInput (unnamed bound.now.first) (unnamed input.now) }
-    ensures { IfOk result (λ output. outcome_of output ≡ fixed_at input.now bound.now (end_number input.now bound.now number)) }
+    ensures outcome { IfOk result (λ verdict. rendered input.now bound.now verdict ≡ fixed_at input.now bound.now (end_number input.now bound.now number)) }
+    ensures cause { IfOk result (HasCause input.now bound.now) }
 {
     over_problems(bound);
     let _kind = bound.kind();
     match fit_at(alloc, bound, input, number)? {
-        FitAnswer::Sets(sets) => {
-            let text = shown_end(alloc, bound, input, number, sets.as_slice())?;
-            Ok(refused(text))
-        }
-        FitAnswer::Missing => back_output(alloc, bound, input, number),
+        FitAnswer::Sets(sets) => Ok(GivenVerdict::Solvable {
+            number,
+            sets,
+            holds: None,
+        }),
+        FitAnswer::Missing => Ok(back_verdict(bound, input, number)),
         FitAnswer::TooMany => {
             if number > bound.back() {
-                fixed_output(alloc, bound, input, number - 1)
+                fixed_verdict(alloc, bound, input, number - 1)
             } else {
-                tries_output(alloc)
+                Ok(GivenVerdict::TooManyTries)
             }
         }
     }
 }
 
-/// What `given` gives to a bound each step of which meets its clauses.
-pub(crate) fn end_output(
+// The verdict on a bound each step of which meets its clauses.
+fn end_verdict(
     alloc: Global,
     bound: &Certificate,
     input: &Problem,
-) -> Result<Output, NoMemory>
+) -> Result<GivenVerdict, NoMemory>
     requires sound { steps_refusal bound.now ≡ None }
     requires input { IsInput (unnamed bound.now.first) (unnamed input.now) }
-    ensures { IfOk result (λ output. outcome_of output ≡ end_outcome bound.now.kind input.now bound.now) }
+    ensures outcome { IfOk result (λ verdict. rendered input.now bound.now verdict ≡ end_outcome bound.now.kind input.now bound.now) }
+    ensures cause { IfOk result (HasCause input.now bound.now) }
 {
     match bound.kind() {
-        Kind::Lower => lower_output(alloc, bound, input),
-        Kind::Upper => upper_output(alloc, bound, input),
-        Kind::Fixed => fixed_output(alloc, bound, input, bound.steps().len() as u8),
+        Kind::Lower => lower_verdict(alloc, bound, input),
+        Kind::Upper => upper_verdict(alloc, bound, input),
+        Kind::Fixed => fixed_verdict(alloc, bound, input, bound.steps().len() as u8),
+    }
+}
+
+// The verdict on a bound of whose first problem it is an input problem.
+fn steps_verdict(
+    alloc: Global,
+    bound: &Certificate,
+    input: &Problem,
+) -> Result<GivenVerdict, NoMemory>
+    requires { IsInput (unnamed bound.now.first) (unnamed input.now) }
+    ensures outcome { IfOk result (λ verdict. rendered input.now bound.now verdict ≡ or_refusal (steps_refusal bound.now) (end_outcome bound.now.kind input.now bound.now)) }
+    ensures cause { IfOk result (HasCause input.now bound.now) }
+{
+    match steps_refusal(bound) {
+        Some(refusal) => Ok(GivenVerdict::Fails(refusal)),
+        None => end_verdict(alloc, bound, input),
+    }
+}
+
+/// The verdict of `given` on a bound and a problem behind it: that of which the word's answer is the output. The cause that it names stands: the
+/// sets are the first by which the problem is solvable. Its cost is that of the walks of `re_fit`, with at most `MAX_TRIES` tries each.
+pub fn given_verdict(
+    alloc: Global,
+    bound: &Certificate,
+    input: &Problem,
+) -> Result<GivenVerdict, NoMemory>
+    ensures outcome { IfOk result (λ verdict. rendered input.now bound.now verdict ≡ given_outcome Given input.now bound.now) }
+    ensures cause { IfOk result (HasCause input.now bound.now) }
+{
+    match input_fault(bound.first(), input) {
+        Some(fault) => Ok(GivenVerdict::NoInput(fault)),
+        None => steps_verdict(alloc, bound, input),
     }
 }

@@ -71,5 +71,5 @@ pub fn given_word(words: &[String]) -> Option<GivenWord>
 pub fn given_help() -> &'static str
     ensures { result.now ≡ help_lines }
 {
-    "fit: reads a chain, a line == given and an input problem, gives the labels that solve its last problem in 0 rounds given that input\ngiven: reads a chain or a certificate, a line == given and an input problem, gives the verdict on it given that input\nrounds K: reads a problem, or one with a line == given and an input problem, gives its number of rounds, up to K, given that input\nproduct: reads a problem, a line == given and an input problem, gives the problem whose labels are pairs of a label of each\n"
+    "fit: reads a chain, a line == given and an input problem, gives the labels that solve its last problem in 0 rounds given that input\ngiven: reads a chain or a certificate, a line == given and an input problem, gives the verdict on it given that input\nrounds K: reads a problem, or one with a line == given and an input problem, gives its number of rounds, up to K, which is at most 64, given that input\nproduct: reads a problem, a line == given and an input problem, gives the problem whose labels are pairs of a label of each\n"
 }

@@ -1,24 +1,35 @@
-//! Finite graphs as data, the search for a solution on one, and their texts.
+//! Finite graphs as data, the search for a solution on one, their texts, and the search for graphs without a solution: those that are listed, and those
+//! that gadgets make.
 #![tactic(auto)]
 
 mod covers;
 mod finding;
+mod finding_gadgets;
+mod gadgets;
 mod graph;
+mod joining;
 mod judging;
+mod multisets;
+mod parallel;
 mod passing;
 mod printing;
+mod relations;
+mod searching;
 mod solving;
 mod standing;
+mod writing;
 
 ghost use Rattle.re_graph.specs.Examples.{IndependentSetLaw};
 ghost use Rattle.re_graph.specs.Solving.{SolutionWalkLaw};
 
 pub use covers::{Cover, cover_of};
 pub use finding::{Found, FoundCover, find_cover, find_cover_given};
+pub use finding_gadgets::{MAX_GRAPHS, MAX_TRIES, find_gadgets, find_gadgets_given};
 pub use graph::{Graph, MAX_NODES, MAX_PASSIVE, PassiveEnds};
 pub use judging::{LabelsFault, labels_fault};
 pub use printing::push_graph;
 pub use re_cover::GraphEnd;
+pub use searching::{MAX_KEPT, MAX_MADE, MAX_STEPS};
 pub use solving::{SolveFault, solve};
 pub use standing::{has_end, stands};
 

@@ -26,4 +26,4 @@ IsGraphWord (Cover nodes) = (1 ≤ nodes) × (nodes ≤ 64)
 unfoldable pub graph_help : List ℕ
 graph_help =
     codes "solve: reads a problem, or one with a line == given and an input problem, a line == graph and the lines of a graph, gives a solution on it, or that there is none\n"
-    ++ codes "cover M: reads a problem, or one with a line == given and an input problem, gives a graph of at most M active nodes without a solution\n"
+    ++ codes "cover M: reads a problem, or one with a line == given and an input problem, gives a graph of at most M active nodes, M from 1 to 64, without a solution\n"

@@ -9,8 +9,7 @@ ghost use Rattle.std.specs.Prelude.{◌≡◌, ◌≤◌, ℕ, IfOk, IfSome};
 
 use crate::solving::solve_output;
 use re_frame::{Answer, Output, begun, done, push_number, push_words, refused, too_long};
-use re_gadgets::{MAX_STEPS, find_gadgets};
-use re_graph::{Found, Graph, find_cover, push_graph};
+use re_graph::{Found, Graph, MAX_STEPS, find_cover, find_gadgets, push_graph};
 use re_io::MAX_BYTES;
 use re_labels::NoMemory;
 use re_problem::{Problem, push_problem};

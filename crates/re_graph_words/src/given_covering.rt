@@ -18,9 +18,10 @@ use crate::given_solving::NO_SOLUTION;
 use crate::solving::{push_nodes, solve_output};
 use re_fit::input_fault;
 use re_frame::{Answer, Output, done, fault_output, push_words, too_long};
-use re_gadgets::{MAX_STEPS, find_gadgets_given};
 use re_given_words::{input_fault_output, read_given};
-use re_graph::{Cover, FoundCover, Graph, find_cover_given, push_graph};
+use re_graph::{
+    Cover, FoundCover, Graph, MAX_STEPS, find_cover_given, find_gadgets_given, push_graph,
+};
 use re_io::MAX_BYTES;
 use re_labels::NoMemory;
 use re_problem::{Problem, TextFault, push_problem};

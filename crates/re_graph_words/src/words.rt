@@ -58,5 +58,5 @@ pub fn graph_word(words: &[String]) -> Option<GraphWord>
 pub fn graph_help() -> &'static str
     ensures { result.now ≡ help_lines }
 {
-    "solve: reads a problem, or one with a line == given and an input problem, a line == graph and the lines of a graph, gives a solution on it, or that there is none\ncover M: reads a problem, or one with a line == given and an input problem, gives a graph of at most M active nodes without a solution\n"
+    "solve: reads a problem, or one with a line == given and an input problem, a line == graph and the lines of a graph, gives a solution on it, or that there is none\ncover M: reads a problem, or one with a line == given and an input problem, gives a graph of at most M active nodes, M from 1 to 64, without a solution\n"
 }

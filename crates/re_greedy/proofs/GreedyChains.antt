@@ -88,6 +88,13 @@ module _ (first last : Problem) (k : ℕ) (is : IsProblem first) (is_last : IsPr
 pub coloured_chain : (first last : Problem) (k : ℕ) → IsProblem first → IsProblem last → IsUpperChain first k last → IsSolvableColoured (exchanged_by k last) → IsSolvableColoured first
 coloured_chain = through
 
+pub greedy_coloured : (first last : Problem) (k : ℕ) (partial : List (List ℕ)) → IsProblem first → IsProblem last → IsUpperChain first k last
+    → (IsGreedy last partial → IsSolvableColoured first × IsBelowLogStar first) × (IsGreedy (exchanged last) partial → IsSolvableColoured first × IsBelowLogStar first)
+greedy_coloured first last k partial is is_last steps = (
+  λ greedy. (let few : IsSolvableColoured first = through first last k is is_last steps (coloured_last first last k is is_last steps partial greedy) in (few, below_log_star first is few)),
+  λ greedy. (let few : IsSolvableColoured first = through first last k is is_last steps (coloured_other first last k is is_last steps partial greedy) in (few, below_log_star first is few)),
+)
+
 pub greedy_chain : (first last : Problem) (k : ℕ) (partial : List (List ℕ)) → IsProblem first → IsProblem last → IsUpperChain first k last
     → (IsGreedy last partial → IsBelowLogStar first) × (IsGreedy (exchanged last) partial → IsBelowLogStar first)
 greedy_chain first last k partial is is_last steps = (

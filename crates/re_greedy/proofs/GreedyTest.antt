@@ -26,7 +26,7 @@ use Rattle.std.proofs.lemmas.List.Elements.{Contains-get_or}
 use Rattle.std.proofs.lemmas.List.{get_or-map}
 
 -- ---- lists of lists
-listed : (lists : List (List ℕ)) (v : List ℕ) → list_any (same_list v) lists ≡ true → Contains lists v
+pub listed : (lists : List (List ℕ)) (v : List ℕ) → list_any (same_list v) lists ≡ true → Contains lists v
 listed lists v h = let (w, at, same) = any_found (same_list v) lists h in subst (Contains lists) (sym (same_list-same v w same)) at
 
 module _ (problem : Problem) (partial : List (List ℕ)) (is : IsProblem problem) where

@@ -1,8 +1,19 @@
-//! Greedy problems, whose active nodes may be labelled one after another in any order, and how few rounds solve them: laws alone, no code.
+//! Greedy problems, whose active nodes may be labelled one after another in any order: how few rounds solve them, and the search that finds what shows it.
 #![tactic(auto)]
 
 ghost use Rattle.re_greedy.specs.Examples.{EdgesLaw, IndependentSetsLaw, MatchingsLaw};
 ghost use Rattle.re_greedy.specs.Laws.{ColouredChainLaw, GreedyChainLaw, GreedyClassLaw, GreedyLaw, GreedyOrderLaw, GreedyTestLaw, PassiveColoursLaw, PassiveGreedyClassLaw, PassiveGreedyLaw};
+
+mod answering;
+mod finding;
+mod joining;
+mod judging;
+mod partials;
+
+pub use answering::{Reply, reply_to};
+pub use finding::{Greediness, MAX_MULTISETS, Work, find_greedy};
+pub use judging::{ListVerdict, judge_list, refused_list_law};
+pub use partials::Partial;
 
 /// The test whether a problem is greedy with some multisets decides it.
 pub fn greedy_test_law()
@@ -49,17 +60,17 @@ pub fn greedy_chain_law()
     ensures { GreedyChainLaw }
 {}
 
-/// Maximal independent sets are greedy.
+/// Maximal independent sets, in degrees up to 6, take at most the order of log* N rounds.
 pub fn independent_sets_law()
     ensures { IndependentSetsLaw }
 {}
 
-/// Proper colourings of edges are greedy from the side of the edges.
+/// Proper colourings of edges with 5 colours, in degree 3, take at most that order.
 pub fn edges_law()
     ensures { EdgesLaw }
 {}
 
-/// Maximal matchings are greedy behind one upper step, from the side of the edges.
+/// Maximal matchings, in degrees up to 6, take at most that order.
 pub fn matchings_law()
     ensures { MatchingsLaw }
 {}

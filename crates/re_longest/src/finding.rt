@@ -1,39 +1,28 @@
 //! The certificate of the longest path.
-ghost use Rattle.re_cert.specs.Bounds.{last_problem};
 ghost use Rattle.re_cert.specs.declared.certificate.Kind.TheVariants.{Lower};
-ghost use Rattle.re_shaping.specs.Extensions.{GoesOn};
-ghost use Rattle.re_longest.specs.Answers.{Answers};
+ghost use Rattle.re_given_words.specs.Settings.{GoesOnIn, IsSettingOf, IsTakenIn};
 ghost use Rattle.re_problem.specs.NamedProblems.{unnamed};
-ghost use Rattle.re_problem.specs.Zero.{zero_place};
-ghost use Rattle.std.specs.Prelude.{◌≡◌, IfOk, IfSome, None};
+ghost use Rattle.std.specs.Prelude.{IfOk, IfSome};
 
 use crate::beam::{longest_merged, longest_route};
 use re_beams::Given;
 use re_cert::{Certificate, Kind, MAX_STEPS};
 use re_chains::LowerChain;
+use re_given_words::{Setting, extended_in, repeated_in};
 use re_labels::NoMemory;
-use re_problem::zero_round;
-use re_shaping::{Extension, Route, extended, repeated, route_steps, takes_merges};
+use re_shaping::{Extension, Route, route_steps, takes_merges};
 use std::alloc::Global;
-
-/// What the search comes to.
-#[derive(Drop)]
-pub enum Longest {
-    /// The certificate of the longest lower bound that was found, which goes on from the given chain.
-    Found(Certificate),
-    /// The chain's last problem is solvable without communication: the place of its first active configuration that shows it.
-    Solvable(usize),
-}
 
 // The lower bound along the route, where it goes on from the chain.
 fn along(
     alloc: Global,
+    setting: &Setting,
     chain: &Certificate,
     route: Route,
     steps: u8,
     labels: u8,
 ) -> Result<Option<Certificate>, NoMemory>
-    ensures { IfOk result (λ found. IfSome found (GoesOn Lower steps labels chain.now)) }
+    ensures { IfOk result (λ found. IfSome found (GoesOnIn setting.now Lower steps labels chain.now)) }
 {
     let extension = Extension {
         kind: Kind::Lower,
@@ -41,17 +30,17 @@ fn along(
         steps: route_steps(alloc, chain, route)?,
         renaming: Vec::new(alloc),
     };
-    extended(alloc, chain, extension, steps, labels)
+    extended_in(alloc, setting, chain, extension, steps, labels)
 }
 
-/// How many levels there may be.
-pub(crate) fn levels_behind(chain: &Certificate, steps: u8) -> usize {
+// How many levels there may be.
+fn levels_behind(chain: &Certificate, steps: u8) -> usize {
     let room = MAX_STEPS.saturating_sub(chain.steps().len());
     room.min(steps as usize)
 }
 
-/// A route that begins with a merge and has more than so many stops, if one is found.
-pub(crate) fn longer_route(
+// A route that begins with a merge and has more than so many stops, if one is found.
+fn longer_route(
     alloc: Global,
     given: &Given,
     chain: &Certificate,
@@ -69,60 +58,46 @@ pub(crate) fn longer_route(
     Ok(Some(route))
 }
 
-// A lower bound that begins with a merge and is longer than so many steps, if one is found.
-fn longer(
+// The longest lower bound that is found, if it has further steps.
+fn searched(
     alloc: Global,
+    setting: &Setting,
     chain: &Certificate,
-    least: usize,
     steps: u8,
     labels: u8,
 ) -> Result<Option<Certificate>, NoMemory>
-    ensures { IfOk result (λ found. IfSome found (GoesOn Lower steps labels chain.now)) }
+    ensures { IfOk result (λ found. IfSome found (GoesOnIn setting.now Lower steps labels chain.now)) }
 {
+    let given = Given::behind(alloc, setting, chain.steps().len())?;
     let levels = levels_behind(chain, steps);
-    match longer_route(alloc, &Given::nothing(), chain, least, levels, labels)? {
-        Some(route) => along(alloc, chain, route, steps, labels),
-        None => Ok(None),
+    let route = longest_route(alloc, &given, chain.last(), levels, labels)?;
+    let least = route.stops.len();
+    if let Some(longer) = longer_route(alloc, &given, chain, least, levels, labels)? {
+        if let Some(certificate) = along(alloc, setting, chain, longer, steps, labels)? {
+            return Ok(Some(certificate));
+        }
     }
+    along(alloc, setting, chain, route, steps, labels)
 }
 
-// The longest lower bound that is found.
-fn searched(
-    alloc: Global,
-    chain: &LowerChain,
-    steps: u8,
-    labels: u8,
-) -> Result<Certificate, NoMemory>
-    requires { zero_place (unnamed (last_problem chain.now.certificate)) ≡ None }
-    ensures { IfOk result (GoesOn Lower steps labels chain.now.certificate) }
-{
-    let certificate = &chain.certificate;
-    let levels = levels_behind(certificate, steps);
-    let route = longest_route(alloc, &Given::nothing(), certificate.last(), levels, labels)?;
-    if let Some(found) = longer(alloc, certificate, route.stops.len(), steps, labels)? {
-        return Ok(found);
-    }
-    match along(alloc, certificate, route, steps, labels)? {
-        Some(found) => Ok(found),
-        None => repeated(alloc, chain, steps, labels),
-    }
-}
-
-/// The longest lower bound that the beam search finds which goes on from a chain: with at most so many further steps, each to a
-/// problem of at most so many labels. It is never shorter than the chain. It is accepted by `check`. The answer is `Solvable` exactly where
-/// the chain's last problem is solvable without communication.
+/// The longest lower bound that the beam search finds which goes on from a chain that is taken in the setting: with at most so many further
+/// steps, each to a problem of at most so many labels. It is never shorter than the chain, and is taken.
 ///
 /// The search may miss longer bounds. The crate's page says how it goes, and what memory it takes.
 pub fn find_longest(
     alloc: Global,
+    setting: &Setting,
     chain: &LowerChain,
     steps: u8,
     labels: u8,
-) -> Result<Longest, NoMemory>
-    ensures { IfOk result (Answers steps labels chain.now.certificate) }
+) -> Result<Certificate, NoMemory>
+    requires input { IsSettingOf (unnamed chain.now.certificate.first) setting.now }
+    requires taken { IsTakenIn setting.now chain.now.certificate }
+    ensures { IfOk result (GoesOnIn setting.now Lower steps labels chain.now.certificate) }
 {
-    if let Some(place) = zero_round(chain.certificate.last()) {
-        return Ok(Longest::Solvable(place));
+    let certificate = &chain.certificate;
+    match searched(alloc, setting, certificate, steps, labels)? {
+        Some(found) => Ok(found),
+        None => repeated_in(alloc, setting, certificate, steps, labels),
     }
-    Ok(Longest::Found(searched(alloc, chain, steps, labels)?))
 }

@@ -36,16 +36,14 @@
 //!
 //! **Given an input problem.** The same search, where a solution of an input problem is given. Problems that are solvable without
 //! communication are left out as above. Of the candidates of a level, in the order in which they would stay, those stay that are told not to
-//! be solvable given the input problem, as `re_beams` says, with `FEW_TRIES` tries. So each path is a bound.
+//! be solvable given the input problem, as `re_beams` says. So each path is a bound.
 #![tactic(auto)]
 
 mod beam;
 mod finding;
-mod finding_given;
 mod levels;
 mod merges;
 mod spreads;
 mod starts;
 
-pub use finding::{Longest, find_longest};
-pub use finding_given::find_longest_given;
+pub use finding::find_longest;

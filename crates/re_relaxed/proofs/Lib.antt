@@ -1,3 +1,4 @@
 mod Accepted
+mod Behind
 mod Saying
 mod WordCounts

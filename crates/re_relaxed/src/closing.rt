@@ -54,8 +54,12 @@ pub(crate) fn next_chain(
     }
 }
 
-// What the closure comes to, or, where it is solvable without communication, that behind at most so many derived problems.
-fn closed_within(alloc: Global, chain: &LowerChain, more: u8) -> Result<Tried, NoMemory> {
+/// What the closure comes to, or, where it is solvable without communication, that behind at most so many derived problems.
+pub(crate) fn closed_within(
+    alloc: Global,
+    chain: &LowerChain,
+    more: u8,
+) -> Result<Tried, NoMemory> {
     let here = closed(alloc, chain)?;
     let Tried::Open = here else {
         return Ok(here);

@@ -37,8 +37,8 @@ enum Way {
     ReturnBehind,
 }
 
-// What is found, and the count of limits.
-fn found_of(walk: &mut Walk, tried: Tried) -> Option<Certificate> {
+/// What is found, and the count of limits.
+pub(crate) fn found_of(walk: &mut Walk, tried: Tried) -> Option<Certificate> {
     match tried {
         Tried::Found(certificate) => Some(certificate),
         Tried::Cut => {
@@ -254,8 +254,8 @@ fn judged(
     extended(alloc, chain, extension, MAX_STEPS as u8, MAX_LABELS)
 }
 
-// What the search came to.
-fn answer_of(
+/// What the search came to.
+pub(crate) fn answer_of(
     alloc: Global,
     chain: &Certificate,
     walk: &Walk,

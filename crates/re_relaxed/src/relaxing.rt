@@ -104,8 +104,8 @@ fn step_by(
     }
 }
 
-// The same where it is a relaxation.
-fn step_where_relaxed(
+/// The step to the derived problem of a relaxation, where it is one by the map and the step passes no limit.
+pub(crate) fn step_where_relaxed(
     alloc: Global,
     problem: &Problem,
     relaxed: &Problem,

@@ -92,8 +92,12 @@ fn own_pairs(alloc: Global, labels: usize) -> Result<Vec<(u8, u8)>, NoMemory> {
     Ok(pairs)
 }
 
-// The fixed point that comes back, by these steps, to the last problem of the chain.
-fn closed_by(alloc: Global, chain: &Certificate, back: Vec<Step>) -> Result<Tried, NoMemory> {
+/// The fixed point that comes back, by these steps, to the last problem of the chain.
+pub(crate) fn closed_by(
+    alloc: Global,
+    chain: &Certificate,
+    back: Vec<Step>,
+) -> Result<Tried, NoMemory> {
     let number = chain.steps().len().min(MAX_STEPS) as u8;
     let first = chain.first().copy()?;
     let renaming = own_pairs(alloc, chain.last().names().len())?;

@@ -1,6 +1,3 @@
-mod FoundGiven
-mod GivenSaying
 pub mod Saying
-mod Shortening
 mod ShorterTexts
 mod WordCounts

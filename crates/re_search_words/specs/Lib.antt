@@ -1,3 +1,3 @@
-pub mod GivenAnswers
+pub mod Lines
 pub mod MayGive
 pub mod Words

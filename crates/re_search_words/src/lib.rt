@@ -4,7 +4,8 @@
 
 mod answering;
 mod fitting;
-mod given;
+mod lines;
 mod words;
 
+pub use lines::{searched_limit, searched_output};
 pub use words::{SearchWord, search_help, search_word};

@@ -1,11 +1,12 @@
 -- What is known of a problem on finite forests, and what its levels of labels tell.
-use Rattle.std.proofs.Common.{◌≡◌, ℕ, zero, suc, ◌+◌, ◌*◌, ◌<◌, ◌≤◌, Bool, true, false, List, Contains, refl, sym, ap, subst, arith, Option, None, Some}
+use Rattle.std.proofs.Common.{◌≡◌, ℕ, zero, suc, ◌+◌, ◌*◌, ◌<◌, ◌≤◌, Bool, true, false, List, Contains, refl, sym, ap, subst, arith, eq-eqb, Option, None, Some}
 use Rattle.std.specs.Prelude.{IfSome, ◌==◌, ◌&&◌, if◌then◌else◌}
 use Rattle.std.proofs.lemmas.Bool.{eqb-true}
 use Rattle.re_classes.proofs.Decided.{above_log_star, constant}
 use Rattle.re_classes.specs.Classes.{IsAboveLogStar, IsMoreThanConstant}
 use Rattle.re_flexible.specs.Lengths.{HasLevels, IsFlexibility, IsFlexibleSet}
-use Rattle.re_flexible.specs.declared.levels.Flexibility.TheVariants.{Flexible, Length, NoSolution}
+use Rattle.re_flexible.specs.declared.levels.Flexibility.TheVariants.{Length, NoSolution}
+use Rattle.re_flexible.specs.declared.levels.Flexibility.TheVariants as flexibility
 use Rattle.re_forests.proofs.ApartForests.{apart}
 use Rattle.re_forests.proofs.BoundsAbove.{below as below_forests, below_linear, below_log, never as no_solution, on_paths}
 use Rattle.re_forests.proofs.BoundsBelow.{above as above_forests, above_linear, constant_forests}
@@ -15,17 +16,22 @@ use Rattle.re_forests.proofs.PortsOnForests.{ports_on_forests}
 use Rattle.re_forests.proofs.WeakerForests.{weaker}
 use Rattle.re_forests.specs.Classes.{IsAboveLinear, IsBelowLinear, IsConstantOnForests}
 use Rattle.re_forests.specs.ToViews.{IsBeyondForests}
+use Rattle.re_gap.specs.Laws.{AboveLogOnViewsLaw, NotFlexibleLaw}
 use Rattle.re_forests.specs.Trimmed.{HasTwoLevels, IsFlexibleWithin, IsTrimmed}
 use Rattle.re_labels.proofs.Tests.{eqb-apart}
 use Rattle.re_laws.specs.Algorithms.{Solvable}
 use Rattle.re_local.specs.SeparatingLaws.{IsBeyondLocal}
 use Rattle.re_problem.specs.NamedProblems.{NamedProblem, unnamed}
 use Rattle.re_problem.specs.Problems.{IsProblem, Problem}
-use Rattle.re_settle.proofs.Local.{claim_local}
+use Rattle.re_settle.proofs.Counts.{never_counts, zero_claimed}
+use Rattle.re_settle.proofs.Known.{flexible_known}
+use Rattle.re_settle.proofs.Local.{claim_local, fixed_found, nothing_further}
 use Rattle.re_settle.specs.Claims.{Holds, within}
-use Rattle.re_settle.specs.Classes.{ClassHolds, HoldsLocal, bounded_class, class_of}
+use Rattle.re_settle.specs.Classes.{ClassHolds, HoldsLocal, LeastHolds, bounded_class, class_of, least_of, never_class}
 use Rattle.re_settle.specs.OnForests.{ClassOnForests, HoldsOnForests, LeastOnForests, MayBeBelow, MostOnForests, SolvableOnAny, length_of, most_of}
-use Rattle.re_settle.specs.Ways.{IsFound, IsSettled}
+use Rattle.re_settle.specs.Ways.{IsFound, IsFoundFurther, IsSettled}
+use Rattle.re_settle.specs.declared.types.Further.{Further}
+use Rattle.re_settle.specs.declared.types.Further.TheVariants as further
 use Rattle.re_settle.specs.declared.types.Claim.{Claim}
 use Rattle.re_settle.specs.declared.types.Claim.TheVariants.{AtMost, Between, Exactly, MoreThan, Never}
 use Rattle.re_settle.specs.declared.types.Class.TheVariants as class
@@ -35,6 +41,8 @@ use Rattle.re_settle.specs.declared.types.Most.{Most}
 use Rattle.re_settle.specs.declared.types.Most.TheVariants as most
 use Rattle.re_settle.specs.declared.types.Settled.{Settled}
 use Rattle.re_settle.specs.declared.types.Settled.TheVariants as settled
+use Rattle.re_settle.specs.declared.types.Way.{Way}
+use Rattle.re_settle.specs.declared.types.Way.TheVariants.{Closure, Cover, Cycle, Fixed, Flexible, Longest, Lower, Merge, Raised, Relaxed, Rounds, Shortest, Upper, Zero}
 
 -- ---- claims and classes
 module _ (problem : Problem) (is : IsProblem problem) where
@@ -78,6 +86,13 @@ module _ (problem : Problem) (is : IsProblem problem) where
       go false none true two = below_log problem set l is flexible
       go false none false none' = below_log problem set l is flexible
 
+-- what levels tell besides
+abbrev linear_ahead : Further
+linear_ahead = further.Linear
+
+abbrev nothing_ahead : Further
+nothing_ahead = further.Nothing
+
 -- ---- one level of labels
 -- the first of two levels, and the second
 abbrev level_of : List ℕ → List ℕ → ℕ → List ℕ
@@ -106,108 +121,133 @@ linear problem is (least, length, none) =
     let (x, first) = levels.some 0 (omega arith) in
     (above_linear problem is (λ two. length.greatest (two_levels problem two)), below_linear problem (level 0) x is (levels.trimmed 0 (omega arith)) first)
 
--- so no number of rounds is enough with port numbers alone
-never_linear : (problem : Problem) → IsProblem problem → IsAboveLinear problem → Holds Never problem
-never_linear problem is above S solvable =
-    let few : IsConstantOnForests problem = (constant_forests problem is).1 (S, solvable) in
-    (apart problem).2 ((weaker problem).1 ((weaker problem).0 few)) above
-
 -- ---- what is found
 -- what no number of rounds solves with port numbers alone
-never_found : (problem : NamedProblem) → IsProblem (unnamed problem) → Holds Never (unnamed problem) → IsAboveLogStar (unnamed problem) × IsMoreThanConstant (unnamed problem)
-never_found problem is never = (above_log_star (unnamed problem) is never, claim_local (unnamed problem) is Never never)
+never_local : (problem : NamedProblem) → IsProblem (unnamed problem) → Holds Never (unnamed problem) → IsAboveLogStar (unnamed problem) × IsMoreThanConstant (unnamed problem)
+never_local problem is never = (above_log_star (unnamed problem) is never, claim_local (unnamed problem) is Never never)
 
 unsolvable_found : (times : ℕ) (problem : NamedProblem) → IsProblem (unnamed problem) → IsFlexibility (unnamed problem) NoSolution → IsFound times problem settled.Unsolvable
 unsolvable_found times problem is none =
     let never : Holds Never (unnamed problem) = λ T. nothing_left (unnamed problem) T is none in
-    record { shown = none; holds = never; class = never_found problem is never }
+    record { shown = none; holds = never; class = never_local problem is never; counted = never_counts problem is never }
 
-linear_found : (times : ℕ) (problem : NamedProblem) → IsProblem (unnamed problem) → IsFlexibility (unnamed problem) (Length 1) → IsFound times problem settled.Linear
-linear_found times problem is one =
-    let never : Holds Never (unnamed problem) = never_linear (unnamed problem) is (linear (unnamed problem) is one).0 in
-    record { shown = one; holds = never; class = never_found problem is never }
+-- one level alone
+linear_further : (times : ℕ) (problem : NamedProblem) → IsProblem (unnamed problem) → IsFound times problem (settled.Never Flexible) → IsFlexibility (unnamed problem) (Length 1)
+    → IsFoundFurther times problem (settled.Never Flexible) further.Linear
+linear_further times problem is found one = record { shown = one; class = never_local problem is found.holds }
+
+-- a bound below of local algorithms is one on forests, but for a number of rounds
+never_on_forests : (problem : Problem) (way : Way) → IsProblem problem → LeastHolds (least_of way) problem → LeastOnForests (least_of way) problem
+never_on_forests problem (Cover nodes) is low = (above_forests problem is).0 low
+never_on_forests problem Zero is low = (above_forests problem is).1 low
+never_on_forests problem Flexible is low = (above_forests problem is).1 low
+never_on_forests problem (Lower steps merges) is low = (above_forests problem is).1 low
+never_on_forests problem (Upper steps drops) is low = (above_forests problem is).1 low
+never_on_forests problem (Fixed steps merges) is low = (above_forests problem is).1 low
+never_on_forests problem (Closure steps) is low = (above_forests problem is).1 low
+never_on_forests problem (Raised first second) is low = (above_forests problem is).1 low
+never_on_forests problem (Merge from to) is low = (above_forests problem is).1 low
+never_on_forests problem (Cycle steps merges nodes) is low = (above_forests problem is).1 low
+never_on_forests problem (Relaxed nodes) is low = (above_forests problem is).1 low
+never_on_forests problem (Rounds most) is low = (above_forests problem is).1 low
+never_on_forests problem (Longest steps labels) is low = (above_forests problem is).1 low
+never_on_forests problem (Shortest steps labels) is low = (above_forests problem is).1 low
+
+-- two bounds without one above say what the one below says
+least_back : (problem : Problem) (least : Least) → ClassHolds (bounded_class least None) problem → LeastHolds least problem
+least_back problem (least.MoreThan k) holds = holds
+least_back problem least.LogStar holds = holds
+least_back problem least.Log holds = holds
+
+-- what no number of rounds solves
+never_class_on_forests : (times : ℕ) (problem : NamedProblem) (way : Way) (further : Further) (above : Option Most) → IsProblem (unnamed problem)
+    → IsFoundFurther times problem (settled.Never way) further → MayBeBelow above (unnamed problem) → ClassOnForests (never_class way further above) (unnamed problem)
+never_class_on_forests times problem way further.Nothing above is found high =
+    bounded (unnamed problem) is (least_of way) above (never_on_forests (unnamed problem) way is (least_back (unnamed problem) (least_of way) found.class)) high
+never_class_on_forests times problem way further.Linear above is found high = linear (unnamed problem) is found.shown
+never_class_on_forests times problem way (further.FewColours coloured) above is found high =
+    ((above_forests (unnamed problem) is).0 found.class.0, below_forests (unnamed problem) is found.class.1)
+never_class_on_forests times problem way further.Greedy above is found high =
+    ((above_forests (unnamed problem) is).0 found.class.0, below_forests (unnamed problem) is found.class.1)
+never_class_on_forests times problem way (further.FixedPoint later) above is found high =
+    bounded (unnamed problem) is least.Log above ((above_forests (unnamed problem) is).1 found.class) high
 
 -- the class on forests
-class_on_forests : (times : ℕ) (problem : NamedProblem) (settled : Settled) (above : Option Most) → IsProblem (unnamed problem) → IsFound times problem settled
-    → MayBeBelow above (unnamed problem) → ClassOnForests (class_of settled above) (unnamed problem)
-class_on_forests times problem settled.Unsolvable above is found high = no_solution (unnamed problem) is found.shown
-class_on_forests times problem settled.Linear above is found high = linear (unnamed problem) is found.shown
-class_on_forests times problem settled.AtOnce above is found high = constant_on_forests (unnamed problem) is (Exactly 0) found.holds found.class
-class_on_forests times problem (settled.Exactly shown) above is found high = constant_on_forests (unnamed problem) is (Exactly shown.rounds) found.holds found.class
-class_on_forests times problem (settled.FixedPoint way) above is found high =
-    bounded (unnamed problem) is least.Log above ((above_forests (unnamed problem) is).1 found.class) high
-class_on_forests times problem (settled.Excluded way None) above is found high =
-    bounded (unnamed problem) is least.LogStar above ((above_forests (unnamed problem) is).0 found.class) high
-class_on_forests times problem (settled.Excluded way (Some coloured)) above is found high =
-    ((above_forests (unnamed problem) is).0 found.class.0, below_forests (unnamed problem) is found.class.1)
-class_on_forests times problem (settled.Within more None) above is found high =
+class_on_forests : (times : ℕ) (problem : NamedProblem) (settled : Settled) (further : Further) (above : Option Most) → IsProblem (unnamed problem) → IsFound times problem settled
+    → IsFoundFurther times problem settled further → MayBeBelow above (unnamed problem) → ClassOnForests (class_of settled further above) (unnamed problem)
+class_on_forests times problem settled.Unsolvable further above is found besides high = no_solution (unnamed problem) is found.shown
+class_on_forests times problem (settled.Exactly shown) further above is found besides high = constant_on_forests (unnamed problem) is (Exactly shown.rounds) found.holds found.class
+class_on_forests times problem (settled.Never way) further above is found besides high = never_class_on_forests times problem way further above is besides high
+class_on_forests times problem (settled.Within more None) further above is found besides high =
     bounded (unnamed problem) is (least.MoreThan more.rounds) above (claim_on_forests (unnamed problem) is (MoreThan more.rounds) found.holds found.class) high
-class_on_forests times problem (settled.Within more (Some most)) above is found high =
+class_on_forests times problem (settled.Within more (Some most)) further above is found besides high =
     constant_on_forests (unnamed problem) is (within more.rounds most.rounds) found.holds found.class
 
 -- ---- what is known
-abbrev linear_ahead : Settled
-linear_ahead = settled.Linear
-
 pub unsolvable_settled : (times : ℕ) (problem : NamedProblem) → IsProblem (unnamed problem) → IsFlexibility (unnamed problem) NoSolution
-    → IsSettled times problem (record { settled = settled.Unsolvable; above = None; length = None })
+    → IsSettled times problem (record { settled = settled.Unsolvable; further = further.Nothing; above = None; length = None })
 unsolvable_settled times problem is none =
     let found : IsFound times problem settled.Unsolvable = unsolvable_found times problem is none in
+    let besides = nothing_further times problem settled.Unsolvable found in
     record {
       found = found;
-      forests = class_on_forests times problem settled.Unsolvable None is found tt;
+      besides = besides;
+      forests = class_on_forests times problem settled.Unsolvable further.Nothing None is found besides tt;
       flexibility = NoSolution;
       decided = none;
       ahead = refl;
+      further_ahead = refl;
       above = refl;
       length = refl;
+      at_once = zero_claimed problem settled.Unsolvable found.holds;
     }
 
-one-level : (problem : Problem) (count : ℕ) → IsFlexibility problem (Length count) → count < 2 → IsFlexibility problem (Length 1)
-one-level problem count (least, length, none) few =
-    let one : count ≡ 1 = omega (arith, least, few) in subst (λ k. IsFlexibility problem (Length k)) one (least, length, none)
+-- where no set is flexible
+module _ (gap : NotFlexibleLaw) (views : AboveLogOnViewsLaw) (times : ℕ) (problem : NamedProblem) (count : ℕ) (is : IsProblem (unnamed problem)) (counted : IsFlexibility (unnamed problem) (Length count)) where
+  not_flexible_found : IsFound times problem (settled.Never Flexible)
+  not_flexible_found = fixed_found times problem Flexible is (flexible_known gap views times problem count is counted)
 
-pub linear_settled : (times : ℕ) (problem : NamedProblem) (count : ℕ) → IsProblem (unnamed problem) → IsFlexibility (unnamed problem) (Length count) → count < 2
-    → IsSettled times problem (record { settled = settled.Linear; above = None; length = None })
-linear_settled times problem count is counted few =
-    let one : IsFlexibility (unnamed problem) (Length 1) = one-level (unnamed problem) count counted few in
-    let found : IsFound times problem settled.Linear = linear_found times problem is one in
-    record {
-      found = found;
-      forests = class_on_forests times problem settled.Linear None is found tt;
-      flexibility = Length 1;
-      decided = one;
-      ahead = refl;
-      above = refl;
-      length = refl;
-    }
+  levelled_with : (more : Further) (length : Option ℕ) → IsFoundFurther times problem (settled.Never Flexible) more → more ≡ (if count == 1 then linear_ahead else nothing_ahead)
+      → length ≡ length_of (unnamed problem) (Length count) → IsSettled times problem (record { settled = settled.Never Flexible; further = more; above = None; length = length })
+  levelled_with more length besides ahead length_is = record {
+    found = not_flexible_found;
+    besides = besides;
+    forests = class_on_forests times problem (settled.Never Flexible) more None is not_flexible_found besides tt;
+    flexibility = Length count;
+    decided = counted;
+    ahead = refl;
+    further_ahead = ahead;
+    above = refl;
+    length = length_is;
+    at_once = zero_claimed problem (settled.Never Flexible) not_flexible_found.holds;
+  }
 
-pub levelled_settled : (times : ℕ) (problem : NamedProblem) (settled : Settled) (length : Option ℕ) (count : ℕ) → IsProblem (unnamed problem)
-    → IsFlexibility (unnamed problem) (Length count) → 2 ≤ count → IsFound times problem settled → length ≡ length_of (unnamed problem) (Length count)
-    → IsSettled times problem (record { settled = settled; above = None; length = length })
-levelled_settled times problem settled length count is counted several found length_is =
-    let more : (count == 1) ≡ false = eqb-apart count 1 (λ one. omega (arith, one, several)) in
-    record {
-      found = found;
-      forests = class_on_forests times problem settled None is found tt;
-      flexibility = Length count;
-      decided = counted;
-      ahead = subst (λ b. IfSome (if b then Some linear_ahead else None) (λ ahead. settled ≡ ahead)) (sym more) tt;
-      above = refl;
-      length = length_is;
-    }
+  pub one_level_settled : (length : Option ℕ) → count ≡ 1 → length ≡ length_of (unnamed problem) (Length count)
+      → IsSettled times problem (record { settled = settled.Never Flexible; further = further.Linear; above = None; length = length })
+  one_level_settled length one length_is =
+      levelled_with further.Linear length (linear_further times problem is not_flexible_found (subst (λ k. IsFlexibility (unnamed problem) (Length k)) one counted))
+      (ap (λ (b : Bool). if b then linear_ahead else nothing_ahead) (sym (eq-eqb count 1 one))) length_is
 
-pub flexible_settled : (times : ℕ) (problem : NamedProblem) (settled : Settled) (most : Most) (set : List ℕ) → IsProblem (unnamed problem)
-    → IsFlexibility (unnamed problem) (Flexible set) → IsFound times problem settled → most ≡ most_of (unnamed problem)
-    → IsSettled times problem (record { settled = settled; above = Some most; length = None })
-flexible_settled times problem settled most set is flexible found most_is =
+  pub levels_settled : (length : Option ℕ) → (count ≡ 1 → ⊥) → length ≡ length_of (unnamed problem) (Length count)
+      → IsSettled times problem (record { settled = settled.Never Flexible; further = further.Nothing; above = None; length = length })
+  levels_settled length more length_is =
+      levelled_with further.Nothing length (nothing_further times problem (settled.Never Flexible) not_flexible_found)
+      (ap (λ (b : Bool). if b then linear_ahead else nothing_ahead) (sym (eqb-apart count 1 more))) length_is
+
+pub flexible_settled : (times : ℕ) (problem : NamedProblem) (settled : Settled) (further : Further) (most : Most) (set : List ℕ) → IsProblem (unnamed problem)
+    → IsFlexibility (unnamed problem) (flexibility.Flexible set) → IsFound times problem settled → IsFoundFurther times problem settled further → most ≡ most_of (unnamed problem)
+    → IsSettled times problem (record { settled = settled; further = further; above = Some most; length = None })
+flexible_settled times problem settled further most set is flexible found besides most_is =
     let high : MostOnForests most (unnamed problem) = subst (λ m. MostOnForests m (unnamed problem)) (sym most_is) (flexible_below (unnamed problem) is set flexible.flexible) in
     record {
       found = found;
-      forests = class_on_forests times problem settled (Some most) is found high;
-      flexibility = Flexible set;
+      besides = besides;
+      forests = class_on_forests times problem settled further (Some most) is found besides high;
+      flexibility = flexibility.Flexible set;
       decided = flexible;
       ahead = tt;
+      further_ahead = tt;
       above = ap Some most_is;
       length = refl;
+      at_once = zero_claimed problem settled found.holds;
     }

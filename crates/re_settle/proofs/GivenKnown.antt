@@ -30,18 +30,18 @@ use Rattle.re_settle.specs.declared.types.Shown.{Shown}
 use Rattle.re_settle.specs.declared.types.Way.{Way}
 use Rattle.re_settle.specs.declared.types.Way.TheVariants.{Closure, Cycle, Longest, Rounds, Shortest}
 use Rattle.re_settle.specs.GivenAnswers.{IsUntold}
-use Rattle.re_settle.specs.GivenClaims.{HoldsGiven}
+use Rattle.re_settle.specs.Claims.{HoldsGiven}
 use Rattle.re_settle.specs.GivenWays.{HasGivenText, IsKnownGiven}
 use Rattle.re_walks.specs.Walking.{cut}
 
 -- ---- what is counted
 -- it says what it means
 count-holds : (problem input : NamedProblem) (counts : Counted) (claim : Claim) → CountMeans (unnamed problem) (Some (unnamed input)) counts → SaysCounted counts claim
-    → HoldsGiven claim (unnamed problem) (unnamed input)
-count-holds problem input (counted.Exactly rounds) claim means says = subst (λ c. HoldsGiven c (unnamed problem) (unnamed input)) (sym says) means
-count-holds problem input (counted.MoreThan rounds) claim means says = subst (λ c. HoldsGiven c (unnamed problem) (unnamed input)) (sym says) means
-count-holds problem input (counted.Passed rounds limit) claim means says = subst (λ c. HoldsGiven c (unnamed problem) (unnamed input)) (sym says) means
-count-holds problem input (counted.Stopped rounds steps limit) claim means says = subst (λ c. HoldsGiven c (unnamed problem) (unnamed input)) (sym says) means
+    → HoldsGiven claim (unnamed problem) input
+count-holds problem input (counted.Exactly rounds) claim means says = subst (λ c. HoldsGiven c (unnamed problem) input) (sym says) means
+count-holds problem input (counted.MoreThan rounds) claim means says = subst (λ c. HoldsGiven c (unnamed problem) input) (sym says) means
+count-holds problem input (counted.Passed rounds limit) claim means says = subst (λ c. HoldsGiven c (unnamed problem) input) (sym says) means
+count-holds problem input (counted.Stopped rounds steps limit) claim means says = subst (λ c. HoldsGiven c (unnamed problem) input) (sym says) means
 count-holds problem input (counted.Tried rounds) claim means says = absurd says
 
 pub count_known : (times : ℕ) (problem input : NamedProblem) (most : ℕ) (counts : Counted) (claim : Claim) → IsProblem (unnamed problem) → IsInput (unnamed problem) (unnamed input) → most ≤ 8
@@ -95,7 +95,7 @@ untold_says problem input chain outcome none start untold e = record {
 -- ---- fixed points
 -- what `given` accepts as one
 fixed_means : (problem input : NamedProblem) (bound : Bound) → bound.kind ≡ kind.Fixed → bound.first ≡ problem → MeansGiven bound.kind (length bound.steps) (unnamed bound.first) (unnamed input)
-    → HoldsGiven Never (unnamed problem) (unnamed input)
+    → HoldsGiven Never (unnamed problem) input
 fixed_means problem input bound fixed first means =
     subst (λ (p : NamedProblem). MeansGiven kind.Fixed (length bound.steps) (unnamed p) (unnamed input)) first
     (subst (λ (k : Kind). MeansGiven k (length bound.steps) (unnamed bound.first) (unnamed input)) fixed means)

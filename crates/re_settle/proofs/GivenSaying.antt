@@ -19,7 +19,7 @@ either_says false text = refl
 
 known_says : (times : ℕ) (problem input : NamedProblem) (outcome : Outcome) → (IsGivenAnswer times problem input outcome ⊎ IsUntold problem input outcome) → MaySay outcome.status true
 known_says times problem input outcome (inl may) =
-    says_as outcome _ may.lines (either_says (is_final (claim_given may.settled)) (settled_given_text problem.names problem.passive.degree may.settled))
+    says_as outcome _ may.lines (either_says (is_final (claim_given may.settled)) (settled_given_text problem may.settled))
 known_says times problem input outcome (inr may) = says_as outcome _ may.line tt
 
 beside_says : (fault : Option Fault) (times : ℕ) (problem input : NamedProblem) (outcome : Outcome) → MayGiveBeside fault times problem input outcome → MaySay outcome.status true

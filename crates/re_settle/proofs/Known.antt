@@ -17,15 +17,14 @@ use Rattle.re_given_words.specs.Counting.{CountMeans, MayTell}
 use Rattle.re_given_words.specs.declared.counting.Counted.{Counted}
 use Rattle.re_given_words.specs.declared.counting.Counted.TheVariants as counted
 use Rattle.re_labels.specs.declared.TheConstants.{MAX_LABELS}
-use Rattle.re_longest.specs.Answers as longest
-use Rattle.re_shortest.specs.Answers.{AnswersAt}
-use Rattle.re_longest.specs.declared.finding.Longest.TheVariants as longest_answer
+use Rattle.re_given_words.specs.declared.setting.Setting.TheVariants as setting
+use Rattle.re_shortest.specs.Answers as shortest
 use Rattle.re_shortest.specs.declared.shortening.Shortest.TheVariants as shortest_answer
 use Rattle.re_laws.proofs.ZeroRounds.{Solvable-zero}
 use Rattle.re_laws.specs.Algorithms.{Solvable}
 use Rattle.re_problem.proofs.ZeroPlaces.{no-place}
 use Rattle.re_problem.specs.NamedProblems.{NamedProblem, unnamed}
-use Rattle.re_problem.specs.Problems.{IsProblem}
+use Rattle.re_problem.specs.Problems.{IsProblem, Problem}
 use Rattle.re_problem.specs.Zero.{zero_place}
 use Rattle.re_relaxed.specs.Answers as relaxed
 use Rattle.re_relaxed.specs.declared.types.Relaxed.TheVariants as relaxed_answer
@@ -33,12 +32,19 @@ use Rattle.re_search.specs.Searches.{Answers, FindsTrue, FindsValid}
 use Rattle.re_search.specs.declared.types.Search.{Search}
 use Rattle.re_search.specs.declared.types.Search.TheVariants.{Found}
 use Rattle.re_classes.specs.Classes.{IsAboveLog}
+use Rattle.re_flexible.specs.Lengths.{IsFlexibility}
+use Rattle.re_flexible.specs.declared.levels.Flexibility.TheVariants.{Length}
+use Rattle.re_forests.proofs.ApartForests.{apart}
+use Rattle.re_forests.proofs.BoundsBelow.{constant_forests}
+use Rattle.re_forests.proofs.WeakerForests.{weaker}
+use Rattle.re_forests.specs.Classes.{IsAboveLogOnForests}
+use Rattle.re_gap.specs.Laws.{AboveLogOnViewsLaw, NotFlexibleLaw}
 use Rattle.re_settle.proofs.Fixed.{above_log_on, found_first}
 use Rattle.re_settle.specs.Claims.{Holds}
 use Rattle.re_settle.specs.Ways.{ClosesBehind, HasText, IsFixedPoint, IsKnown, IsTried, SaysCounted, ShowsZero}
 use Rattle.re_settle.specs.declared.types.Claim.{Claim}
 use Rattle.re_settle.specs.declared.types.Claim.TheVariants.{AtMost, MoreThan, Never}
-use Rattle.re_settle.specs.declared.types.Way.TheVariants.{Closure, Cycle, Fixed, Longest, Lower, Merge, Raised, Relaxed, Rounds, Shortest, Upper, Zero}
+use Rattle.re_settle.specs.declared.types.Way.TheVariants.{Closure, Cycle, Fixed, Flexible, Longest, Lower, Merge, Raised, Relaxed, Rounds, Shortest, Upper, Zero}
 
 -- ---- searches of `re`
 pub lower_known : (times : ℕ) (problem : NamedProblem) (steps rounds : ℕ) (search : Search) (bound : Bound) → search ≡ Found bound → steps ≤ 8
@@ -104,7 +110,7 @@ fixed_known times problem search bound is fits over answers valid told text =
         shown = record { tried = (refl, refl); shows = (refl, (length bound.steps, record { bound = bound; finds = found; count = refl; text = text })) };
         holds = subst (λ s. FindsTrue kind.Fixed problem (Ok s)) is told;
       };
-      finds = tt;
+      finds = refl;
       above = above_log_on problem bound fits over (found_first kind.Fixed 4 0 problem bound found) (subst (λ s. FindsValid kind.Fixed (Ok s)) is valid);
     }
 
@@ -130,7 +136,7 @@ pub closure_known : (times : ℕ) (problem : NamedProblem) (chain : Bound) (step
 closure_known times problem chain steps start few closes =
     let on : ClosesBehind steps (problem_chain problem) = subst (ClosesBehind steps) start closes in
     let never = never_behind steps problem (problem_chain problem) refl on in
-    record { known = record { shown = record { tried = few; shows = (refl, on) }; holds = never.holds }; finds = tt; above = never.above }
+    record { known = record { shown = record { tried = few; shows = (refl, on) }; holds = never.holds }; finds = refl; above = never.above }
 
 -- one derived problem more
 pub closes_later : (chain next : Bound) (steps : ℕ) (sets : List (List ℕ)) → IsSolvableBy (last_problem chain) sets → stepping_fault chain ≡ None → next ≡ stepped chain → ClosesBehind steps next
@@ -148,7 +154,7 @@ raised_known times problem chain bound low high start is_low is_high closed text
         shown = record { tried = tt; shows = (refl, record { is_low = is_low; is_high = is_high; bound = bound; closed = on; text = text }) };
         holds = on.goes_on.means;
       };
-      finds = tt;
+      finds = refl;
       above = above;
     }
 
@@ -163,45 +169,56 @@ merge_known times problem chain bound from to is may within shown closed text =
         shown = record { tried = tt; shows = (refl, record { may = may; within = within; chain = subst HasText is shown; bound = bound; closed = on; text = text }) };
         holds = never.holds;
       };
-      finds = tt;
+      finds = refl;
       above = never.above;
     }
 
 pub cycle_known : (times nodes : ℕ) (problem : NamedProblem) (chain bound : Bound) → nodes ≡ 300 * times → chain ≡ problem_chain problem
-    → cycle.Answers 8 chain (cycle_answer.Found bound) → HasText bound → IsFixedPoint times problem (Cycle 8 1 nodes)
+    → cycle.Answers setting.Alone 8 chain (cycle_answer.Found bound) → HasText bound → IsFixedPoint times problem (Cycle 8 1 nodes)
 cycle_known times nodes problem chain bound many start answers text =
-    let on : cycle.Answers 8 (problem_chain problem) (cycle_answer.Found bound) = subst (λ c. cycle.Answers 8 c (cycle_answer.Found bound)) start answers in
-    let never = never_on 8 problem (problem_chain problem) bound refl on.1 in
-    record { known = record { shown = record { tried = (refl, refl, many); shows = (refl, (bound, on, text)) }; holds = never.holds }; finds = tt; above = never.above }
+    let on : cycle.Answers setting.Alone 8 (problem_chain problem) (cycle_answer.Found bound) = subst (λ c. cycle.Answers setting.Alone 8 c (cycle_answer.Found bound)) start answers in
+    let never = never_on 8 problem (problem_chain problem) bound refl on in
+    record { known = record { shown = record { tried = (refl, refl, many); shows = (refl, (bound, on, text)) }; holds = never.holds }; finds = refl; above = never.above }
 
 pub relaxed_known : (times nodes : ℕ) (problem : NamedProblem) (chain bound : Bound) → IsTried times problem (Relaxed nodes) → chain ≡ problem_chain problem
     → relaxed.Answers chain (relaxed_answer.Found bound) → HasText bound → IsFixedPoint times problem (Relaxed nodes)
 relaxed_known times nodes problem chain bound tried start answers text =
     let on : relaxed.Answers (problem_chain problem) (relaxed_answer.Found bound) = subst (λ c. relaxed.Answers c (relaxed_answer.Found bound)) start answers in
     let never = never_on MAX_STEPS problem (problem_chain problem) bound refl on.1 in
-    record { known = record { shown = record { tried = tried; shows = (refl, (bound, on, text)) }; holds = never.holds }; finds = tt; above = never.above }
+    record { known = record { shown = record { tried = tried; shows = (refl, (bound, on, text)) }; holds = never.holds }; finds = refl; above = never.above }
 
 -- ---- bounds that go on from the problem
 pub longest_known : (times : ℕ) (problem : NamedProblem) (chain bound : Bound) (steps labels rounds : ℕ) → IsTried times problem (Longest steps labels) → chain ≡ problem_chain problem
-    → longest.Answers steps labels chain (longest_answer.Found bound) → HasText bound → rounds ≡ length bound.steps → IsKnown times problem (MoreThan rounds) (Longest steps labels)
+    → GoesOn kind.Lower steps labels chain bound → HasText bound → rounds ≡ length bound.steps → IsKnown times problem (MoreThan rounds) (Longest steps labels)
 longest_known times problem chain bound steps labels rounds tried start answers text count =
-    let on : longest.Answers steps labels (problem_chain problem) (longest_answer.Found bound) = subst (λ c. longest.Answers steps labels c (longest_answer.Found bound)) start answers in
+    let on : GoesOn kind.Lower steps labels (problem_chain problem) bound = subst (λ (c : Bound). GoesOn kind.Lower steps labels c bound) start answers in
     subst (λ k. IsKnown times problem (MoreThan k) (Longest steps labels)) (sym count)
-    (record { shown = record { tried = tried; shows = (bound, refl, on, text) }; holds = on.1.means })
-
--- what a search for an upper bound finds is one
-upper-means : (place : Option ℕ) (steps labels : ℕ) (problem : NamedProblem) (bound : Bound) → AnswersAt place steps labels (chain_with kind.Upper problem []) (shortest_answer.Found bound)
-    → Holds (AtMost (length bound.steps)) (unnamed problem)
-upper-means (Some place) steps labels problem bound answers = answers.1.means
-upper-means None steps labels problem bound answers = answers.means
+    (record { shown = record { tried = tried; shows = (bound, refl, on, text) }; holds = on.means })
 
 pub shortest_known : (times : ℕ) (problem : NamedProblem) (chain bound : Bound) (steps labels rounds : ℕ) → IsTried times problem (Shortest steps labels)
-    → chain ≡ chain_with kind.Upper problem [] → AnswersAt (zero_place (unnamed (last_problem chain))) steps labels chain (shortest_answer.Found bound) → HasText bound
+    → chain ≡ chain_with kind.Upper problem [] → shortest.Answers setting.Alone steps labels chain (shortest_answer.Found bound) → HasText bound
     → rounds ≡ length bound.steps → IsKnown times problem (AtMost rounds) (Shortest steps labels)
 shortest_known times problem chain bound steps labels rounds tried start answers text count =
-    let on : AnswersAt (zero_place (unnamed problem)) steps labels (chain_with kind.Upper problem []) (shortest_answer.Found bound) =
-    subst (λ (c : Bound). AnswersAt (zero_place (unnamed (last_problem c))) steps labels c (shortest_answer.Found bound)) start answers in
+    let on : shortest.Answers setting.Alone steps labels (chain_with kind.Upper problem []) (shortest_answer.Found bound) =
+    subst (λ (c : Bound). shortest.Answers setting.Alone steps labels c (shortest_answer.Found bound)) start answers in
     subst (λ k. IsKnown times problem (AtMost k) (Shortest steps labels)) (sym count) (record {
       shown = record { tried = tried; shows = (bound, refl, on, text) };
-      holds = upper-means (zero_place (unnamed problem)) steps labels problem bound on;
+      holds = on.may.means;
     })
+
+-- ---- flexible sets
+-- where no set is flexible the order of log N is a bound below, and no number of rounds is enough with port numbers alone
+pub above_not_flexible : NotFlexibleLaw → (problem : Problem) (count : ℕ) → IsProblem problem → IsFlexibility problem (Length count) → IsAboveLogOnForests problem
+above_not_flexible gap problem count is (least, length, none) = gap problem is (λ (set, l, flexible). none set (l, flexible))
+
+pub flexible_known : NotFlexibleLaw → AboveLogOnViewsLaw → (times : ℕ) (problem : NamedProblem) (count : ℕ) → IsProblem (unnamed problem) → IsFlexibility (unnamed problem) (Length count) → IsFixedPoint times problem Flexible
+flexible_known gap views times problem count is counted =
+    let above : IsAboveLogOnForests (unnamed problem) = above_not_flexible gap (unnamed problem) count is counted in
+    record {
+      known = record {
+        shown = record { tried = tt; shows = (refl, (count, counted)) };
+        holds = λ S solvable. (apart (unnamed problem)).1 ((weaker (unnamed problem)).0 ((constant_forests (unnamed problem) is).1 (S, solvable))) above;
+      };
+      finds = refl;
+      above = views (unnamed problem) is above;
+    }

@@ -1,3 +1,4 @@
+mod Counts
 mod Fixed
 mod Forests
 mod GivenKnown
@@ -6,5 +7,6 @@ mod GivenTogether
 mod Graphs
 mod Known
 mod Local
+mod LostLabels
 mod Saying
 mod Together

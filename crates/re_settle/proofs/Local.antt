@@ -1,6 +1,8 @@
 -- What is known of a problem, said of local algorithms.
 use Rattle.std.proofs.Common.{◌≡◌, ℕ, Bool, ◌≤◌, true, [], length, ap, refl, ◌∙◌, sym, subst, arith, Option, None, Some}
 use Rattle.std.specs.Prelude.{if◌then◌else◌}
+use Rattle.re_forest_words.specs.Showings.{IsShown as IsGreedyShown, ShownLaw}
+use Rattle.re_forest_words.specs.declared.showing.Shown.{Shown as GreedyShown}
 use Rattle.re_cert.specs.Bounds.{Bound}
 use Rattle.re_cert.specs.declared.certificate.Kind.TheVariants.{Upper}
 use Rattle.re_chains.specs.Chains.{chain_with}
@@ -26,16 +28,22 @@ use Rattle.re_problem.specs.NamedProblems.{NamedProblem, unnamed}
 use Rattle.re_problem.specs.Problems.{IsProblem, Problem}
 use Rattle.re_local.specs.SeparatingLaws.{IsBeyondLocal}
 use Rattle.re_settle.specs.Claims.{Holds}
-use Rattle.re_settle.specs.Classes.{ClassHolds, HoldsLocal, SolvableByAny, class_of, few_colours}
+use Rattle.re_settle.proofs.Counts.{never_counts}
+use Rattle.re_settle.specs.Classes.{ClassHolds, HoldsLocal, LeastHolds, SolvableByAny, bounded_class, few_colours, least_of}
 use Rattle.re_settle.specs.Coloured.{IsColoured, IsColouringOf, IsSolvableGivenFew, IsTriedGiven, colours_of, input_kind}
-use Rattle.re_settle.specs.Ways.{IsExcluded, IsFixedPoint, IsFound, IsKnown, MayBeColoured}
+use Rattle.re_settle.specs.Ways.{IsFixedPoint, IsFound, IsFoundFurther, IsKnown, IsNever}
 use Rattle.re_settle.specs.declared.types.Claim.{Claim}
 use Rattle.re_settle.specs.declared.types.Claim.TheVariants.{AtMost, Between, Exactly, MoreThan, Never}
 use Rattle.re_settle.specs.declared.types.Class.TheVariants as class
 use Rattle.re_settle.specs.declared.types.Coloured.{Coloured}
+use Rattle.re_settle.specs.declared.types.Further.TheVariants as further
+use Rattle.re_settle.specs.declared.types.Least.{Least}
+use Rattle.re_settle.specs.declared.types.Least.TheVariants as least
+use Rattle.re_settle.specs.declared.types.Settled.{Settled}
 use Rattle.re_settle.specs.declared.types.ColouredWay.TheVariants.{Rounds, Shortest}
 use Rattle.re_settle.specs.declared.types.Settled.TheVariants as settled
 use Rattle.re_settle.specs.declared.types.Way.{Way}
+use Rattle.re_settle.specs.declared.types.Way.TheVariants.{Cover}
 use Rattle.re_chains.specs.GivenTexts.{IsGivenText, given_text}
 
 -- ---- constantly many rounds
@@ -133,19 +141,43 @@ few_order Active problem is never solvable = order_log_star problem is never sol
 few_order Passive problem is never solvable = order_edge_coloured problem is never solvable
 
 -- ---- what no number of rounds solves
-pub fixed_settled : (times : ℕ) (problem : NamedProblem) (way : Way) → IsFixedPoint times problem way → IsFound times problem (settled.FixedPoint way)
-fixed_settled times problem way fixed = record { shown = (fixed.known.shown, fixed.finds); holds = fixed.known.holds; class = fixed.above }
+-- two bounds without one above say what the one below says
+least_class : (problem : Problem) (least : Least) → LeastHolds least problem → ClassHolds (bounded_class least None) problem
+least_class problem (least.MoreThan k) holds = holds
+least_class problem least.LogStar holds = holds
+least_class problem least.Log holds = holds
 
-excluded_class : (times : ℕ) (problem : NamedProblem) (way : Way) (coloured : Option Coloured) → IsProblem (unnamed problem) → IsKnown times problem Never way → MayBeColoured times coloured problem
-    → ClassHolds (class_of (settled.Excluded way coloured) None) (unnamed problem)
-excluded_class times problem way None is known may = above_log_star (unnamed problem) is known.holds
-excluded_class times problem way (Some coloured) is known may = few_order coloured.side (unnamed problem) is known.holds may.solvable
+pub never_found : (times : ℕ) (problem : NamedProblem) (way : Way) → IsProblem (unnamed problem) → IsNever times problem way → IsFound times problem (settled.Never way)
+never_found times problem way is never = record {
+  shown = never.known.shown;
+  holds = never.known.holds;
+  class = least_class (unnamed problem) (least_of way) never.least;
+  counted = never_counts problem is never.known.holds;
+}
 
-pub excluded_settled : (times : ℕ) (problem : NamedProblem) (way : Way) (coloured : Option Coloured) → IsProblem (unnamed problem) → IsExcluded times problem way
-    → MayBeColoured times coloured problem → IsFound times problem (settled.Excluded way coloured)
-excluded_settled times problem way coloured is excluded may =
-    record {
-      shown = (excluded.known.shown, excluded.finds, may);
-      holds = excluded.known.holds;
-      class = excluded_class times problem way coloured is excluded.known may;
-    }
+pub fixed_never : (times : ℕ) (problem : NamedProblem) (way : Way) → IsFixedPoint times problem way → IsNever times problem way
+fixed_never times problem way fixed =
+    record { known = fixed.known; least = subst (λ (l : Least). LeastHolds l (unnamed problem)) (sym fixed.finds) fixed.above }
+
+pub fixed_found : (times : ℕ) (problem : NamedProblem) (way : Way) → IsProblem (unnamed problem) → IsFixedPoint times problem way → IsFound times problem (settled.Never way)
+fixed_found times problem way is fixed = never_found times problem way is (fixed_never times problem way fixed)
+
+-- a graph
+pub cover_never : (times : ℕ) (problem : NamedProblem) (nodes : ℕ) → IsProblem (unnamed problem) → IsKnown times problem Never (Cover nodes) → IsNever times problem (Cover nodes)
+cover_never times problem nodes is known = record { known = known; least = above_log_star (unnamed problem) is known.holds }
+
+-- ---- what is found of the class besides
+pub nothing_further : (times : ℕ) (problem : NamedProblem) (settled : Settled) → IsFound times problem settled → IsFoundFurther times problem settled further.Nothing
+nothing_further times problem settled found = record { shown = tt; class = found.class }
+
+pub coloured_further : (times : ℕ) (problem : NamedProblem) (way : Way) (coloured : Coloured) → IsProblem (unnamed problem) → IsFound times problem (settled.Never way)
+    → IsColoured times problem coloured → IsFoundFurther times problem (settled.Never way) (further.FewColours coloured)
+coloured_further times problem way coloured is found few = record { shown = few; class = few_order coloured.side (unnamed problem) is found.holds few.solvable }
+
+pub fixed_further : (times : ℕ) (problem : NamedProblem) (way later : Way) → IsFixedPoint times problem later
+    → IsFoundFurther times problem (settled.Never way) (further.FixedPoint later)
+fixed_further times problem way later fixed = record { shown = (fixed.known.shown, fixed.finds); class = fixed.above }
+
+pub greedy_further : ShownLaw → (times : ℕ) (problem : NamedProblem) (way : Way) (shown : GreedyShown) → IsProblem (unnamed problem) → IsFound times problem (settled.Never way)
+    → IsGreedyShown (unnamed problem) 2 shown → IsFoundFurther times problem (settled.Never way) further.Greedy
+greedy_further law times problem way shown is found by = record { shown = (shown, by); class = few_order Active (unnamed problem) is found.holds (law (unnamed problem) 2 shown is by).0 }

@@ -19,7 +19,7 @@ either_says false text = refl
 read_says : (times : ℕ) (fault : Option InputFault) (problem : NamedProblem) (outcome : Outcome) → MayGiveRead times fault problem outcome → MaySay outcome.status true
 read_says times (Some fault) problem outcome may = says_as outcome _ may (fault_says fault true)
 read_says times None problem outcome may =
-    says_as outcome _ may.lines (either_says (is_final (claim_of may.classified.settled)) (settled_text problem.names problem.passive.degree may.classified))
+    says_as outcome _ may.lines (either_says (is_final (claim_of may.classified.settled)) (settled_text problem may.classified))
 
 pub give_says : (word : SettleWord) (bytes : List ℕ) (outcome : Outcome) → MayGive word bytes outcome → MaySay outcome.status true
 unfolding MayGive

@@ -11,15 +11,15 @@ use Rattle.re_settle.specs.Ways.{IsSettled}
 use Rattle.re_settle.specs.declared.types.Classified.{Classified}
 use Rattle.re_settle.specs.declared.words.SettleWord.{SettleWord}
 
--- the lines of what is known of a problem with these names, whose passive nodes have this degree: Done where the claim leaves no question, and else No
-abbrev pub settled_outcome : List (List ℕ) → ℕ → Classified → Outcome
-settled_outcome names passive classified =
-    if is_final (claim_of classified.settled) then done (settled_text names passive classified) else refused (settled_text names passive classified)
+-- the lines of what is known of a problem: Done where the claim leaves no question, and else No
+abbrev pub settled_outcome : NamedProblem → Classified → Outcome
+settled_outcome problem classified =
+    if is_final (claim_of classified.settled) then done (settled_text problem classified) else refused (settled_text problem classified)
 
 -- the lines of something that is known of the problem, where bounds are taken so many times: shown by the words that they name, and true
 pub record IsAnswer (times : ℕ) (problem : NamedProblem) (outcome : Outcome) : Type 0 where
   pub classified : Classified
-  pub lines : outcome ≡ settled_outcome problem.names problem.passive.degree classified
+  pub lines : outcome ≡ settled_outcome problem classified
   pub known : IsSettled times problem classified
 
 -- the line of the first fault of the text, and else such an answer on its problem

@@ -7,6 +7,8 @@ use Rattle.re_local.specs.LocalAlgorithms.{SolvableLocal}
 use Rattle.re_problem.specs.Problems.{Problem}
 use Rattle.re_local.specs.SeparatingLaws.{IsBeyondLocal}
 use Rattle.re_settle.specs.Claims.{within}
+use Rattle.re_settle.specs.declared.types.Further.{Further}
+use Rattle.re_settle.specs.declared.types.Further.TheVariants as further
 use Rattle.re_settle.specs.declared.types.Claim.{Claim}
 use Rattle.re_settle.specs.declared.types.Claim.TheVariants.{AtMost, Between, Exactly, MoreThan, Never}
 use Rattle.re_settle.specs.declared.types.Class.{Class}
@@ -19,6 +21,8 @@ use Rattle.re_settle.specs.declared.types.Order.{Order}
 use Rattle.re_settle.specs.declared.types.Order.TheVariants as order
 use Rattle.re_settle.specs.declared.types.Settled.{Settled}
 use Rattle.re_settle.specs.declared.types.Settled.TheVariants as settled
+use Rattle.re_settle.specs.declared.types.Way.{Way}
+use Rattle.re_settle.specs.declared.types.Way.TheVariants.{Cover}
 
 -- some local algorithm of so many rounds solves the problem, however many identifiers there are
 abbrev pub SolvableByAny : Problem → ℕ → Type 0
@@ -61,17 +65,27 @@ bounded_class least.LogStar (Some most.Log) = class.Bounds least.LogStar (Some m
 bounded_class least.Log None = class.Bounds least.Log None
 bounded_class least.Log (Some most) = class.Order order.Log
 
+-- the bound below of what no number of rounds solves by these words: a graph shows that of log* N; a fixed point that of log N, and so does that no set of
+-- labels is flexible
+abbrev pub least_of : Way → Least
+least_of (Cover nodes) = least.LogStar
+least_of way = least.Log
+
+-- the class of what no number of rounds solves by these words, where so much is found besides
+abbrev pub never_class : Way → Further → Option Most → Class
+never_class way further.Nothing above = bounded_class (least_of way) above
+never_class way further.Linear above = class.Order order.Linear
+never_class way (further.FewColours coloured) above = class.Order order.LogStar
+never_class way further.Greedy above = class.Order order.LogStar
+never_class way (further.FixedPoint later) above = bounded_class least.Log above
+
 -- the class where so much is known, and at most so many rounds are enough on finite forests; without these it is the class of local algorithms
-abbrev pub class_of : Settled → Option Most → Class
-class_of settled.Unsolvable above = class.NoSolution
-class_of settled.Linear above = class.Order order.Linear
-class_of settled.AtOnce above = class.Constant (Exactly 0)
-class_of (settled.Exactly shown) above = class.Constant (Exactly shown.rounds)
-class_of (settled.FixedPoint way) above = bounded_class least.Log above
-class_of (settled.Excluded way None) above = bounded_class least.LogStar above
-class_of (settled.Excluded way (Some coloured)) above = class.Order order.LogStar
-class_of (settled.Within more None) above = bounded_class (least.MoreThan more.rounds) above
-class_of (settled.Within more (Some most)) above = class.Constant (within more.rounds most.rounds)
+abbrev pub class_of : Settled → Further → Option Most → Class
+class_of settled.Unsolvable further above = class.NoSolution
+class_of (settled.Exactly shown) further above = class.Constant (Exactly shown.rounds)
+class_of (settled.Never way) further above = never_class way further above
+class_of (settled.Within more None) further above = bounded_class (least.MoreThan more.rounds) above
+class_of (settled.Within more (Some most)) further above = class.Constant (within more.rounds most.rounds)
 
 -- one colour more than a node of a side meets others of it, where active nodes have degree a and passive ones p
 abbrev pub few_colours : Side → ℕ → ℕ → ℕ

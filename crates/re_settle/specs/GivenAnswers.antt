@@ -13,7 +13,9 @@ use Rattle.re_problem.specs.NamedProblems.{NamedProblem, unnamed}
 use Rattle.re_problem.specs.declared.fault.InputFault.{InputFault}
 use Rattle.re_settle.specs.Answers.{MayGive}
 use Rattle.re_settle.specs.Claims.{is_final}
-use Rattle.re_settle.specs.Lines.{claim_text, way_line}
+use Rattle.re_settle.specs.Lines.{claim_text, note_line, way_line}
+use Rattle.re_settle.specs.declared.types.Claim.{Claim}
+use Rattle.re_settle.specs.declared.types.Claim.TheVariants.{Never}
 use Rattle.re_settle.specs.declared.words.SettleWord.{SettleWord}
 use Rattle.re_settle.specs.GivenClaims.{claim_given}
 use Rattle.re_settle.specs.GivenWays.{IsSettledGiven}
@@ -37,20 +39,26 @@ given_lines names (settled.Beyond rounds shown None) = way_line names shown.way 
 given_lines names (settled.Beyond rounds shown (Some most)) = way_line names shown.way ++ (way_line names most.way ++ law_line rounds shown.rounds)
 given_lines names (settled.AtMost most) = way_line names most.way
 
--- the claim on a problem with these names, whose passive nodes have this degree, and those lines
-abbrev pub settled_given_text : List (List ℕ) → ℕ → SettledGiven → List ℕ
-settled_given_text names passive settled = claim_text passive (claim_given settled) ++ (codes " given that input\n" ++ given_lines names settled)
+-- what algorithms have besides, behind a claim: that input
+abbrev pub given_text_of : Claim → List ℕ
+given_text_of Never = codes "and that input alone\n"
+given_text_of claim = codes " given that input\n"
+
+-- the claim on a problem, those lines, and the labels that trimming takes away
+abbrev pub settled_given_text : NamedProblem → SettledGiven → List ℕ
+settled_given_text problem settled =
+    claim_text problem.passive.degree (claim_given settled) ++ (given_text_of (claim_given settled) ++ (given_lines problem.names settled ++ note_line problem))
 
 -- they come with Done where the claim leaves no question, and else with No
-abbrev pub settled_given_outcome : List (List ℕ) → ℕ → SettledGiven → Outcome
-settled_given_outcome names passive settled =
-    if is_final (claim_given settled) then done (settled_given_text names passive settled) else refused (settled_given_text names passive settled)
+abbrev pub settled_given_outcome : NamedProblem → SettledGiven → Outcome
+settled_given_outcome problem settled =
+    if is_final (claim_given settled) then done (settled_given_text problem settled) else refused (settled_given_text problem settled)
 
 -- ---- the answer to a problem and an input problem
 -- the lines of something that is known of the problem given the input problem, where bounds are taken so many times: shown by the words that they name, and true
 pub record IsGivenAnswer (times : ℕ) (problem input : NamedProblem) (outcome : Outcome) : Type 0 where
   pub settled : SettledGiven
-  pub lines : outcome ≡ settled_given_outcome problem.names problem.passive.degree settled
+  pub lines : outcome ≡ settled_given_outcome problem settled
   pub known : IsSettledGiven times problem input settled
 
 -- that the tries of the walk don't suffice to tell whether 0 rounds are enough

@@ -19,7 +19,8 @@ use Rattle.re_settle.specs.declared.types.Claim.TheVariants.{AtMost, Exactly, Mo
 use Rattle.re_settle.specs.declared.types.Shown.{Shown}
 use Rattle.re_settle.specs.declared.types.Way.{Way}
 use Rattle.re_settle.specs.declared.types.Way.TheVariants.{Closure, Cover, Cycle, Longest, Rounds, Shortest}
-use Rattle.re_settle.specs.GivenClaims.{HoldsGiven, claim_given}
+use Rattle.re_settle.specs.Claims.{HoldsGiven}
+use Rattle.re_settle.specs.GivenClaims.{claim_given}
 use Rattle.re_settle.specs.declared.given_types.SettledGiven.{SettledGiven}
 use Rattle.re_settle.specs.declared.given_types.SettledGiven.TheVariants as settled
 use Rattle.re_chains.specs.GivenTexts.{IsGivenText, given_text}
@@ -71,7 +72,7 @@ pub record IsShownGiven (times : ℕ) (problem input : NamedProblem) (claim : Cl
 -- so they do, and it is true
 pub record IsKnownGiven (times : ℕ) (problem input : NamedProblem) (claim : Claim) (way : Way) : Type 0 where
   pub shown : IsShownGiven times problem input claim way
-  pub holds : HoldsGiven claim (unnamed problem) (unnamed input)
+  pub holds : HoldsGiven claim (unnamed problem) input
 
 -- the words show that some number of rounds is too few; so is one more, since the input problem with its sides exchanged that often has labels that
 -- tell in which passive configuration they stand
@@ -95,4 +96,4 @@ AreShownGiven times (settled.AtMost most) problem input = IsShownGiven times pro
 -- so much is known of the problem given the input problem, where bounds are taken so many times: words show it, and what is claimed is true
 pub record IsSettledGiven (times : ℕ) (problem input : NamedProblem) (settled : SettledGiven) : Type 0 where
   pub shown : AreShownGiven times settled problem input
-  pub holds : HoldsGiven (claim_given settled) (unnamed problem) (unnamed input)
+  pub holds : HoldsGiven (claim_given settled) (unnamed problem) input

@@ -1,9 +1,14 @@
 -- The lines of an answer.
-use Rattle.std.specs.Prelude.{ℕ, ◌==◌, List, [], ◌∷◌, ◌++◌, codes, if◌then◌else◌, Option, None, Some}
+use Rattle.std.specs.Prelude.{ℕ, ◌==◌, ◌||◌, not, List, [], ◌∷◌, ◌++◌, codes, filter, length, if◌then◌else◌, Option, None, Some}
 use Rattle.std.specs.Fmt.{decimal}
+use Rattle.re_forest_words.specs.Answers.{labels_text}
+use Rattle.re_forests.specs.TrimmedSets.{trimmed_set}
+use Rattle.re_labels.specs.Lists.{count_from}
+use Rattle.re_labels.specs.Sets.{has}
 use Rattle.re_labels.specs.declared.sides.Side.{Side}
 use Rattle.re_labels.specs.declared.sides.Side.TheVariants.{Active, Passive}
 use Rattle.re_printing.specs.SetTexts.{named_text}
+use Rattle.re_problem.specs.NamedProblems.{NamedProblem, unnamed}
 use Rattle.re_settle.specs.Claims.{claim_of}
 use Rattle.re_settle.specs.Classes.{class_of}
 use Rattle.re_describe.specs.GraphRounds.{rounds_above, rounds_below}
@@ -15,6 +20,8 @@ use Rattle.re_settle.specs.declared.types.Classified.{Classified}
 use Rattle.re_settle.specs.declared.types.Coloured.{Coloured}
 use Rattle.re_settle.specs.declared.types.ColouredWay.{ColouredWay}
 use Rattle.re_settle.specs.declared.types.ColouredWay.TheVariants as coloured
+use Rattle.re_settle.specs.declared.types.Further.{Further}
+use Rattle.re_settle.specs.declared.types.Further.TheVariants as further
 use Rattle.re_settle.specs.declared.types.Least.{Least}
 use Rattle.re_settle.specs.declared.types.Least.TheVariants as least
 use Rattle.re_settle.specs.declared.types.Most.{Most}
@@ -24,31 +31,38 @@ use Rattle.re_settle.specs.declared.types.Order.TheVariants as order
 use Rattle.re_settle.specs.declared.types.Settled.{Settled}
 use Rattle.re_settle.specs.declared.types.Settled.TheVariants as settled
 use Rattle.re_settle.specs.declared.types.Way.{Way}
-use Rattle.re_settle.specs.declared.types.Way.TheVariants.{Closure, Cover, Cycle, Fixed, Longest, Lower, Merge, Raised, Relaxed, Rounds, Shortest, Upper, Zero}
+use Rattle.re_settle.specs.declared.types.Way.TheVariants.{Closure, Cover, Cycle, Fixed, Flexible, Longest, Lower, Merge, Raised, Relaxed, Rounds, Shortest, Upper, Zero}
 
 -- ---- the first line
--- the rounds of the graph, where the passive nodes have two neighbours
-abbrev pub graph_part : ℕ → ℕ → List ℕ
-graph_part passive rounds = if passive == 2 then codes " (" ++ (decimal rounds ++ codes " rounds of the graph)") else codes ""
+-- the rounds of the graph behind these words, where the passive nodes have two neighbours
+abbrev pub graph_part : List ℕ → ℕ → ℕ → List ℕ
+graph_part words passive rounds = if passive == 2 then codes " (" ++ (words ++ (decimal rounds ++ codes " rounds of the graph)")) else codes ""
 
 -- a claim on a problem whose passive nodes have this degree
 abbrev pub claim_text : ℕ → Claim → List ℕ
-claim_text passive (Exactly k) = codes "exactly " ++ (decimal k ++ graph_part passive (rounds_above k))
-claim_text passive Never = codes "not solvable in any number of rounds"
-claim_text passive (MoreThan k) = codes "more than " ++ (decimal k ++ graph_part passive (rounds_below k))
-claim_text passive (AtMost m) = codes "at most " ++ (decimal m ++ graph_part passive (rounds_above m))
+claim_text passive (Exactly k) = codes "exactly " ++ (decimal k ++ graph_part (codes "") passive (rounds_above k))
+claim_text passive Never = codes "not solvable in any number of rounds with port numbers "
+claim_text passive (MoreThan k) = codes "more than " ++ (decimal k ++ graph_part (codes "more than ") passive (rounds_below k))
+claim_text passive (AtMost m) = codes "at most " ++ (decimal m ++ graph_part (codes "at most ") passive (rounds_above m))
 claim_text passive (Between k m) =
-    (codes "more than " ++ (decimal k ++ graph_part passive (rounds_below k))) ++ (codes ", at most " ++ (decimal m ++ graph_part passive (rounds_above m)))
+    (codes "more than " ++ (decimal k ++ graph_part (codes "more than ") passive (rounds_below k)))
+    ++ (codes ", at most " ++ (decimal m ++ graph_part (codes "at most ") passive (rounds_above m)))
+
+-- what algorithms have besides, behind a claim: nothing
+abbrev pub alone_text : Claim → List ℕ
+alone_text Never = codes "alone\n"
+alone_text claim = codes "\n"
 
 -- that there is no solution, or the claim
 abbrev pub first_text : ℕ → Settled → List ℕ
 first_text passive settled.Unsolvable = codes "no solution\n"
-first_text passive settled = claim_text passive (claim_of settled) ++ codes "\n"
+first_text passive settled = claim_text passive (claim_of settled) ++ alone_text (claim_of settled)
 
 -- ---- the lines behind it
 -- the program and the word
 abbrev pub way_words : Way → List ℕ
 way_words Zero = codes "re zero"
+way_words Flexible = codes "explore flexible"
 way_words (Lower steps merges) = codes "re lower"
 way_words (Upper steps drops) = codes "re upper"
 way_words (Fixed steps merges) = codes "re fixed"
@@ -65,6 +79,7 @@ way_words (Shortest steps labels) = codes "explore shortest"
 -- the numbers behind them; `closure` without steps has none
 abbrev pub way_numbers : Way → List ℕ
 way_numbers Zero = []
+way_numbers Flexible = []
 way_numbers (Lower steps merges) = steps ∷ merges ∷ []
 way_numbers (Upper steps drops) = steps ∷ drops ∷ []
 way_numbers (Fixed steps merges) = steps ∷ merges ∷ []
@@ -87,6 +102,7 @@ abbrev pub way_rest : List (List ℕ) → Way → List ℕ
 way_rest names (Merge from to) = codes " '" ++ (named_text names from ++ (codes "' '" ++ (named_text names to ++ codes "' | explore closure")))
 way_rest names (Raised low high) = codes " with diagram " ++ named_text names low ++ codes " " ++ named_text names high
 way_rest names Zero = codes ""
+way_rest names Flexible = codes ""
 way_rest names (Lower steps merges) = codes ""
 way_rest names (Upper steps drops) = codes ""
 way_rest names (Fixed steps merges) = codes ""
@@ -101,18 +117,11 @@ way_rest names (Shortest steps labels) = codes ""
 abbrev pub way_line : List (List ℕ) → Way → List ℕ
 way_line names way = codes "by: " ++ (way_words way ++ (number_texts (way_numbers way) ++ (way_rest names way ++ codes "\n")))
 
--- the line of the word that decides whether a set of labels is flexible, and else how many levels of labels there are
-abbrev pub flexible_line : List ℕ
-flexible_line = codes "by: explore flexible\n"
-
 -- a line for each of the words that show what is known
 abbrev pub way_lines : List (List ℕ) → Settled → List ℕ
-way_lines names settled.Unsolvable = flexible_line
-way_lines names settled.Linear = flexible_line
-way_lines names settled.AtOnce = way_line names Zero
+way_lines names settled.Unsolvable = way_line names Flexible
 way_lines names (settled.Exactly shown) = way_line names shown.way
-way_lines names (settled.FixedPoint way) = way_line names way
-way_lines names (settled.Excluded way coloured) = way_line names way
+way_lines names (settled.Never way) = way_line names way
 way_lines names (settled.Within more None) = way_line names more.way
 way_lines names (settled.Within more (Some most)) = way_line names more.way ++ way_line names most.way
 
@@ -163,44 +172,66 @@ abbrev pub coloured_line : Coloured → List ℕ
 coloured_line coloured = codes "by: " ++ (coloured_words coloured.way ++ (codes " given " ++ (decimal coloured.colours ++ colours_text coloured.side)))
 
 -- the line of the word that finds a flexible set, where one gives a bound above
-abbrev pub above_line : Option Most → List ℕ
-above_line None = codes ""
-above_line (Some most) = flexible_line
+abbrev pub above_line : List (List ℕ) → Option Most → List ℕ
+above_line names None = codes ""
+above_line names (Some most) = way_line names Flexible
 
 -- what the literature says of a problem with so many levels of labels, and the line of the word that counts them: nothing is claimed here but their number
-abbrev pub length_lines : Option ℕ → List ℕ
-length_lines None = codes ""
-length_lines (Some count) = (codes "literature: order N^(1/" ++ decimal count) ++ (codes ")\n" ++ flexible_line)
+abbrev pub length_lines : List (List ℕ) → Option ℕ → List ℕ
+length_lines names None = codes ""
+length_lines names (Some count) = (codes "literature: order N^(1/" ++ decimal count) ++ (codes ")\n" ++ way_line names Flexible)
 
--- what they add to a bound below
-abbrev pub bound_lines : Option Most → Option ℕ → List ℕ
-bound_lines above length = above_line above ++ length_lines length
+-- what a flexible set, or the number of levels, adds to a bound below
+abbrev pub bound_lines : List (List ℕ) → Option Most → Option ℕ → List ℕ
+bound_lines names above length = above_line names above ++ length_lines names length
+
+-- the lines of the words that show the class of what no number of rounds solves, where these aren't those that show this
+abbrev pub further_lines : List (List ℕ) → Further → Option Most → Option ℕ → List ℕ
+further_lines names further.Nothing above length = bound_lines names above length
+further_lines names further.Linear above length = codes ""
+further_lines names (further.FewColours coloured) above length = coloured_line coloured
+further_lines names further.Greedy above length = codes "by: explore greedy\n"
+further_lines names (further.FixedPoint way) above length = way_line names way ++ bound_lines names above length
 
 -- the lines of the words that show the class, where these aren't those that show the claim
-abbrev pub shows_lines : Settled → Option Most → Option ℕ → List ℕ
-shows_lines settled.Unsolvable above length = codes ""
-shows_lines settled.Linear above length = codes ""
-shows_lines settled.AtOnce above length = codes ""
-shows_lines (settled.Exactly shown) above length = codes ""
-shows_lines (settled.FixedPoint way) above length = bound_lines above length
-shows_lines (settled.Excluded way None) above length = bound_lines above length
-shows_lines (settled.Excluded way (Some coloured)) above length = coloured_line coloured
-shows_lines (settled.Within more None) above length = bound_lines above length
-shows_lines (settled.Within more (Some most)) above length = codes ""
+abbrev pub shows_lines : List (List ℕ) → Settled → Further → Option Most → Option ℕ → List ℕ
+shows_lines names settled.Unsolvable further above length = codes ""
+shows_lines names (settled.Exactly shown) further above length = codes ""
+shows_lines names (settled.Never way) further above length = further_lines names further above length
+shows_lines names (settled.Within more None) further above length = bound_lines names above length
+shows_lines names (settled.Within more (Some most)) further above length = codes ""
 
-abbrev pub class_lines : Classified → List ℕ
-class_lines classified =
-    codes "with identifiers: " ++ (class_text (class_of classified.settled classified.above)
-    ++ (codes "\n" ++ shows_lines classified.settled classified.above classified.length))
+abbrev pub class_lines : List (List ℕ) → Classified → List ℕ
+class_lines names classified =
+    codes "with identifiers: " ++ (class_text (class_of classified.settled classified.further classified.above)
+    ++ (codes "\n" ++ shows_lines names classified.settled classified.further classified.above classified.length))
 
 -- they stand where there is a solution
 abbrev pub classes_text_of : Settled → List ℕ → List ℕ
 classes_text_of settled.Unsolvable lines = codes ""
 classes_text_of settled lines = lines
 
-abbrev pub classes_text : Classified → List ℕ
-classes_text classified = classes_text_of classified.settled (class_lines classified)
+abbrev pub classes_text : List (List ℕ) → Classified → List ℕ
+classes_text names classified = classes_text_of classified.settled (class_lines names classified)
 
--- ---- the whole answer on a problem with these names, whose passive nodes have this degree
-abbrev pub settled_text : List (List ℕ) → ℕ → Classified → List ℕ
-settled_text names passive classified = first_text passive classified.settled ++ (way_lines names classified.settled ++ classes_text classified)
+-- ---- the last line
+-- the labels of a problem that the set lacks, in order
+abbrev pub lost_from : List ℕ → ℕ → ℕ → List ℕ
+lost_from kept label more = filter (λ x. not (has kept x)) (count_from label more)
+
+-- the names of the labels that trimming takes away, where it leaves some and takes some away: they stand in no trimmed set, so inside a tree nowhere
+abbrev pub note_of : List (List ℕ) → List ℕ → List ℕ
+note_of names kept =
+    if (length kept == 0) || (length kept == length names) then codes ""
+    else codes "note: labels that fit no tree:" ++ (labels_text names (lost_from kept 0 (length names)) ++ codes "\n")
+
+abbrev pub note_line : NamedProblem → List ℕ
+note_line problem = note_of problem.names (trimmed_set (unnamed problem))
+
+-- ---- the whole answer on a problem
+-- what is claimed, and what shows it
+abbrev pub claim_lines : NamedProblem → Settled → List ℕ
+claim_lines problem settled = first_text problem.passive.degree settled ++ way_lines problem.names settled
+
+abbrev pub settled_text : NamedProblem → Classified → List ℕ
+settled_text problem classified = claim_lines problem classified.settled ++ (classes_text problem.names classified ++ note_line problem)

@@ -1,7 +1,7 @@
 -- What is known of a problem on finite forests, whose nodes all have unique identifiers, and what its levels of labels tell.
 use Rattle.std.specs.Prelude.{ℕ, ◌+◌, ◌<◌, ◌≤◌, ◌==◌, nat_le, ◌&&◌, ◌||◌, if◌then◌else◌, None, Option, Some}
 use Rattle.re_flexible.specs.declared.levels.Flexibility.{Flexibility}
-use Rattle.re_flexible.specs.declared.levels.Flexibility.TheVariants.{Flexible, Length, NoSolution}
+use Rattle.re_flexible.specs.declared.levels.Flexibility.TheVariants as flexibility
 use Rattle.re_forests.specs.Classes.{HasNoSolution, IsAboveLinear, IsAboveLogOnForests, IsAboveLogStarOnForests, IsBelowLinear, IsBelowLogOnForests, IsBelowLogStarOnForests, IsConstantOnForests}
 use Rattle.re_forests.specs.OnForests.{SolvableOnForests}
 use Rattle.re_forests.specs.ToViews.{IsBeyondForests}
@@ -10,6 +10,8 @@ use Rattle.re_settle.specs.declared.types.Claim.{Claim}
 use Rattle.re_settle.specs.declared.types.Claim.TheVariants.{AtMost, Between, Exactly, MoreThan, Never}
 use Rattle.re_settle.specs.declared.types.Class.{Class}
 use Rattle.re_settle.specs.declared.types.Class.TheVariants as class
+use Rattle.re_settle.specs.declared.types.Further.{Further}
+use Rattle.re_settle.specs.declared.types.Further.TheVariants as further
 use Rattle.re_settle.specs.declared.types.Least.{Least}
 use Rattle.re_settle.specs.declared.types.Least.TheVariants as least
 use Rattle.re_settle.specs.declared.types.Most.{Most}
@@ -18,6 +20,7 @@ use Rattle.re_settle.specs.declared.types.Order.{Order}
 use Rattle.re_settle.specs.declared.types.Order.TheVariants as order
 use Rattle.re_settle.specs.declared.types.Settled.{Settled}
 use Rattle.re_settle.specs.declared.types.Settled.TheVariants as settled
+use Rattle.re_settle.specs.declared.types.Way.TheVariants.{Flexible}
 
 -- some local algorithm of so many rounds solves the problem on forests, however many identifiers there are
 abbrev pub SolvableOnAny : Problem → ℕ → Type 0
@@ -59,24 +62,30 @@ ClassOnForests (class.Order order) problem = OrderOnForests order problem
 ClassOnForests (class.Bounds least most) problem = LeastOnForests least problem × MayBeBelow most problem
 
 -- ---- levels of labels
--- what they tell before any search: where no level has a label there is no solution, and where one level is all it takes the order of N
+-- what they tell before any search: where no level has a label there is no solution, and where no set is flexible no number of rounds is enough
 abbrev pub known_ahead : Flexibility → Option Settled
-known_ahead (Flexible set) = None
-known_ahead (Length count) = if count == 1 then Some settled.Linear else None
-known_ahead NoSolution = Some settled.Unsolvable
+known_ahead (flexibility.Flexible set) = None
+known_ahead (flexibility.Length count) = Some (settled.Never Flexible)
+known_ahead flexibility.NoSolution = Some settled.Unsolvable
+
+-- and what they tell besides, where one level is all: that it takes the order of N
+abbrev pub further_ahead : Flexibility → Option Further
+further_ahead (flexibility.Flexible set) = None
+further_ahead (flexibility.Length count) = Some (if count == 1 then further.Linear else further.Nothing)
+further_ahead flexibility.NoSolution = Some further.Nothing
 
 -- what a flexible set tells: on paths at most the order of log* N, and else that of log N
 abbrev pub most_of : Problem → Most
 most_of problem = if problem.active.degree == 2 && problem.passive.degree == 2 then most.LogStar else most.Log
 
 abbrev pub above_of : Problem → Flexibility → Option Most
-above_of problem (Flexible set) = Some (most_of problem)
-above_of problem (Length count) = None
-above_of problem NoSolution = None
+above_of problem (flexibility.Flexible set) = Some (most_of problem)
+above_of problem (flexibility.Length count) = None
+above_of problem flexibility.NoSolution = None
 
 -- the number k of levels, where the literature tells the order N^(1/k) by it, which isn't claimed here: two at least, and the nodes of one side have two
 -- neighbours
 abbrev pub length_of : Problem → Flexibility → Option ℕ
-length_of problem (Flexible set) = None
-length_of problem (Length count) = if nat_le 2 count && (problem.active.degree == 2 || problem.passive.degree == 2) then Some count else None
-length_of problem NoSolution = None
+length_of problem (flexibility.Flexible set) = None
+length_of problem (flexibility.Length count) = if nat_le 2 count && (problem.active.degree == 2 || problem.passive.degree == 2) then Some count else None
+length_of problem flexibility.NoSolution = None

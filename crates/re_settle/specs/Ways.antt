@@ -16,41 +16,47 @@ use Rattle.re_cover.specs.Graphs.{PortGraph}
 use Rattle.re_cycle.specs.Answers as cycle
 use Rattle.re_cycle.specs.declared.finding.Cycle.TheVariants as cycle_answer
 use Rattle.re_graph.specs.Solving.{IsCover}
+use Rattle.re_forest_words.specs.Showings as greedy
+use Rattle.re_forest_words.specs.declared.showing.Shown.{Shown as GreedyShown}
 use Rattle.re_flexible.specs.Lengths.{IsFlexibility}
 use Rattle.re_flexible.specs.declared.levels.Flexibility.{Flexibility}
 use Rattle.re_flexible.specs.declared.levels.Flexibility.TheVariants.{Length, NoSolution}
-use Rattle.re_given_words.specs.Counting.{MayTell}
+use Rattle.re_given_words.specs.Counting.{IsCounted, MayTell}
 use Rattle.re_given_words.specs.declared.counting.Counted.{Counted}
 use Rattle.re_given_words.specs.declared.counting.Counted.TheVariants as counted
-use Rattle.re_longest.specs.Answers as longest
-use Rattle.re_shortest.specs.Answers.{AnswersAt}
-use Rattle.re_longest.specs.declared.finding.Longest.TheVariants as longest_answer
+use Rattle.re_given_words.specs.declared.setting.Setting.TheVariants as setting
+use Rattle.re_shortest.specs.Answers as shortest
+use Rattle.re_shaping.specs.Extensions.{GoesOn}
 use Rattle.re_shortest.specs.declared.shortening.Shortest.TheVariants as shortest_answer
 use Rattle.re_problem.specs.NamedProblems.{NamedProblem, unnamed}
 use Rattle.re_problem.specs.Zero.{zero_place}
+use Rattle.re_laws.specs.Algorithms.{Solvable}
 use Rattle.re_relaxed.specs.Answers as relaxed
 use Rattle.re_relaxed.specs.declared.types.Relaxed.TheVariants as relaxed_answer
 use Rattle.re_search.specs.Searches.{search_of}
 use Rattle.re_search.specs.declared.types.Search.TheVariants.{Found}
 use Rattle.re_settle.specs.Claims.{Holds, claim_of}
-use Rattle.re_settle.specs.Classes.{ClassHolds, class_of}
+use Rattle.re_settle.specs.Classes.{ClassHolds, LeastHolds, class_of, least_of}
 use Rattle.re_settle.specs.Coloured.{IsColoured}
 use Rattle.re_settle.specs.Measures.{doublings, greatest_degree, longest_labels, longest_steps, shortest_labels, shortest_steps}
 use Rattle.re_settle.specs.declared.types.Claim.{Claim}
 use Rattle.re_settle.specs.declared.types.Claim.TheVariants.{AtMost, Exactly, MoreThan, Never}
-use Rattle.re_settle.specs.OnForests.{ClassOnForests, above_of, known_ahead, length_of}
+use Rattle.re_settle.specs.OnForests.{ClassOnForests, above_of, further_ahead, known_ahead, length_of}
 use Rattle.re_settle.specs.declared.types.Classified.{Classified}
-use Rattle.re_settle.specs.declared.types.Coloured.{Coloured}
+use Rattle.re_settle.specs.declared.types.Further.{Further}
+use Rattle.re_settle.specs.declared.types.Further.TheVariants as further
+use Rattle.re_settle.specs.declared.types.Least.TheVariants as least
 use Rattle.re_settle.specs.declared.types.Settled.{Settled}
 use Rattle.re_settle.specs.declared.types.Settled.TheVariants as settled
 use Rattle.re_settle.specs.declared.types.Way.{Way}
-use Rattle.re_settle.specs.declared.types.Way.TheVariants.{Closure, Cover, Cycle, Fixed, Longest, Lower, Merge, Raised, Relaxed, Rounds, Shortest, Upper, Zero}
+use Rattle.re_settle.specs.declared.types.Way.TheVariants.{Closure, Cover, Cycle, Fixed, Flexible, Longest, Lower, Merge, Raised, Relaxed, Rounds, Shortest, Upper, Zero}
 
 -- ---- which words are tried
 -- the numbers of the words that are tried on a problem, where bounds are taken so many times: a graph is listed, or one of at most 8 or of at most 64 nodes is made
 -- of gadgets; problems of `shortest` have few labels, or all that a text may name, or, in degree 5, two for each pair of ports
 abbrev pub IsTried : ℕ → NamedProblem → Way → Type 0
 IsTried times problem Zero = Unit {0}
+IsTried times problem Flexible = Unit {0}
 IsTried times problem (Lower steps merges) = (steps ≤ 8) × (merges ≡ 0)
 IsTried times problem (Upper steps drops) = (steps ≤ 9) × (drops ≡ 0)
 IsTried times problem (Fixed steps merges) = (steps ≡ 4) × (merges ≡ 0)
@@ -103,7 +109,7 @@ pub record ClosesRaised (low high : ℕ) (problem : NamedProblem) : Type 0 where
 
 -- whether it is solvable without communication, as `zero` answers
 abbrev pub ShowsZero : Option ℕ → Claim → Type 0
-ShowsZero (Some place) claim = claim ≡ AtMost 0
+ShowsZero (Some place) claim = claim ≡ Exactly 0
 ShowsZero None claim = claim ≡ MoreThan 0
 
 -- what a count of rounds says
@@ -122,11 +128,13 @@ few_of (counted.Stopped rounds steps limit) = Some rounds
 few_of (counted.Exactly rounds) = None
 few_of (counted.Tried rounds) = None
 
--- what an answer of these words shows of the problem: that of `zero` whether there is an algorithm without communication; that of a search the bound that it
+-- what an answer of these words shows of the problem: that of `zero` whether there is an algorithm without communication; that of `flexible` that no set of
+-- labels is flexible; that of a search the bound that it
 -- finds, or, of `cycle`, `relaxed`, `longest` and `shortest`, one that it may find; `rounds` what it may count; `closure` its fixed point; `cover` a graph
 -- without a solution
 abbrev pub Shows : Way → Claim → NamedProblem → Type 0
 Shows Zero claim problem = ShowsZero (zero_place (unnamed problem)) claim
+Shows Flexible claim problem = (claim ≡ Never) × ((count : ℕ) × IsFlexibility (unnamed problem) (Length count))
 Shows (Lower steps merges) claim problem = (found : ℕ) × (claim ≡ MoreThan found) × Finds kind.Lower steps merges problem found
 Shows (Upper steps drops) claim problem = (found : ℕ) × (claim ≡ AtMost found) × Finds kind.Upper steps drops problem found
 Shows (Fixed steps merges) claim problem = (claim ≡ Never) × ((found : ℕ) × Finds kind.Fixed steps merges problem found)
@@ -135,15 +143,15 @@ Shows (Raised low high) claim problem = (claim ≡ Never) × ClosesRaised low hi
 Shows (Merge from to) claim problem = (claim ≡ Never) × ClosesMerged from to problem
 Shows (Cover nodes) claim problem = (claim ≡ Never) × ((graph : PortGraph) × IsCover (unnamed problem) graph × (graph.nodes ≤ nodes))
 Shows (Cycle steps merges nodes) claim problem =
-    (claim ≡ Never) × ((bound : Bound) × cycle.Answers steps (problem_chain problem) (cycle_answer.Found bound) × HasText bound)
+    (claim ≡ Never) × ((bound : Bound) × cycle.Answers setting.Alone steps (problem_chain problem) (cycle_answer.Found bound) × HasText bound)
 Shows (Relaxed nodes) claim problem =
     (claim ≡ Never) × ((bound : Bound) × relaxed.Answers (problem_chain problem) (relaxed_answer.Found bound) × HasText bound)
 Shows (Rounds most) claim problem = (counts : Counted) × MayTell (unnamed problem) None most counts × SaysCounted counts claim
 Shows (Longest steps labels) claim problem =
-    (bound : Bound) × (claim ≡ MoreThan (length bound.steps)) × longest.Answers steps labels (problem_chain problem) (longest_answer.Found bound) × HasText bound
+    (bound : Bound) × (claim ≡ MoreThan (length bound.steps)) × GoesOn kind.Lower steps labels (problem_chain problem) bound × HasText bound
 Shows (Shortest steps labels) claim problem =
     (bound : Bound) × (claim ≡ AtMost (length bound.steps))
-    × AnswersAt (zero_place (unnamed problem)) steps labels (chain_with kind.Upper problem []) (shortest_answer.Found bound) × HasText bound
+    × shortest.Answers setting.Alone steps labels (chain_with kind.Upper problem []) (shortest_answer.Found bound) × HasText bound
 
 -- the words are tried, where bounds are taken so many times, and show the claim
 pub record IsShown (times : ℕ) (problem : NamedProblem) (claim : Claim) (way : Way) : Type 0 where
@@ -155,78 +163,66 @@ pub record IsKnown (times : ℕ) (problem : NamedProblem) (claim : Claim) (way :
   pub shown : IsShown times problem claim way
   pub holds : Holds claim (unnamed problem)
 
--- the words look for fixed points
-abbrev pub IsForFixedPoints : Way → Type 0
-IsForFixedPoints Zero = ⊥
-IsForFixedPoints (Lower steps merges) = ⊥
-IsForFixedPoints (Upper steps drops) = ⊥
-IsForFixedPoints (Fixed steps merges) = Unit {0}
-IsForFixedPoints (Closure steps) = Unit {0}
-IsForFixedPoints (Raised low high) = Unit {0}
-IsForFixedPoints (Merge from to) = Unit {0}
-IsForFixedPoints (Cover nodes) = ⊥
-IsForFixedPoints (Cycle steps merges nodes) = Unit {0}
-IsForFixedPoints (Relaxed nodes) = Unit {0}
-IsForFixedPoints (Rounds most) = ⊥
-IsForFixedPoints (Longest steps labels) = ⊥
-IsForFixedPoints (Shortest steps labels) = ⊥
-
 -- the words show a fixed point
 pub record IsFixedPoint (times : ℕ) (problem : NamedProblem) (way : Way) : Type 0 where
   pub known : IsKnown times problem Never way
-  pub finds : IsForFixedPoints way
+  pub finds : least_of way ≡ least.Log
   pub above : IsAboveLog (unnamed problem)
 
--- the words look for graphs without a solution
-abbrev pub IsForGraphs : Way → Type 0
-IsForGraphs Zero = ⊥
-IsForGraphs (Lower steps merges) = ⊥
-IsForGraphs (Upper steps drops) = ⊥
-IsForGraphs (Fixed steps merges) = ⊥
-IsForGraphs (Closure steps) = ⊥
-IsForGraphs (Raised low high) = ⊥
-IsForGraphs (Merge from to) = ⊥
-IsForGraphs (Cover nodes) = Unit {0}
-IsForGraphs (Cycle steps merges nodes) = ⊥
-IsForGraphs (Relaxed nodes) = ⊥
-IsForGraphs (Rounds most) = ⊥
-IsForGraphs (Longest steps labels) = ⊥
-IsForGraphs (Shortest steps labels) = ⊥
-
--- the words show that no number of rounds solves the problem by a graph
-pub record IsExcluded (times : ℕ) (problem : NamedProblem) (way : Way) : Type 0 where
+-- the words show that no number of rounds solves the problem, and the bound below that they show of local algorithms is true
+pub record IsNever (times : ℕ) (problem : NamedProblem) (way : Way) : Type 0 where
   pub known : IsKnown times problem Never way
-  pub finds : IsForGraphs way
+  pub least : LeastHolds (least_of way) (unnamed problem)
 
--- words show that some number of rounds is enough given few colours
-abbrev pub MayBeColoured : ℕ → Option Coloured → NamedProblem → Type 0
-MayBeColoured times None problem = Unit {0}
-MayBeColoured times (Some coloured) problem = IsColoured times problem coloured
+-- what `rounds 8` counts by steps alone to be exact is claimed
+abbrev pub AnswersCount : NamedProblem → Settled → Type 0
+AnswersCount problem settled = (rounds : ℕ) → IsCounted (unnamed problem) None 8 (counted.Exactly rounds) → claim_of settled ≡ Exactly rounds
 
--- each of the words shows its part of what is known; there is no level of labels, or one alone, as `flexible` answers
+-- it counts no number to be exact by steps alone
+abbrev pub IsUncounted : NamedProblem → Type 0
+IsUncounted problem = (rounds : ℕ) → IsCounted (unnamed problem) None 8 (counted.Exactly rounds) → ⊥
+
+-- each of the words shows its part of what is claimed; there is no level of labels, as `flexible` answers
 abbrev pub AreShown : ℕ → Settled → NamedProblem → Type 0
 AreShown times settled.Unsolvable problem = IsFlexibility (unnamed problem) NoSolution
-AreShown times settled.Linear problem = IsFlexibility (unnamed problem) (Length 1)
-AreShown times settled.AtOnce problem = IsShown times problem (AtMost 0) Zero
 AreShown times (settled.Exactly shown) problem = IsShown times problem (Exactly shown.rounds) shown.way
-AreShown times (settled.FixedPoint way) problem = IsShown times problem Never way × IsForFixedPoints way
-AreShown times (settled.Excluded way coloured) problem = IsShown times problem Never way × IsForGraphs way × MayBeColoured times coloured problem
+AreShown times (settled.Never way) problem = IsShown times problem Never way
 AreShown times (settled.Within more None) problem = IsShown times problem (MoreThan more.rounds) more.way
 AreShown times (settled.Within more (Some most)) problem =
     IsShown times problem (MoreThan more.rounds) more.way × IsShown times problem (AtMost most.rounds) most.way
 
--- so much is found of the problem, where bounds are taken so many times: words show it, and what is claimed is true, also of local algorithms
+-- words show what is found of the class besides; there is one level of labels alone, as `flexible` answers; it, or a problem at most 2 derived ones behind it, is
+-- greedy
+abbrev pub IsShownFurther : ℕ → Further → NamedProblem → Type 0
+IsShownFurther times further.Nothing problem = Unit {0}
+IsShownFurther times further.Linear problem = IsFlexibility (unnamed problem) (Length 1)
+IsShownFurther times (further.FewColours coloured) problem = IsColoured times problem coloured
+IsShownFurther times further.Greedy problem = (shown : GreedyShown) × greedy.IsShown (unnamed problem) 2 shown
+IsShownFurther times (further.FixedPoint way) problem = IsShown times problem Never way × (least_of way ≡ least.Log)
+
+-- so much is found of the problem, where bounds are taken so many times: words show it, and what is claimed is true, also of local algorithms. What `rounds 8`
+-- counts by steps alone to be exact is claimed
 pub record IsFound (times : ℕ) (problem : NamedProblem) (settled : Settled) : Type 0 where
   pub shown : AreShown times settled problem
   pub holds : Holds (claim_of settled) (unnamed problem)
-  pub class : ClassHolds (class_of settled None) (unnamed problem)
+  pub class : ClassHolds (class_of settled further.Nothing None) (unnamed problem)
+  pub counted : AnswersCount problem settled
 
--- so much is known of it: what is found, the class on finite forests too, and what its levels of labels tell, of which `flexible` tells how many there are
+-- and so much of its class besides, which is true of them too
+pub record IsFoundFurther (times : ℕ) (problem : NamedProblem) (settled : Settled) (further : Further) : Type 0 where
+  pub shown : IsShownFurther times further problem
+  pub class : ClassHolds (class_of settled further None) (unnamed problem)
+
+-- so much is known of it: what is found, the class on finite forests too, and what its levels of labels tell, of which `flexible` tells how many there are: where
+-- there is no flexible set, they tell all. Of what is solvable without communication exactly 0 rounds are claimed
 pub record IsSettled (times : ℕ) (problem : NamedProblem) (classified : Classified) : Type 0 where
   pub found : IsFound times problem classified.settled
-  pub forests : ClassOnForests (class_of classified.settled classified.above) (unnamed problem)
+  pub besides : IsFoundFurther times problem classified.settled classified.further
+  pub forests : ClassOnForests (class_of classified.settled classified.further classified.above) (unnamed problem)
   pub flexibility : Flexibility
   pub decided : IsFlexibility (unnamed problem) flexibility
   pub ahead : IfSome (known_ahead flexibility) (λ settled. classified.settled ≡ settled)
+  pub further_ahead : IfSome (further_ahead flexibility) (λ further. classified.further ≡ further)
   pub above : classified.above ≡ above_of (unnamed problem) flexibility
   pub length : classified.length ≡ length_of (unnamed problem) flexibility
+  pub at_once : Solvable (unnamed problem) 0 → claim_of classified.settled ≡ Exactly 0

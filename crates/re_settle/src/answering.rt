@@ -19,12 +19,7 @@ fn problem_output(alloc: Global, problem: &Problem, times: u8) -> Result<Output,
     ensures { IfOk result (λ output. IsAnswer times problem.now (outcome_of output)) }
 {
     let classified = settle(alloc, problem, times)?;
-    settled_output(
-        alloc,
-        problem.names(),
-        problem.passive().degree(),
-        classified,
-    )
+    settled_output(alloc, problem, classified)
 }
 
 // What the word gives to a text.

@@ -17,7 +17,9 @@ use crate::words::SettleWord;
 use re_chains::{has_line, problem_chain};
 use re_fit::input_fault;
 use re_frame::{Finding, Output, fault_output};
-use re_given_words::{GIVEN, GivenTexts, given_verdict, input_fault_output, read_given};
+use re_given_words::{
+    GIVEN, GivenTexts, given_verdict, given_verdict_output, input_fault_output, read_given,
+};
 use re_labels::NoMemory;
 use re_problem::{Problem, TextFault};
 use std::alloc::Global;
@@ -36,7 +38,8 @@ fn untold_output(alloc: Global, problem: &Problem, input: &Problem) -> Result<Ou
     ensures { IfOk result (λ output. IsUntold problem.now input.now (outcome_of output)) }
 {
     let chain = problem_chain(alloc, problem.copy()?);
-    given_verdict(alloc, &chain.certificate, input)
+    let verdict = given_verdict(alloc, &chain.certificate, input)?;
+    given_verdict_output(alloc, &chain.certificate, input, &verdict)
 }
 
 // What the word gives to a problem and an input problem of it.
@@ -52,9 +55,7 @@ fn known_output(
     ensures { IfOk result (λ output. IsGivenAnswer times problem.now input.now (outcome_of output) ⊎ IsUntold problem.now input.now (outcome_of output)) }
 {
     match settle_given(alloc, problem, input, times)? {
-        Some(settled) => {
-            settled_output(alloc, problem.names(), problem.passive().degree(), settled)
-        }
+        Some(settled) => { settled_output(alloc, problem, settled) }
         None => untold_output(alloc, problem, input),
     }
 }

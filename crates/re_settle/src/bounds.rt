@@ -8,6 +8,7 @@ ghost use Rattle.re_settle.specs.Measures.{IsSmall, doublings, greatest_degree, 
 ghost use Rattle.re_settle.specs.Ways.{IsKnown, IsTried};
 ghost use Rattle.std.specs.Prelude.{◌≡◌, ◌↔◌, ◌≤◌, [], IfOk, IfSome, IsTrue, None, length};
 
+use crate::finders::longest_alone;
 use crate::measures::{
     doublings, greatest_degree, is_small, longest_labels, longest_steps, shortest_labels,
     shortest_steps,
@@ -16,8 +17,8 @@ use crate::texts::has_text;
 use crate::types::{Claim, Shown, Way};
 use re_cert::{Certificate, Kind};
 use re_chains::{LowerChain, UpperChain};
+use re_given_words::Setting;
 use re_labels::NoMemory;
-use re_longest::{Longest, find_longest};
 use re_problem::Problem;
 use re_search::{FindFault, Search, find_lower, find_upper};
 use re_shortest::{Shortest, find_shortest};
@@ -106,9 +107,7 @@ fn longest_way(
     let doublings = doublings(times);
     let steps = longest_steps(doublings);
     let labels = longest_labels(greatest_degree(problem), doublings);
-    let Longest::Found(certificate) = find_longest(alloc, chain, steps, labels)? else {
-        return Ok(None);
-    };
+    let certificate = longest_alone(alloc, chain, steps, labels)?;
     let has = has_text(alloc, &certificate)?;
     if !has {
         return Ok(None);
@@ -191,7 +190,8 @@ fn shortest_way(
 {
     let _times = times;
     let chain = upper_chain(alloc, problem.copy()?);
-    let Shortest::Found(certificate) = find_shortest(alloc, &chain, steps, labels)? else {
+    let Shortest::Found(certificate) = find_shortest(alloc, &Setting::Alone, &chain, steps, labels)?
+    else {
         return Ok(None);
     };
     let has = has_text(alloc, &certificate)?;

@@ -6,6 +6,7 @@ ghost use Rattle.re_settle.specs.GivenWays.{IsKnownGiven, IsTriedGiven};
 ghost use Rattle.std.specs.Prelude.{◌≡◌, IfOk, IfSome};
 
 use crate::bounds::{count_of, has_patterns, upper_chain};
+use crate::finders::{is_accepted, longest_given, shortest_given};
 use crate::measures::{
     doublings, greatest_degree, is_small, longest_labels, longest_steps, shortest_labels,
     shortest_steps,
@@ -14,11 +15,9 @@ use crate::never::grows_little;
 use crate::texts::has_given_text;
 use crate::types::{Claim, Shown, Way};
 use re_chains::LowerChain;
-use re_given_words::is_accepted;
 use re_labels::NoMemory;
-use re_longest::find_longest_given;
 use re_problem::Problem;
-use re_shortest::{Shortest, find_shortest_given};
+use re_shortest::Shortest;
 use std::alloc::Global;
 
 /// Up to how many configurations the first derived problems have of a problem whose longest lower bound is looked for.
@@ -64,7 +63,7 @@ pub(crate) fn longest_way(
     let doublings = doublings(times);
     let steps = longest_steps(doublings);
     let labels = longest_labels(greatest_degree(problem), doublings);
-    let certificate = find_longest_given(alloc, chain, input, steps, labels)?;
+    let certificate = longest_given(alloc, chain, input, steps, labels)?;
     let has = has_given_text(alloc, &certificate, input)?;
     if !has {
         return Ok(None);
@@ -117,8 +116,7 @@ fn shortest_way(
 {
     let _times = times;
     let chain = upper_chain(alloc, problem.copy()?);
-    let Shortest::Found(certificate) = find_shortest_given(alloc, &chain, input, steps, labels)?
-    else {
+    let Shortest::Found(certificate) = shortest_given(alloc, &chain, input, steps, labels)? else {
         return Ok(None);
     };
     let has = has_given_text(alloc, &certificate, input)?;

@@ -1,13 +1,20 @@
 //! What is known of a problem: what its levels of labels tell, before any search and behind them.
 ghost use Rattle.re_flexible.specs.Lengths.{IsFlexibility};
+ghost use Rattle.re_forest_words.specs.Showings.{IsShown as IsGreedyShown};
 ghost use Rattle.re_problem.specs.NamedProblems.{unnamed};
 ghost use Rattle.re_settle.specs.OnForests.{length_of, most_of};
-ghost use Rattle.re_settle.specs.Ways.{IsSettled};
-ghost use Rattle.std.specs.Prelude.{◌≡◌, ◌<◌, ◌≤◌, IfOk};
+ghost use Rattle.re_settle.specs.Ways.{IsFixedPoint, IsFound, IsFoundFurther, IsSettled};
+ghost use Rattle.std.specs.Prelude.{◌≡◌, ◌≤◌, IfOk, IfSome};
 
+use crate::coloured::{late_coloured, soon_coloured};
+use crate::lines::least_of;
+use crate::never::far_way;
 use crate::settling::search;
-use crate::types::{Classified, Most, Settled};
+use crate::types::{Classified, Further, Least, Most, Settled, Way};
+use re_chains::problem_chain;
 use re_flexible::{Flexibility, flexibility_of};
+use re_forest_words::{Showing, Shown, greedy_behind, shown_law};
+use re_gap::{above_log_on_views_law, not_flexible_law};
 use re_labels::{LabelSet, NoMemory};
 use re_problem::Problem;
 use std::alloc::Global;
@@ -45,42 +52,125 @@ fn unsolvable(problem: &Problem, times: u8) -> Classified
     let _times = times;
     Classified {
         settled: Settled::Unsolvable,
+        further: Further::Nothing,
         above: None,
         length: None,
     }
 }
 
-// What is known where there is one level of labels alone.
-fn linear(problem: &Problem, count: u8, times: u8) -> Classified
-    requires flexibility { IsFlexibility (unnamed problem.now) (Flexibility.Length count) }
-    requires one { count < 2 }
+// What is known where no set of labels is flexible, and there are so many levels.
+fn levelled(problem: &Problem, count: u8, times: u8) -> Classified
+    requires { IsFlexibility (unnamed problem.now) (Flexibility.Length count) }
     ensures { IsSettled times problem.now result }
 {
     let _names = problem.names();
-    let _count = count;
     let _times = times;
-    Classified {
-        settled: Settled::Linear,
-        above: None,
-        length: None,
+    not_flexible_law();
+    above_log_on_views_law();
+    let length = length_of(problem, count);
+    if count == 1 {
+        Classified {
+            settled: Settled::Never(Way::Flexible),
+            further: Further::Linear,
+            above: None,
+            length,
+        }
+    } else {
+        Classified {
+            settled: Settled::Never(Way::Flexible),
+            further: Further::Nothing,
+            above: None,
+            length,
+        }
     }
 }
 
-// What is known where there are so many levels, two at least, and none of them is flexible.
-fn levelled(alloc: Global, problem: &Problem, count: u8, times: u8) -> Result<Classified, NoMemory>
-    requires flexibility { IsFlexibility (unnamed problem.now) (Flexibility.Length count) }
-    requires several { 2 ≤ count }
+// A fixed point of what these words show to be solved by no number of rounds: graphs of more than 4 nodes come behind all that is tried here.
+fn later_way(alloc: Global, problem: &Problem, way: Way, times: u8) -> Result<Option<Way>, NoMemory>
+    requires { times ≤ 64 }
+    ensures { IfOk result (λ found. IfSome found (IsFixedPoint times problem.now)) }
+{
+    match way {
+        Way::Cover(4) => {
+            let chain = problem_chain(alloc, problem.copy()?);
+            far_way(alloc, problem, &chain, times)
+        }
+        _ => Ok(None),
+    }
+}
+
+// What is found of the class of a problem that is solved by no number of rounds, as these words show, besides what they show of it.
+fn excluded(alloc: Global, problem: &Problem, way: Way, times: u8) -> Result<Further, NoMemory>
+    requires found { IsFound times problem.now (Settled.Never way) }
     requires times { times ≤ 64 }
-    ensures { IfOk result (IsSettled times problem.now) }
+    ensures { IfOk result (IsFoundFurther times problem.now (Settled.Never way)) }
 {
     let _names = problem.names();
-    let length = length_of(problem, count);
-    let settled = search(alloc, problem, times)?;
-    Ok(Classified {
-        settled,
-        above: None,
-        length,
-    })
+    if let Some(coloured) = soon_coloured(alloc, problem, times)? {
+        return Ok(Further::FewColours(coloured));
+    }
+    if let Some(later) = later_way(alloc, problem, way, times)? {
+        return Ok(Further::FixedPoint(later));
+    }
+    match late_coloured(alloc, problem, times)? {
+        Some(coloured) => Ok(Further::FewColours(coloured)),
+        None => Ok(Further::Nothing),
+    }
+}
+
+// What shows that the problem, or one of the two derived ones behind it, is greedy, if anything is found.
+fn greedy_way(alloc: Global, problem: &Problem) -> Result<Option<Shown>, NoMemory>
+    ensures { IfOk result (λ found. IfSome found (IsGreedyShown (unnamed problem.now) 2)) }
+{
+    match greedy_behind(alloc, problem, 2)? {
+        Showing::Shown(shown) => Ok(Some(shown)),
+        Showing::NotGreedy | Showing::Unknown => Ok(None),
+    }
+}
+
+// The same, where it is looked first whether the problem is greedy.
+fn beside_graph(alloc: Global, problem: &Problem, way: Way, times: u8) -> Result<Further, NoMemory>
+    requires found { IsFound times problem.now (Settled.Never way) }
+    requires times { times ≤ 64 }
+    ensures { IfOk result (IsFoundFurther times problem.now (Settled.Never way)) }
+{
+    let _names = problem.names();
+    shown_law();
+    match greedy_way(alloc, problem)? {
+        Some(shown) => {
+            let _steps = shown.steps;
+            Ok(Further::Greedy)
+        }
+        None => excluded(alloc, problem, way, times),
+    }
+}
+
+// Whether these words leave a question of the class, where a flexible set shows so much.
+fn is_open(way: Way, most: Most) -> bool {
+    least_of(way) == Least::LogStar && most == Most::Log
+}
+
+// What is found of the class of a problem with a flexible set, besides what is claimed: on paths that set tells it.
+fn further(
+    alloc: Global,
+    problem: &Problem,
+    settled: Settled,
+    most: Most,
+    times: u8,
+) -> Result<Further, NoMemory>
+    requires found { IsFound times problem.now settled }
+    requires times { times ≤ 64 }
+    ensures { IfOk result (IsFoundFurther times problem.now settled) }
+{
+    let _names = problem.names();
+    let Settled::Never(way) = settled else {
+        return Ok(Further::Nothing);
+    };
+    if is_open(way, most) {
+        beside_graph(alloc, problem, way, times)
+    } else {
+        Ok(Further::Nothing)
+    }
 }
 
 // What is known where a set of labels is flexible.
@@ -98,8 +188,10 @@ fn flexible(
     let _set = set;
     let most = most_of(problem);
     let settled = search(alloc, problem, times)?;
+    let further = further(alloc, problem, settled, most, times)?;
     Ok(Classified {
         settled,
+        further,
         above: Some(most),
         length: None,
     })
@@ -115,13 +207,7 @@ pub fn settle(alloc: Global, problem: &Problem, times: u8) -> Result<Classified,
 {
     match flexibility_of(problem) {
         Flexibility::NoSolution => Ok(unsolvable(problem, times)),
-        Flexibility::Length(count) => {
-            if count < 2 {
-                Ok(linear(problem, count, times))
-            } else {
-                levelled(alloc, problem, count, times)
-            }
-        }
+        Flexibility::Length(count) => Ok(levelled(problem, count, times)),
         Flexibility::Flexible(set) => flexible(alloc, problem, set, times),
     }
 }

@@ -4,6 +4,7 @@ ghost use Rattle.re_settle.specs.Coloured.{IsColoured, IsColouringOf, input_kind
 ghost use Rattle.std.specs.Prelude.{◌≡◌, IfOk, IfSome};
 
 use crate::bounds::upper_chain;
+use crate::finders::shortest_given;
 use crate::measures::{coloured_steps, doublings, greatest_degree, is_small, shortest_labels};
 use crate::texts::has_given_text;
 use crate::types::{Coloured, ColouredWay};
@@ -11,14 +12,23 @@ use re_given_words::{Counted, RoundsTexts, count_within};
 use re_inputs::{InputKind, fits, input};
 use re_labels::{NoMemory, Side};
 use re_problem::Problem;
-use re_shortest::{Shortest, find_shortest_given};
+use re_shortest::Shortest;
 use std::alloc::Global;
 
 /// Up to how many rounds are counted given colours.
 const COLOURED_ROUNDS: u8 = 8;
 
-/// Up to how many labels problems have from which steps are taken then.
-const COLOURED_LABELS: u8 = 64;
+/// Up to how many labels problems have from which steps are taken given colours of nodes, before dearer ways.
+const NODES_LABELS: u8 = 16;
+
+/// Up to how many they have given colours of edges.
+const EDGES_LABELS: u8 = 8;
+
+/// Up to how many they have given colours of nodes behind dearer ways.
+const LATE_LABELS: u8 = 24;
+
+/// Up to how many configurations the colouring of edges has given which few labels are kept.
+const EDGES_SIZE: usize = 64;
 
 /// Up to how many configurations a problem has of which few labels are kept given colours.
 const SHORTEST_SIZE: usize = 8;
@@ -76,6 +86,7 @@ fn counted_way(
     alloc: Global,
     problem: &Problem,
     side: Side,
+    labels: u8,
     times: u8,
 ) -> Result<Option<Coloured>, NoMemory>
     ensures { IfOk result (λ found. IfSome found (IsColoured times problem.now)) }
@@ -90,7 +101,7 @@ fn counted_way(
         problem: problem.copy()?,
         input: Some(input),
     };
-    match count_within(alloc, &texts, COLOURED_ROUNDS, COLOURED_LABELS)? {
+    match count_within(alloc, &texts, COLOURED_ROUNDS, labels)? {
         Some(Counted::Exactly(_)) => Ok(Some(Coloured {
             side,
             colours,
@@ -117,8 +128,7 @@ fn shortest_way(
     let steps = coloured_steps(doublings);
     let labels = shortest_labels(greatest_degree(problem), doublings);
     let chain = upper_chain(alloc, problem.copy()?);
-    let Shortest::Found(certificate) = find_shortest_given(alloc, &chain, input, steps, labels)?
-    else {
+    let Shortest::Found(certificate) = shortest_given(alloc, &chain, input, steps, labels)? else {
         return Ok(None);
     };
     let has = has_given_text(alloc, &certificate, input)?;
@@ -146,26 +156,42 @@ fn shortened_way(
     }
     let colours = colour_count(problem, side);
     match few_colours(alloc, problem, side, colours)? {
-        Some(input) => shortest_way(alloc, problem, side, colours, &input, times),
+        Some(input) => {
+            if side == Side::Passive && !is_small(&input, EDGES_SIZE, times) {
+                return Ok(None);
+            }
+            shortest_way(alloc, problem, side, colours, &input, times)
+        }
         None => Ok(None),
     }
 }
 
-/// The first words that show that some number of rounds is enough given few colours of nodes, or of edges.
-pub(crate) fn coloured_way(
+/// The first words that show that some number of rounds is enough given few colours of nodes, or of edges, of those that cost little.
+pub(crate) fn soon_coloured(
     alloc: Global,
     problem: &Problem,
     times: u8,
 ) -> Result<Option<Coloured>, NoMemory>
     ensures { IfOk result (λ found. IfSome found (IsColoured times problem.now)) }
 {
-    if let Some(coloured) = counted_way(alloc, problem, Side::Active, times)? {
-        return Ok(Some(coloured));
+    match counted_way(alloc, problem, Side::Active, NODES_LABELS, times)? {
+        Some(coloured) => Ok(Some(coloured)),
+        None => counted_way(alloc, problem, Side::Passive, EDGES_LABELS, times),
     }
+}
+
+/// The same of those that cost more.
+pub(crate) fn late_coloured(
+    alloc: Global,
+    problem: &Problem,
+    times: u8,
+) -> Result<Option<Coloured>, NoMemory>
+    ensures { IfOk result (λ found. IfSome found (IsColoured times problem.now)) }
+{
     if let Some(coloured) = shortened_way(alloc, problem, Side::Active, times)? {
         return Ok(Some(coloured));
     }
-    if let Some(coloured) = counted_way(alloc, problem, Side::Passive, times)? {
+    if let Some(coloured) = counted_way(alloc, problem, Side::Active, LATE_LABELS, times)? {
         return Ok(Some(coloured));
     }
     shortened_way(alloc, problem, Side::Passive, times)

@@ -1,15 +1,17 @@
 //! The lines of an answer given an input problem.
 ghost use Rattle.re_frame.specs.Outcomes.{outcome_of};
-ghost use Rattle.re_settle.specs.GivenAnswers.{given_lines, law_line, settled_given_outcome, settled_given_text};
+ghost use Rattle.re_settle.specs.GivenAnswers.{given_lines, given_text_of, law_line, settled_given_outcome, settled_given_text};
 ghost use Rattle.re_settle.specs.GivenClaims.{claim_given};
 ghost use Rattle.std.specs.Prelude.{◌≡◌, ◌++◌, IfOk, OnOk};
 
 use crate::given_types::SettledGiven;
 use crate::lines::{is_final, push_claim, push_way, within};
+use crate::notes::push_note;
 use crate::types::Claim;
 use re_describe::push_counted;
 use re_frame::{Output, done, push_words, refused};
 use re_labels::{Names, NoMemory};
+use re_problem::Problem;
 use std::alloc::Global;
 
 /// What is claimed.
@@ -61,32 +63,42 @@ fn push_lines(text: &mut Vec<u8>, names: &Names, settled: SettledGiven) -> Resul
     }
 }
 
-// The text of what is known of a problem with these names, whose passive nodes have this degree.
+// What algorithms have besides, behind a claim: that input.
+fn given_text_of(claim: Claim) -> &'static str
+    ensures { result.now ≡ given_text_of claim }
+{
+    match claim {
+        Claim::Never => "and that input alone\n",
+        _ => " given that input\n",
+    }
+}
+
+// The text of what is known of the problem.
 fn settled_text(
     alloc: Global,
-    names: &Names,
-    passive: u8,
+    problem: &Problem,
     settled: SettledGiven,
 ) -> Result<Vec<u8>, NoMemory>
-    ensures { IfOk result (λ text. text.items ≡ settled_given_text names.now passive settled) }
+    ensures { IfOk result (λ text. text.items ≡ settled_given_text problem.now settled) }
 {
     let mut text = Vec::new(alloc);
-    push_claim(&mut text, passive, claim_given(settled))?;
-    push_words(&mut text, " given that input\n")?;
-    push_lines(&mut text, names, settled)?;
+    let claim = claim_given(settled);
+    push_claim(&mut text, problem.passive().degree(), claim)?;
+    push_words(&mut text, given_text_of(claim))?;
+    push_lines(&mut text, problem.names(), settled)?;
+    push_note(&mut text, problem)?;
     Ok(text)
 }
 
-/// The output for what is known of a problem with these names, whose passive nodes have this degree, given an input problem.
+/// The output for what is known of the problem given an input problem.
 pub(crate) fn settled_output(
     alloc: Global,
-    names: &Names,
-    passive: u8,
+    problem: &Problem,
     settled: SettledGiven,
 ) -> Result<Output, NoMemory>
-    ensures { IfOk result (λ output. outcome_of output ≡ settled_given_outcome names.now passive settled) }
+    ensures { IfOk result (λ output. outcome_of output ≡ settled_given_outcome problem.now settled) }
 {
-    let text = settled_text(alloc, names, passive, settled)?;
+    let text = settled_text(alloc, problem, settled)?;
     if is_final(claim_given(settled)) {
         Ok(done(text))
     } else {

@@ -1,32 +1,37 @@
 //! How many rounds a problem takes with port numbers alone, and its class with unique identifiers, also on finite forests, as far as its levels of
-//! labels and searches with fixed limits tell, and the words whose answers show it.
+//! labels and searches with fixed limits tell, and the words whose answers show it. What shows the claim is one thing, what shows more of the class
+//! another. The labels that trimming takes away are named.
 //!
-//! **Levels of labels** come before any search. Where trimming leaves no label, there is no solution, and nothing else is said. Where there is one
-//! level alone, the problem takes the order of N rounds with N identifiers, so no number is enough with port numbers alone, and nothing else is
-//! tried. Else the searches tell what they tell, and where a set of labels is flexible it adds a bound above on finite forests: the order of log N,
-//! or of log* N where both degrees are 2. Where none is, and a degree is 2, what the literature says of so many levels stands in a line of its own.
+//! **Levels of labels** come before any search. Where trimming leaves no label, there is no solution, and nothing else is said. Where no set of labels
+//! is flexible, no number of rounds is enough with port numbers alone, and with N identifiers the order of log N is a bound below; where there is one
+//! level alone, the problem takes the order of N; and nothing else is tried. Where a degree is 2, what the literature says of more levels stands in a
+//! line of its own. Where a set of labels is flexible the searches tell what they tell, and it adds a bound above on finite forests: the order of log
+//! N, or of log* N where both degrees are 2.
 //!
-//! **Order.** Cheap ways of all kinds come first; each has a bound on its work, which is none on its time: so the answer is the same on every
-//! machine. What is said of N is multiplied by N in `settle N`.
+//! **Order.** Cheap ways of all kinds come first, whatever the problem's size; each way has a bound on its work, which is none on its time: so the
+//! answer is the same on every machine. What is said of N is multiplied by N in `settle N`. The claim is settled by the first of these:
 //!
 //! 1. Whether the problem is solvable without communication.
-//! 2. Its number of rounds, where this is at most `MAX_ROUNDS` and no step on the way passes a limit, or one does and the problem before it, or
+//! 2. A fixed point of at most 4 steps without merges; one behind one of the first 16 N relaxations; a graph of at most 4 active nodes without a
+//!    solution.
+//! 3. Its number of rounds, where this is at most `MAX_ROUNDS` and no step on the way passes a limit, or one does and the problem before it, or
 //!    the one before that, tells of one round more, or two.
-//! 3. A fixed point of at most 4 steps without merges; of a problem of at most 32 N configurations the fixed point of its closure, and one behind
-//!    one of the first 16 N relaxations.
-//! 4. A graph of at most 4 active nodes without a solution, or one of at most 64 that gadgets make in 1,000,000 N steps, 50,000,000 at most. Where
-//!    there is one: whether some number of rounds, at most 8, is enough given few colours of nodes, by problems of at most 64 labels; of a problem of
-//!    at most 8 N configurations what `shortest` finds given them, with 8 steps and 8 more for each doubling of N, and the labels that it has
-//!    below; and both given few colours of edges. Where one of these finds something, nothing more is tried.
-//! 5. Behind a graph too, a fixed point: of the closure of the problem; of that behind 1 or 2 steps, where the closures before are solvable
-//!    without communication and the problems have at most 16 labels and 64 N configurations; where the problem has at most 8 labels, of the
-//!    closure behind a merge of two of them in the problem itself, with the same bounds; of the closure with a diagram of one edge, of at most
-//!    8 labels and 32 N configurations; behind one of the first 200 N relaxations; of at most 8 steps with at most 1 merge in each, among the
-//!    first 300 N problems, where the first four derived problems have at most 40 N configurations each.
-//! 6. Where there is no graph, two bounds. The longest one of the rounds that were counted, of the steps behind it and of what `longest` finds, with
-//!    8 steps and 8 more for each doubling of N, to problems of 12 labels in degrees up to 3, 8 in degree 4, 6 in degree 5 and 5 in degree 6,
-//!    and 4, 2, 1 and 1 more for each doubling. In degrees 5 and 2, of at most 8 N configurations, what `shortest 6 20` finds. Else what
-//!    `shortest` finds, with 12 steps and 8 more for each doubling, to 8, 6, 4 and 4 labels, and 4, 2, 1 and 1 more for each doubling.
+//! 4. A fixed point: of the closure of the problem; of that behind 1 or 2 steps, where the closures before are solvable without communication and the
+//!    problems have at most 16 labels and 64 N configurations; behind one of the first 200 N relaxations; where the problem has at most 8 labels, of
+//!    the closure behind a merge of two of them in the problem itself, with the same bounds; of the closure with a diagram of one edge, of at most
+//!    8 labels and 32 N configurations; of at most 8 steps with at most 1 merge in each, among the first 300 N problems, where the first four
+//!    derived problems have at most 40 N configurations each.
+//! 5. A graph without a solution of at most 64 active nodes that gadgets make in 1,000,000 N steps, 50,000,000 at most.
+//! 6. Two bounds. The longest one of the rounds that were counted, of the steps behind it and of what `longest` finds, with 8 steps and 8 more for
+//!    each doubling of N, to problems of 12 labels in degrees up to 3, 8 in degree 4, 6 in degree 5 and 5 in degree 6, and 4, 2, 1 and 1 more for each
+//!    doubling. In degrees 5 and 2, of at most 8 N configurations, what `shortest 6 20` finds. Else what `shortest` finds, with 12 steps and 8 more for
+//!    each doubling, to 8, 6, 4 and 4 labels, and 4, 2, 1 and 1 more for each doubling.
+//!
+//! Where a graph settles it, and the degrees aren't both 2, more is found of the class by the first of these: whether the problem, or one of the two
+//! derived ones behind it, is greedy, as `explore greedy` finds; whether some number of rounds, at most 8, is enough given few colours of nodes, by problems of at most 16 labels, or of edges, by problems of at most 8; behind a graph of at most 4 nodes
+//! the fixed points of 4; of a problem of at most 8 N configurations what `shortest` finds given few colours of nodes, with 8 steps and 8 more for each
+//! doubling of N, and the labels that it has above; that number of rounds given them by problems of at most 24 labels; what `shortest` finds given few
+//! colours of edges, where that input problem has at most 64 N configurations.
 //!
 //! What is found is accepted by `check`, and its text is no longer than one that is read; or it is a count of rounds, or a graph without a
 //! solution. Where a text is too long, the way counts as one that finds nothing; for an upper bound without labels left out one with few labels
@@ -66,12 +71,14 @@ mod classifying;
 mod coloured;
 mod counting;
 mod counting_given;
+mod finders;
 mod given_lines;
 mod given_types;
 mod lines;
 mod measures;
 mod never;
 mod never_given;
+mod notes;
 mod settling;
 mod settling_given;
 mod texts;
@@ -94,12 +101,14 @@ pub use never::{CYCLE_NODES, CYCLE_SIZE, CYCLE_STEPS, GADGET_STEPS, grows_little
 pub use settling_given::settle_given;
 pub use texts::{has_given_text, has_text};
 pub use types::{
-    Claim, Class, Classified, Coloured, ColouredWay, Least, Most, Order, Settled, Shown, Way,
+    Claim, Class, Classified, Coloured, ColouredWay, Further, Least, Most, Order, Settled, Shown,
+    Way,
 };
 pub use words::{MAX_TIMES, SettleWord, settle_help, settle_word};
 
 /// What a claim in hops says in rounds of the graph whose edges the passive nodes are, two hops each: a problem that takes exactly k hops takes
-/// exactly the half of k, rounded up; what isn't solvable in k or fewer hops isn't in the half of k or fewer, rounded down.
+/// exactly the half of k, rounded up; what isn't solvable in k or fewer hops isn't in the half of k or fewer, rounded down. So it is with port numbers
+/// alone, and given an input problem.
 pub fn graph_rounds_law()
     ensures { GraphRoundsLaw }
 {}

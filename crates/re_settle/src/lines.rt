@@ -1,21 +1,23 @@
 //! The lines of an answer.
 ghost use Rattle.re_frame.specs.Outcomes.{outcome_of};
-ghost use Rattle.re_printing.specs.SetTexts.{named_text};
+ghost use Rattle.re_describe.specs.GraphRounds.{rounds_above, rounds_below};
 ghost use Rattle.re_settle.specs.Answers.{settled_outcome};
 ghost use Rattle.re_settle.specs.Claims.{claim_of, is_final, within};
-ghost use Rattle.re_settle.specs.Classes.{bounded_class, class_of};
-ghost use Rattle.re_settle.specs.Lines.{above_line, bound_lines, bounds_text, claim_text, class_lines, class_text, classes_text, coloured_line, coloured_words, colours_text, first_text, flexible_line, graph_part, least_text, length_lines, most_text, number_texts, order_text, rounds_text, settled_text, shows_lines, way_line, way_lines, way_numbers, way_rest, way_words};
+ghost use Rattle.re_settle.specs.Classes.{bounded_class, class_of, least_of, never_class};
+ghost use Rattle.re_settle.specs.Lines.{above_line, alone_text, bound_lines, bounds_text, claim_lines, claim_text, class_lines, class_text, classes_text, coloured_line, coloured_words, colours_text, first_text, further_lines, graph_part, least_text, length_lines, most_text, number_texts, order_text, rounds_text, settled_text, shows_lines, way_line, way_lines, way_numbers, way_rest, way_words};
 ghost use Rattle.std.specs.Fmt.{decimal};
-ghost use Rattle.std.specs.Prelude.{◌≡◌, ◌++◌, ◌∷◌, [], IfOk, OnOk, Some};
+ghost use Rattle.std.specs.Prelude.{◌≡◌, ◌++◌, ◌∷◌, [], IfOk, OnOk, Some, codes};
 
+use crate::notes::push_note;
 use crate::types::{
-    Claim, Class, Classified, Coloured, ColouredWay, Least, Most, Order, Settled, Way,
+    Claim, Class, Classified, Coloured, ColouredWay, Further, Least, Most, Order, Settled, Way,
 };
 use arrayvec::ArrayVec;
 use re_describe::push_counted;
+use re_forest_words::push_name;
 use re_frame::{Output, done, push_number, push_words, refused};
 use re_labels::{Names, NoMemory, Side};
-use re_problem::push_label;
+use re_problem::Problem;
 use std::alloc::Global;
 
 /// The claim of more than the first number of rounds and at most the second.
@@ -34,10 +36,8 @@ fn claim_of(settled: Settled) -> Claim
     ensures { result ≡ claim_of settled }
 {
     match settled {
-        Settled::Unsolvable | Settled::Linear => Claim::Never,
-        Settled::AtOnce => Claim::Exactly(0),
+        Settled::Unsolvable | Settled::Never(_) => Claim::Never,
         Settled::Exactly(shown) => Claim::Exactly(shown.rounds),
-        Settled::FixedPoint(_) | Settled::Excluded(..) => Claim::Never,
         Settled::Within(more, None) => Claim::MoreThan(more.rounds),
         Settled::Within(more, Some(most)) => within(more.rounds, most.rounds),
     }
@@ -50,47 +50,81 @@ pub fn is_final(claim: Claim) -> bool
     matches!(claim, Claim::Exactly(_) | Claim::Never)
 }
 
-// Appends the rounds of the graph, where the passive nodes have two neighbours.
-fn push_graph(text: &mut Vec<u8>, passive: u8, rounds: usize) -> Result<(), NoMemory>
-    ensures { OnOk result (text.new.items ≡ text.old.items ++ graph_part passive rounds) }
+// Appends the rounds of the graph behind the words, where the passive nodes have two neighbours.
+fn push_graph(text: &mut Vec<u8>, words: &str, passive: u8, rounds: usize) -> Result<(), NoMemory>
+    ensures { OnOk result (text.new.items ≡ text.old.items ++ graph_part words.now passive rounds) }
 {
     if passive != 2 {
         return push_words(text, "");
     }
     let alloc = *text.allocator();
     push_words(text, " (")?;
+    push_words(text, words)?;
     push_number(alloc, text, rounds)?;
     push_words(text, " rounds of the graph)")
 }
 
-// Appends the words, a number of rounds, and these as rounds of the graph.
+// Appends a number of hops behind the words, and rounds of the graph behind others.
 fn push_rounds(
     text: &mut Vec<u8>,
     words: &str,
     hops: u8,
+    graph: &str,
     passive: u8,
     rounds: usize,
 ) -> Result<(), NoMemory>
-    ensures { OnOk result (text.new.items ≡ text.old.items ++ (words.now ++ (decimal hops ++ graph_part passive rounds))) }
+    ensures { OnOk result (text.new.items ≡ text.old.items ++ (words.now ++ (decimal hops ++ graph_part graph.now passive rounds))) }
 {
     let alloc = *text.allocator();
     push_words(text, words)?;
     push_number(alloc, text, hops as usize)?;
-    push_graph(text, passive, rounds)
+    push_graph(text, graph, passive, rounds)
 }
 
-/// Appends a claim on a problem whose passive nodes have this degree.
+// Appends a bound below.
+fn push_more(text: &mut Vec<u8>, hops: u8, passive: u8) -> Result<(), NoMemory>
+    ensures { OnOk result (text.new.items ≡ text.old.items ++ (codes "more than " ++ (decimal hops ++ graph_part (codes "more than ") passive (rounds_below hops)))) }
+{
+    push_rounds(
+        text,
+        "more than ",
+        hops,
+        "more than ",
+        passive,
+        hops as usize / 2,
+    )
+}
+
+// Appends a bound above, behind the words.
+fn push_most(text: &mut Vec<u8>, words: &str, hops: u8, passive: u8) -> Result<(), NoMemory>
+    ensures { OnOk result (text.new.items ≡ text.old.items ++ (words.now ++ (decimal hops ++ graph_part (codes "at most ") passive (rounds_above hops)))) }
+{
+    push_rounds(
+        text,
+        words,
+        hops,
+        "at most ",
+        passive,
+        (hops as usize + 1) / 2,
+    )
+}
+
+/// Appends a claim on a problem whose passive nodes have this degree. Behind that of no number of rounds stand port numbers, and something behind
+/// them.
 pub fn push_claim(text: &mut Vec<u8>, passive: u8, claim: Claim) -> Result<(), NoMemory>
     ensures { OnOk result (text.new.items ≡ text.old.items ++ claim_text passive claim) }
 {
     match claim {
-        Claim::Exactly(k) => push_rounds(text, "exactly ", k, passive, (k as usize + 1) / 2),
-        Claim::Never => push_words(text, "not solvable in any number of rounds"),
-        Claim::MoreThan(k) => push_rounds(text, "more than ", k, passive, k as usize / 2),
-        Claim::AtMost(m) => push_rounds(text, "at most ", m, passive, (m as usize + 1) / 2),
+        Claim::Exactly(k) => push_rounds(text, "exactly ", k, "", passive, (k as usize + 1) / 2),
+        Claim::Never => push_words(
+            text,
+            "not solvable in any number of rounds with port numbers ",
+        ),
+        Claim::MoreThan(k) => push_more(text, k, passive),
+        Claim::AtMost(m) => push_most(text, "at most ", m, passive),
         Claim::Between(k, m) => {
-            push_rounds(text, "more than ", k, passive, k as usize / 2)?;
-            push_rounds(text, ", at most ", m, passive, (m as usize + 1) / 2)
+            push_more(text, k, passive)?;
+            push_most(text, ", at most ", m, passive)
         }
     }
 }
@@ -101,6 +135,7 @@ fn way_words(way: Way) -> &'static str
 {
     match way {
         Way::Zero => "re zero",
+        Way::Flexible => "explore flexible",
         Way::Lower(..) => "re lower",
         Way::Upper(..) => "re upper",
         Way::Fixed(..) => "re fixed",
@@ -139,7 +174,8 @@ fn way_numbers(way: Way) -> ArrayVec<u32, 3>
     ensures { result.items ≡ way_numbers way }
 {
     match way {
-        Way::Zero | Way::Closure(0) | Way::Raised(..) | Way::Merge(..) => ArrayVec::new(),
+        Way::Zero | Way::Flexible => ArrayVec::new(),
+        Way::Closure(0) | Way::Raised(..) | Way::Merge(..) => ArrayVec::new(),
         Way::Closure(steps) => one(u32::from(steps)),
         Way::Cover(nodes) => one(u32::from(nodes)),
         Way::Relaxed(nodes) => one(nodes),
@@ -168,17 +204,6 @@ fn push_numbers(text: &mut Vec<u8>, numbers: &[u32]) -> Result<(), NoMemory>
     push_words(text, " ")?;
     push_number(alloc, text, *number as usize)?;
     push_numbers(text, others)
-}
-
-// Appends the name of a label, or empty parentheses where there is none.
-fn push_name(text: &mut Vec<u8>, names: &Names, label: u8) -> Result<(), NoMemory>
-    ensures { OnOk result (text.new.items ≡ text.old.items ++ named_text names.now label) }
-{
-    if (label as usize) < names.len() {
-        push_label(text, names.name(label))
-    } else {
-        push_words(text, "()")
-    }
 }
 
 // Appends the labels of a merge and the words that read what it gives, or the edge of a diagram.
@@ -215,6 +240,16 @@ pub fn push_way(text: &mut Vec<u8>, names: &Names, way: Way) -> Result<(), NoMem
     push_words(text, "\n")
 }
 
+// What algorithms have besides, behind a claim: nothing.
+fn alone_text(claim: Claim) -> &'static str
+    ensures { result.now ≡ alone_text claim }
+{
+    match claim {
+        Claim::Never => "alone\n",
+        _ => "\n",
+    }
+}
+
 // Appends the first line: that there is no solution, or the claim.
 fn push_first(text: &mut Vec<u8>, passive: u8, settled: Settled) -> Result<(), NoMemory>
     ensures { OnOk result (text.new.items ≡ text.old.items ++ first_text passive settled) }
@@ -222,17 +257,11 @@ fn push_first(text: &mut Vec<u8>, passive: u8, settled: Settled) -> Result<(), N
     match settled {
         Settled::Unsolvable => push_words(text, "no solution\n"),
         other => {
-            push_claim(text, passive, claim_of(other))?;
-            push_words(text, "\n")
+            let claim = claim_of(other);
+            push_claim(text, passive, claim)?;
+            push_words(text, alone_text(claim))
         }
     }
-}
-
-// Appends the line of the word that decides whether a set of labels is flexible.
-fn push_flexible(text: &mut Vec<u8>) -> Result<(), NoMemory>
-    ensures { OnOk result (text.new.items ≡ text.old.items ++ flexible_line) }
-{
-    push_words(text, "by: explore flexible\n")
 }
 
 // Appends the lines of the words that show what is known.
@@ -240,10 +269,9 @@ fn push_ways(text: &mut Vec<u8>, names: &Names, settled: Settled) -> Result<(), 
     ensures { OnOk result (text.new.items ≡ text.old.items ++ way_lines names.now settled) }
 {
     match settled {
-        Settled::Unsolvable | Settled::Linear => push_flexible(text),
-        Settled::AtOnce => push_way(text, names, Way::Zero),
+        Settled::Unsolvable => push_way(text, names, Way::Flexible),
         Settled::Exactly(shown) => push_way(text, names, shown.way),
-        Settled::FixedPoint(way) | Settled::Excluded(way, _) => push_way(text, names, way),
+        Settled::Never(way) => push_way(text, names, way),
         Settled::Within(more, None) => push_way(text, names, more.way),
         Settled::Within(more, Some(most)) => {
             push_way(text, names, more.way)?;
@@ -263,18 +291,36 @@ fn bounded_class(least: Least, above: Option<Most>) -> Class
     }
 }
 
+// The bound below of what no number of rounds solves by these words.
+pub(crate) fn least_of(way: Way) -> Least
+    ensures { result ≡ least_of way }
+{
+    match way {
+        Way::Cover(_) => Least::LogStar,
+        _ => Least::Log,
+    }
+}
+
+// The class of what no number of rounds solves by these words, where so much is found besides.
+fn never_class(way: Way, further: Further, above: Option<Most>) -> Class
+    ensures { result ≡ never_class way further above }
+{
+    match further {
+        Further::Nothing => bounded_class(least_of(way), above),
+        Further::Linear => Class::Order(Order::Linear),
+        Further::FewColours(_) | Further::Greedy => Class::Order(Order::LogStar),
+        Further::FixedPoint(_) => bounded_class(Least::Log, above),
+    }
+}
+
 // The class, where at most so many rounds are known to be enough.
-fn class_of(settled: Settled, above: Option<Most>) -> Class
-    ensures { result ≡ class_of settled above }
+fn class_of(settled: Settled, further: Further, above: Option<Most>) -> Class
+    ensures { result ≡ class_of settled further above }
 {
     match settled {
         Settled::Unsolvable => Class::NoSolution,
-        Settled::Linear => Class::Order(Order::Linear),
-        Settled::AtOnce => Class::Constant(Claim::Exactly(0)),
         Settled::Exactly(shown) => Class::Constant(Claim::Exactly(shown.rounds)),
-        Settled::FixedPoint(_) => bounded_class(Least::Log, above),
-        Settled::Excluded(_, None) => bounded_class(Least::LogStar, above),
-        Settled::Excluded(_, Some(_)) => Class::Order(Order::LogStar),
+        Settled::Never(way) => never_class(way, further, above),
         Settled::Within(more, None) => bounded_class(Least::MoreThan(more.rounds), above),
         Settled::Within(more, Some(most)) => Class::Constant(within(more.rounds, most.rounds)),
     }
@@ -391,30 +437,30 @@ fn push_coloured(text: &mut Vec<u8>, coloured: Coloured) -> Result<(), NoMemory>
 }
 
 // Appends the line of the word that finds a flexible set, where one gives a bound above.
-fn push_above(text: &mut Vec<u8>, above: Option<Most>) -> Result<(), NoMemory>
-    ensures { OnOk result (text.new.items ≡ text.old.items ++ above_line above) }
+fn push_above(text: &mut Vec<u8>, names: &Names, above: Option<Most>) -> Result<(), NoMemory>
+    ensures { OnOk result (text.new.items ≡ text.old.items ++ above_line names.now above) }
 {
     match above {
-        Some(_) => push_flexible(text),
+        Some(_) => push_way(text, names, Way::Flexible),
         None => push_words(text, ""),
     }
 }
 
 // Appends what the literature says of a problem with so many levels of labels, and the line of the word that counts them.
-fn push_literature(text: &mut Vec<u8>, count: u8) -> Result<(), NoMemory>
-    ensures { OnOk result (text.new.items ≡ text.old.items ++ length_lines (Some count)) }
+fn push_literature(text: &mut Vec<u8>, names: &Names, count: u8) -> Result<(), NoMemory>
+    ensures { OnOk result (text.new.items ≡ text.old.items ++ length_lines names.now (Some count)) }
 {
     push_counted(text, "literature: order N^(1/", count)?;
     push_words(text, ")\n")?;
-    push_flexible(text)
+    push_way(text, names, Way::Flexible)
 }
 
 // Appends it, where the literature says something.
-fn push_length(text: &mut Vec<u8>, length: Option<u8>) -> Result<(), NoMemory>
-    ensures { OnOk result (text.new.items ≡ text.old.items ++ length_lines length) }
+fn push_length(text: &mut Vec<u8>, names: &Names, length: Option<u8>) -> Result<(), NoMemory>
+    ensures { OnOk result (text.new.items ≡ text.old.items ++ length_lines names.now length) }
 {
     match length {
-        Some(count) => push_literature(text, count),
+        Some(count) => push_literature(text, names, count),
         None => push_words(text, ""),
     }
 }
@@ -422,74 +468,116 @@ fn push_length(text: &mut Vec<u8>, length: Option<u8>) -> Result<(), NoMemory>
 // Appends the lines of what a flexible set, or the number of levels, adds to a bound below.
 fn push_bound_lines(
     text: &mut Vec<u8>,
+    names: &Names,
     above: Option<Most>,
     length: Option<u8>,
 ) -> Result<(), NoMemory>
-    ensures { OnOk result (text.new.items ≡ text.old.items ++ bound_lines above length) }
+    ensures { OnOk result (text.new.items ≡ text.old.items ++ bound_lines names.now above length) }
 {
-    push_above(text, above)?;
-    push_length(text, length)
+    push_above(text, names, above)?;
+    push_length(text, names, length)
+}
+
+// Appends the lines of the words that show the class of what no number of rounds solves, where these aren't those that show this.
+fn push_further(
+    text: &mut Vec<u8>,
+    names: &Names,
+    further: Further,
+    above: Option<Most>,
+    length: Option<u8>,
+) -> Result<(), NoMemory>
+    ensures { OnOk result (text.new.items ≡ text.old.items ++ further_lines names.now further above length) }
+{
+    match further {
+        Further::Nothing => push_bound_lines(text, names, above, length),
+        Further::Linear => push_words(text, ""),
+        Further::FewColours(coloured) => push_coloured(text, coloured),
+        Further::Greedy => push_words(text, "by: explore greedy\n"),
+        Further::FixedPoint(way) => {
+            push_way(text, names, way)?;
+            push_bound_lines(text, names, above, length)
+        }
+    }
 }
 
 // Appends the lines of the words that show the class, where these aren't those that show the claim.
-fn push_shows(text: &mut Vec<u8>, classified: Classified) -> Result<(), NoMemory>
-    ensures { OnOk result (text.new.items ≡ text.old.items ++ shows_lines classified.settled classified.above classified.length) }
+fn push_shows(text: &mut Vec<u8>, names: &Names, classified: Classified) -> Result<(), NoMemory>
+    ensures { OnOk result (text.new.items ≡ text.old.items ++ shows_lines names.now classified.settled classified.further classified.above classified.length) }
 {
     match classified.settled {
-        Settled::Excluded(_, Some(coloured)) => push_coloured(text, coloured),
-        Settled::FixedPoint(_) | Settled::Excluded(_, None) | Settled::Within(_, None) => {
-            push_bound_lines(text, classified.above, classified.length)
+        Settled::Never(_) => push_further(
+            text,
+            names,
+            classified.further,
+            classified.above,
+            classified.length,
+        ),
+        Settled::Within(_, None) => {
+            push_bound_lines(text, names, classified.above, classified.length)
         }
         _ => push_words(text, ""),
     }
 }
 
 // Appends the lines on unique identifiers.
-fn push_class_lines(text: &mut Vec<u8>, classified: Classified) -> Result<(), NoMemory>
-    ensures { OnOk result (text.new.items ≡ text.old.items ++ class_lines classified) }
+fn push_class_lines(
+    text: &mut Vec<u8>,
+    names: &Names,
+    classified: Classified,
+) -> Result<(), NoMemory>
+    ensures { OnOk result (text.new.items ≡ text.old.items ++ class_lines names.now classified) }
 {
     push_words(text, "with identifiers: ")?;
-    push_class(text, class_of(classified.settled, classified.above))?;
+    push_class(
+        text,
+        class_of(classified.settled, classified.further, classified.above),
+    )?;
     push_words(text, "\n")?;
-    push_shows(text, classified)
+    push_shows(text, names, classified)
 }
 
 // Appends them, where there is a solution.
-fn push_classes(text: &mut Vec<u8>, classified: Classified) -> Result<(), NoMemory>
-    ensures { OnOk result (text.new.items ≡ text.old.items ++ classes_text classified) }
+fn push_classes(text: &mut Vec<u8>, names: &Names, classified: Classified) -> Result<(), NoMemory>
+    ensures { OnOk result (text.new.items ≡ text.old.items ++ classes_text names.now classified) }
 {
     match classified.settled {
         Settled::Unsolvable => push_words(text, ""),
-        _ => push_class_lines(text, classified),
+        _ => push_class_lines(text, names, classified),
     }
 }
 
-// The text of what is known of a problem with these names, whose passive nodes have this degree.
+// Appends what is claimed of the problem, and the lines of the words that show it.
+fn push_claim_lines(text: &mut Vec<u8>, problem: &Problem, settled: Settled) -> Result<(), NoMemory>
+    ensures { OnOk result (text.new.items ≡ text.old.items ++ claim_lines problem.now settled) }
+{
+    push_first(text, problem.passive().degree(), settled)?;
+    push_ways(text, problem.names(), settled)
+}
+
+// The text of what is known of the problem.
 fn settled_text(
     alloc: Global,
-    names: &Names,
-    passive: u8,
+    problem: &Problem,
     classified: Classified,
 ) -> Result<Vec<u8>, NoMemory>
-    ensures { IfOk result (λ text. text.items ≡ settled_text names.now passive classified) }
+    ensures { IfOk result (λ text. text.items ≡ settled_text problem.now classified) }
 {
     let mut text = Vec::new(alloc);
-    push_first(&mut text, passive, classified.settled)?;
-    push_ways(&mut text, names, classified.settled)?;
-    push_classes(&mut text, classified)?;
+    push_claim_lines(&mut text, problem, classified.settled)?;
+    push_classes(&mut text, problem.names(), classified)?;
+    push_note(&mut text, problem)?;
     Ok(text)
 }
 
-/// The output for what is known of a problem with these names, whose passive nodes have this degree.
+/// The output for what is known of the problem.
 pub(crate) fn settled_output(
     alloc: Global,
-    names: &Names,
-    passive: u8,
+    problem: &Problem,
     classified: Classified,
 ) -> Result<Output, NoMemory>
-    ensures { IfOk result (λ output. outcome_of output ≡ settled_outcome names.now passive classified) }
+    ensures { IfOk result (λ output. outcome_of output ≡ settled_outcome problem.now classified) }
 {
-    let text = settled_text(alloc, names, passive, classified)?;
+    let text = settled_text(alloc, problem, classified)?;
     if is_final(claim_of(classified.settled)) {
         Ok(done(text))
     } else {

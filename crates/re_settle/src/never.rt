@@ -2,17 +2,17 @@
 //! that show it.
 ghost use Rattle.re_shaping.specs.Merging.{merge_limit, merge_refusal, merged};
 ghost use Rattle.re_chains.specs.ChainTexts.{problem_chain};
-ghost use Rattle.re_settle.specs.Ways.{ClosesBehind, HasText, IsExcluded, IsFixedPoint, IsTried};
+ghost use Rattle.re_settle.specs.Ways.{ClosesBehind, HasText, IsFixedPoint, IsKnown, IsNever, IsTried};
 ghost use Rattle.std.specs.Prelude.{◌≡◌, ◌<◌, ◌≤◌, IfOk, IfSome, None, length};
 
 use crate::measures::is_small;
 use crate::texts::has_text;
-use crate::types::Way;
+use crate::types::{Claim, Way};
 use re_chains::{LowerChain, over_problems};
 use re_closure::{Closing, ClosureFault, find_closure, find_raised};
 use re_cycle::{Cycle, find_cycle};
-use re_gadgets::{MAX_STEPS, find_gadgets};
-use re_graph::find_cover;
+use re_given_words::Setting;
+use re_graph::{MAX_STEPS, find_cover, find_gadgets};
 use re_labels::NoMemory;
 use re_problem::Problem;
 use re_relaxed::{Relaxed, find_relaxed};
@@ -30,8 +30,8 @@ const MAX_CLOSED: u8 = 16;
 /// Up to how many configurations it has.
 const CLOSED_SIZE: usize = 64;
 
-/// Up to how many configurations a problem has whose closure and relaxations come before dearer ways, and in which diagrams are tried.
-const NEAR_SIZE: usize = 32;
+/// Up to how many configurations a problem has in which diagrams are tried.
+const RAISED_SIZE: usize = 32;
 
 /// Up to how many configurations the first derived problems have of a problem that may come back by merges.
 pub const CYCLE_SIZE: usize = 40;
@@ -200,7 +200,7 @@ fn all_raised_way(
     ensures { IfOk result (λ found. IfSome found (IsFixedPoint times problem.now)) }
 {
     let labels = problem.names().len();
-    if labels > MAX_TRIED as usize || !is_small(problem, NEAR_SIZE, times) {
+    if labels > MAX_TRIED as usize || !is_small(problem, RAISED_SIZE, times) {
         return Ok(None);
     }
     for high in 0..labels as u8 {
@@ -315,35 +315,46 @@ fn merges_way(
     Ok(None)
 }
 
-// A graph that gadgets make. The word that finds it first lists all graphs of at most 8 active nodes.
-fn gadget_way(alloc: Global, problem: &Problem, times: u8) -> Result<Option<Way>, NoMemory>
-    ensures { IfOk result (λ found. IfSome found (IsExcluded times problem.now)) }
+// The words that find a graph without a solution of at most so many active nodes.
+fn graph_way(problem: &Problem, nodes: u8, times: u8) -> Way
+    requires { IsKnown times problem.now Claim.Never (Way.Cover nodes) }
+    ensures { IsNever times problem.now result }
+{
+    let _names = problem.names();
+    let _times = times;
+    Way::Cover(nodes)
+}
+
+/// A graph without a solution that gadgets make. The word that finds it first lists all graphs of at most 8 active nodes.
+pub(crate) fn gadget_way(
+    alloc: Global,
+    problem: &Problem,
+    times: u8,
+) -> Result<Option<Way>, NoMemory>
+    ensures { IfOk result (λ found. IfSome found (IsNever times problem.now)) }
 {
     let steps = GADGET_STEPS.saturating_mul(usize::from(times));
     let steps = steps.min(MAX_STEPS);
     match find_gadgets(alloc, problem, 64, steps)?.graph {
         Some(graph) => {
             if graph.nodes() <= 8 {
-                Ok(Some(Way::Cover(8)))
+                Ok(Some(graph_way(problem, 8, times)))
             } else {
-                Ok(Some(Way::Cover(64)))
+                Ok(Some(graph_way(problem, 64, times)))
             }
         }
         None => Ok(None),
     }
 }
 
-/// A graph without a solution: of at most 4 active nodes, or one that gadgets make.
-pub(crate) fn cover_way(
-    alloc: Global,
-    problem: &Problem,
-    times: u8,
-) -> Result<Option<Way>, NoMemory>
-    ensures { IfOk result (λ found. IfSome found (IsExcluded times problem.now)) }
+// A graph of at most 4 active nodes without a solution.
+fn cover_way(alloc: Global, problem: &Problem, times: u8) -> Result<Option<Way>, NoMemory>
+    ensures { IfOk result (λ found. IfSome found (IsNever times problem.now)) }
 {
+    let _times = times;
     match find_cover(alloc, problem, 4)?.graph {
-        Some(_) => Ok(Some(Way::Cover(4))),
-        None => gadget_way(alloc, problem, times),
+        Some(_) => Ok(Some(graph_way(problem, 4, times))),
+        None => Ok(None),
     }
 }
 
@@ -385,7 +396,7 @@ fn cycle_way(
         return Ok(None);
     }
     let nodes = CYCLE_NODES * u32::from(times);
-    let Cycle::Found(certificate) = find_cycle(alloc, &chain.certificate, 8, 1, nodes)? else {
+    let Cycle::Found(certificate) = find_cycle(alloc, &Setting::Alone, chain, 8, 1, nodes)? else {
         return Ok(None);
     };
     let has = has_text(alloc, &certificate)?;
@@ -421,8 +432,8 @@ fn relaxed_way(
     }
 }
 
-/// The first words that show a fixed point of the problem, whose chain is given too, of those that cost little.
-pub(crate) fn near_way(
+// The first words that show a fixed point of the problem, whose chain is given too, of those that cost little, whatever its size.
+fn near_way(
     alloc: Global,
     problem: &Problem,
     chain: &LowerChain,
@@ -435,17 +446,28 @@ pub(crate) fn near_way(
     if let Some(way) = fixed_way(alloc, problem, times)? {
         return Ok(Some(way));
     }
-    if !is_small(problem, NEAR_SIZE, times) {
-        return Ok(None);
-    }
-    if let Some(way) = closure_way(alloc, problem, chain, 0, times)? {
-        return Ok(Some(way));
-    }
     let nodes = NEAR_RELAXED * u32::from(times);
     relaxed_way(alloc, problem, chain, nodes, times)
 }
 
-/// The same of those that cost more.
+/// The first words that show that no number of rounds solves the problem, whose chain is given too, of those that cost little, whatever its size.
+pub(crate) fn soon_way(
+    alloc: Global,
+    problem: &Problem,
+    chain: &LowerChain,
+    times: u8,
+) -> Result<Option<Way>, NoMemory>
+    requires chain { chain.now.certificate ≡ problem_chain problem.now }
+    requires times { times ≤ 64 }
+    ensures { IfOk result (λ found. IfSome found (IsNever times problem.now)) }
+{
+    match near_way(alloc, problem, chain, times)? {
+        Some(way) => Ok(Some(way)),
+        None => cover_way(alloc, problem, times),
+    }
+}
+
+/// The first words that show a fixed point of the problem, whose chain is given too, of those that cost more.
 pub(crate) fn far_way(
     alloc: Global,
     problem: &Problem,
@@ -459,14 +481,14 @@ pub(crate) fn far_way(
     if let Some(way) = closure_way(alloc, problem, chain, 2, times)? {
         return Ok(Some(way));
     }
+    let nodes = FAR_RELAXED * u32::from(times);
+    if let Some(way) = relaxed_way(alloc, problem, chain, nodes, times)? {
+        return Ok(Some(way));
+    }
     if let Some(way) = merges_way(alloc, problem, chain, times)? {
         return Ok(Some(way));
     }
     if let Some(way) = all_raised_way(alloc, problem, chain, times)? {
-        return Ok(Some(way));
-    }
-    let nodes = FAR_RELAXED * u32::from(times);
-    if let Some(way) = relaxed_way(alloc, problem, chain, nodes, times)? {
         return Ok(Some(way));
     }
     cycle_way(alloc, problem, chain, times)

@@ -7,16 +7,15 @@ ghost use Rattle.re_settle.specs.Ways.{HasText};
 ghost use Rattle.re_settle.specs.GivenWays.{HasGivenText, IsKnownGiven};
 ghost use Rattle.std.specs.Prelude.{◌≡◌, ◌≤◌, IfOk, IfSome, true};
 
+use crate::finders::{cycle_given, is_accepted};
 use crate::never::{CYCLE_NODES, CYCLE_SIZE, CYCLE_STEPS, GADGET_STEPS, grows_little};
 use crate::texts::{has_given_text, has_text};
 use crate::types::{Claim, Shown, Way};
 use re_cert::Certificate;
 use re_chains::LowerChain;
 use re_closure::{Closing, ClosureFault, find_closure};
-use re_cycle::{Cycle, find_cycle_given};
-use re_gadgets::{MAX_STEPS, find_gadgets_given};
-use re_given_words::is_accepted;
-use re_graph::find_cover_given;
+use re_cycle::Cycle;
+use re_graph::{MAX_STEPS, find_cover_given, find_gadgets_given};
 use re_labels::NoMemory;
 use re_problem::Problem;
 use std::alloc::Global;
@@ -83,8 +82,7 @@ fn cycle_way(
         return Ok(None);
     }
     let nodes = CYCLE_NODES * u32::from(times);
-    let Cycle::Found(certificate) = find_cycle_given(alloc, &chain.certificate, input, 8, 1, nodes)?
-    else {
+    let Cycle::Found(certificate) = cycle_given(alloc, chain, input, 8, 1, nodes)? else {
         return Ok(None);
     };
     let has = has_given_text(alloc, &certificate, input)?;

@@ -1,21 +1,40 @@
-//! What the searches find out of a problem.
+//! What the searches find out of how many rounds a problem takes.
 ghost use Rattle.re_given_words.specs.Counting.{MayTell};
 ghost use Rattle.re_chains.specs.ChainTexts.{problem_chain};
 ghost use Rattle.re_problem.specs.NamedProblems.{unnamed};
 ghost use Rattle.re_problem.specs.Zero.{zero_place};
-ghost use Rattle.re_settle.specs.Ways.{IsExcluded, IsFound};
+ghost use Rattle.re_settle.specs.Ways.{IsFixedPoint, IsFound, IsNever, IsUncounted};
 ghost use Rattle.std.specs.Prelude.{◌≡◌, ◌≤◌, IfOk, IfSome, None};
 
 use crate::bounds::{enough, long_way, longer, lower_way, short_way};
-use crate::coloured::coloured_way;
 use crate::counting::{MAX_ROUNDS, counted, more_way, steps_of};
-use crate::never::{cover_way, far_way, near_way};
+use crate::never::{far_way, gadget_way, soon_way};
 use crate::types::{Settled, Shown, Way};
 use re_chains::{LowerChain, problem_chain};
 use re_given_words::Counted;
 use re_labels::NoMemory;
 use re_problem::{Problem, zero_round};
 use std::alloc::Global;
+
+// That no number of rounds is enough.
+fn never(problem: &Problem, way: Way, times: u8) -> Settled
+    requires { IsNever times problem.now way }
+    ensures { IsFound times problem.now result }
+{
+    let _names = problem.names();
+    let _times = times;
+    Settled::Never(way)
+}
+
+// The same by a fixed point.
+fn by_fixed_point(problem: &Problem, way: Way, times: u8) -> Settled
+    requires { IsFixedPoint times problem.now way }
+    ensures { IsFound times problem.now result }
+{
+    let _names = problem.names();
+    let _times = times;
+    Settled::Never(way)
+}
 
 // More than so many rounds, by steps without changes, and one more suffices.
 fn by_steps(
@@ -70,6 +89,7 @@ fn bounded(
     requires chain { chain.now.certificate ≡ problem_chain problem.now }
     requires not_zero { zero_place (unnamed problem.now) ≡ None }
     requires counted { MayTell (unnamed problem.now) None 8 counted }
+    requires uncounted { IsUncounted problem.now }
     ensures { IfOk result (IsFound times problem.now) }
 {
     let _names = problem.names();
@@ -80,7 +100,7 @@ fn bounded(
     Ok(Settled::Within(lower, upper))
 }
 
-// What is known beyond steps without changes, fixed points that cost little and graphs.
+// What is known beyond steps without changes.
 fn searched(
     alloc: Global,
     problem: &Problem,
@@ -91,62 +111,20 @@ fn searched(
     requires chain { chain.now.certificate ≡ problem_chain problem.now }
     requires not_zero { zero_place (unnamed problem.now) ≡ None }
     requires counted { MayTell (unnamed problem.now) None 8 counted }
+    requires uncounted { IsUncounted problem.now }
     requires times { times ≤ 64 }
     ensures { IfOk result (IsFound times problem.now) }
 {
-    match far_way(alloc, problem, chain, times)? {
-        Some(way) => Ok(Settled::FixedPoint(way)),
+    if let Some(way) = far_way(alloc, problem, chain, times)? {
+        return Ok(by_fixed_point(problem, way, times));
+    }
+    match gadget_way(alloc, problem, times)? {
+        Some(way) => Ok(never(problem, way, times)),
         None => bounded(alloc, problem, chain, counted, times),
     }
 }
 
-// What is known where a graph has no solution.
-fn covered(
-    alloc: Global,
-    problem: &Problem,
-    chain: &LowerChain,
-    way: Way,
-    times: u8,
-) -> Result<Settled, NoMemory>
-    requires chain { chain.now.certificate ≡ problem_chain problem.now }
-    requires excluded { IsExcluded times problem.now way }
-    requires times { times ≤ 64 }
-    ensures { IfOk result (IsFound times problem.now) }
-{
-    let _names = problem.names();
-    if let Some(coloured) = coloured_way(alloc, problem, times)? {
-        return Ok(Settled::Excluded(way, Some(coloured)));
-    }
-    match far_way(alloc, problem, chain, times)? {
-        Some(way) => Ok(Settled::FixedPoint(way)),
-        None => Ok(Settled::Excluded(way, None)),
-    }
-}
-
-// What is known beyond steps without changes.
-fn tried(
-    alloc: Global,
-    problem: &Problem,
-    chain: &LowerChain,
-    counted: Counted,
-    times: u8,
-) -> Result<Settled, NoMemory>
-    requires chain { chain.now.certificate ≡ problem_chain problem.now }
-    requires not_zero { zero_place (unnamed problem.now) ≡ None }
-    requires counted { MayTell (unnamed problem.now) None 8 counted }
-    requires times { times ≤ 64 }
-    ensures { IfOk result (IsFound times problem.now) }
-{
-    if let Some(way) = near_way(alloc, problem, chain, times)? {
-        return Ok(Settled::FixedPoint(way));
-    }
-    match cover_way(alloc, problem, times)? {
-        Some(way) => covered(alloc, problem, chain, way, times),
-        None => searched(alloc, problem, chain, counted, times),
-    }
-}
-
-// What is known where the problem isn't solvable without communication.
+// What is known where nothing shows soon that no number of rounds is enough.
 fn settled(
     alloc: Global,
     problem: &Problem,
@@ -158,21 +136,28 @@ fn settled(
     requires times { times ≤ 64 }
     ensures { IfOk result (IsFound times problem.now) }
 {
+    let _names = problem.names();
     match counted(alloc, problem)? {
         Counted::Exactly(rounds) => exact(alloc, problem, rounds, times),
-        other => tried(alloc, problem, chain, other, times),
+        other => searched(alloc, problem, chain, other, times),
     }
 }
 
-/// What the searches find out, where their bounds are taken so many times.
+/// What the searches find out of how many rounds a problem takes, where their bounds are taken so many times.
 pub(crate) fn search(alloc: Global, problem: &Problem, times: u8) -> Result<Settled, NoMemory>
     requires { times ≤ 64 }
     ensures { IfOk result (IsFound times problem.now) }
 {
     let _names = problem.names();
     if let Some(_place) = zero_round(problem) {
-        return Ok(Settled::AtOnce);
+        return Ok(Settled::Exactly(Shown {
+            rounds: 0,
+            way: Way::Zero,
+        }));
     }
     let chain = problem_chain(alloc, problem.copy()?);
-    settled(alloc, problem, &chain, times)
+    match soon_way(alloc, problem, &chain, times)? {
+        Some(way) => Ok(never(problem, way, times)),
+        None => settled(alloc, problem, &chain, times),
+    }
 }

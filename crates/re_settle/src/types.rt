@@ -7,6 +7,9 @@ use re_labels::Side;
 pub enum Way {
     /// `re zero`: it is solvable without communication.
     Zero,
+    /// `explore flexible`: no set of labels is flexible, so that no number of rounds is enough with port numbers alone; or no label is left by
+    /// trimming.
+    Flexible,
     /// `re lower K M`: a lower bound of K steps with at most M merges in each.
     Lower(u8, u8),
     /// `re upper K M`: an upper bound of at most K steps, in each of which at most M labels are left out.
@@ -125,26 +128,37 @@ pub struct Shown {
 pub enum Settled {
     /// It has no solution: trimming leaves no label.
     Unsolvable,
-    /// No number of rounds solves it, and with N identifiers it takes the order of N, since it has one level of labels alone.
-    Linear,
-    /// It is solvable without communication.
-    AtOnce,
     /// It takes exactly so many rounds, as one of the words shows.
     Exactly(Shown),
-    /// No number of rounds solves it, as a fixed point shows.
-    FixedPoint(Way),
-    /// No number of rounds solves it, as a finite graph without a solution shows; and where it is known, some number is enough given a proper
-    /// colouring of one side with one colour more than a node of this side meets others.
-    Excluded(Way, Option<Coloured>),
+    /// No number of rounds solves it, as the words show: a fixed point, a finite graph without a solution, or that no set of labels is flexible.
+    Never(Way),
     /// It takes more than the first number of rounds, and where a second one is known, at most that many.
     Within(Shown, Option<Shown>),
+}
+
+/// What is found of the class of a problem that no number of rounds solves, besides what shows this.
+#[derive(Clone, Copy, Debug, PartialEq, Eq)]
+pub enum Further {
+    /// Nothing.
+    Nothing,
+    /// It takes the order of N, since it has one level of labels alone.
+    Linear,
+    /// It takes the order of log* N: some number of rounds is enough given a proper colouring of one side with one colour more than a node of this
+    /// side meets others.
+    FewColours(Coloured),
+    /// It takes the order of log* N: it, or a problem at most 2 derived ones behind it, is greedy, as `explore greedy` shows.
+    Greedy,
+    /// It takes at least the order of log N, as a fixed point shows.
+    FixedPoint(Way),
 }
 
 /// What is known of a problem, and what its levels of labels add to it.
 #[derive(Clone, Copy, Debug, PartialEq, Eq)]
 pub struct Classified {
-    /// What is known of it.
+    /// What is known of how many rounds it takes.
     pub settled: Settled,
+    /// What is found of its class besides.
+    pub further: Further,
     /// At most how many rounds it takes with identifiers, where a set of its labels is flexible.
     pub above: Option<Most>,
     /// How many levels of labels it has, where no set is flexible and the literature tells the number of rounds by it.

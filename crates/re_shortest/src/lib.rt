@@ -33,7 +33,7 @@
 //! however many steps and labels are wanted.
 //!
 //! **Given an input problem.** The same search, where a solution of an input problem is given. A path ends also at a problem that is told to be
-//! solvable given it, as `re_beams` says, with `FEW_TRIES` tries. Each derived problem that isn't solvable without communication is asked
+//! solvable given it, as `re_beams` says. Each derived problem that isn't solvable without communication is asked
 //! first. Where it is told to be solvable, with a set of its labels for each input label, its labels are left out but those of these sets;
 //! where these are no more than the beam's number, the beam ends. Where they are more, or it isn't known, the candidates that stay and are
 //! made of it are asked, and the first that is told to be solvable ends the beam.
@@ -48,9 +48,7 @@ mod opposites;
 mod pairing;
 mod patterns;
 mod shortening;
-mod shortening_given;
 mod steps;
 mod thinning;
 
 pub use shortening::{Shortest, find_shortest};
-pub use shortening_given::find_shortest_given;

@@ -1,20 +1,17 @@
 //! The certificate of the shortest path.
-ghost use Rattle.re_cert.specs.Bounds.{last_problem};
 ghost use Rattle.re_cert.specs.declared.certificate.Kind.TheVariants.{Upper};
-ghost use Rattle.re_shaping.specs.Extensions.{GoesOn};
-ghost use Rattle.re_shortest.specs.Answers.{AnswersAt};
+ghost use Rattle.re_given_words.specs.Settings.{GoesOnIn, IsSettingOf};
+ghost use Rattle.re_shortest.specs.Answers.{Answers, MayAnswer};
 ghost use Rattle.re_problem.specs.NamedProblems.{unnamed};
-ghost use Rattle.re_problem.specs.Zero.{zero_place};
-ghost use Rattle.std.specs.Prelude.{◌≡◌, [], IfOk, IfSome, None};
+ghost use Rattle.std.specs.Prelude.{IfOk, IfSome};
 
 use crate::beam::{Climb, shortest_path};
 use re_beams::Given;
 use re_cert::{Certificate, Kind, MAX_STEPS, Step};
-use re_chains::{UpperChain, over_problems};
-use re_check::check;
+use re_chains::UpperChain;
+use re_given_words::{Setting, extended_in, is_taken, repeated_in};
 use re_labels::NoMemory;
-use re_problem::zero_round;
-use re_shaping::{Extension, extended};
+use re_shaping::Extension;
 use std::alloc::Global;
 
 /// What the search for an upper bound comes to.
@@ -26,73 +23,44 @@ pub enum Shortest {
     NotFound { nodes: u32, cut: u32 },
 }
 
-/// What makes an upper bound of steps.
-pub(crate) fn upper_with(alloc: Global, steps: Vec<Step>) -> Extension
-    ensures kind { result.kind ≡ Upper }
-    ensures back { result.back ≡ 0 }
-    ensures steps { result.steps ≡ steps }
-    ensures renaming { result.renaming.items ≡ [] }
-{
-    Extension {
-        kind: Kind::Upper,
-        back: 0,
-        steps,
-        renaming: Vec::new(alloc),
-    }
-}
-
-// The chain as it is, where its last problem is solvable without communication.
-fn repeated(
-    alloc: Global,
-    chain: &UpperChain,
-    most: u8,
-    labels: u8,
-) -> Result<Certificate, NoMemory>
-    requires { zero_place (unnamed (last_problem chain.now.certificate)) ≡ None → ⊥ }
-    ensures same { IfOk result (λ bound. bound ≡ chain.now.certificate) }
-    ensures goes_on { IfOk result (GoesOn Upper most labels chain.now.certificate) }
-{
-    let chain = &chain.certificate;
-    let _kind = chain.kind();
-    over_problems(chain);
-    let _verdict = check(chain);
-    let extension = upper_with(alloc, Vec::new(alloc));
-    match extended(alloc, chain, extension, most, labels)? {
-        Some(certificate) => Ok(certificate),
-        None => unreachable!(),
-    }
-}
-
 // The certificate of the path behind the chain.
 fn found_along(
     alloc: Global,
+    setting: &Setting,
     chain: &Certificate,
     path: Option<Vec<Step>>,
     most: u8,
     labels: u8,
 ) -> Result<Option<Certificate>, NoMemory>
-    ensures { IfOk result (λ found. IfSome found (GoesOn Upper most labels chain.now)) }
+    ensures { IfOk result (λ found. IfSome found (GoesOnIn setting.now Upper most labels chain.now)) }
 {
-    match path {
-        Some(steps) => extended(alloc, chain, upper_with(alloc, steps), most, labels),
-        None => Ok(None),
-    }
+    let Some(steps) = path else {
+        return Ok(None);
+    };
+    let extension = Extension {
+        kind: Kind::Upper,
+        back: 0,
+        steps,
+        renaming: Vec::new(alloc),
+    };
+    extended_in(alloc, setting, chain, extension, most, labels)
 }
 
 // What is found behind the chain.
-fn searched(alloc: Global, chain: &Certificate, most: u8, labels: u8) -> Result<Shortest, NoMemory>
-    ensures { IfOk result (AnswersAt None most labels chain.now) }
+fn searched(
+    alloc: Global,
+    setting: &Setting,
+    chain: &Certificate,
+    most: u8,
+    labels: u8,
+) -> Result<Shortest, NoMemory>
+    ensures { IfOk result (MayAnswer setting.now most labels chain.now) }
 {
+    let given = Given::behind(alloc, setting, chain.steps().len())?;
     let room = MAX_STEPS.saturating_sub(chain.steps().len());
     let levels = room.min(most as usize);
-    let Climb { path, count } = shortest_path(
-        alloc,
-        &Given::nothing(),
-        chain.last(),
-        levels,
-        labels,
-    )?;
-    match found_along(alloc, chain, path, most, labels)? {
+    let Climb { path, count } = shortest_path(alloc, &given, chain.last(), levels, labels)?;
+    match found_along(alloc, setting, chain, path, most, labels)? {
         Some(certificate) => Ok(Shortest::Found(certificate)),
         None => Ok(Shortest::NotFound {
             nodes: count.nodes,
@@ -102,20 +70,24 @@ fn searched(alloc: Global, chain: &Certificate, most: u8, labels: u8) -> Result<
 }
 
 /// The shortest upper bound that the beam search finds which goes on from a chain of kind upper: with at most so many further steps, each
-/// to a problem of at most so many labels. It is accepted by `check`. Where the chain's last problem is solvable without communication the
-/// answer is the chain as it is, and else `Found` or `NotFound`.
+/// to a problem of at most so many labels. It is taken in the setting. The answer is the chain as it is exactly where that is taken, and else
+/// `Found` or `NotFound`.
 ///
 /// The search may miss shorter bounds, and `NotFound` says nothing of the problem. The crate's page says how it goes.
 pub fn find_shortest(
     alloc: Global,
+    setting: &Setting,
     chain: &UpperChain,
     steps: u8,
     labels: u8,
 ) -> Result<Shortest, NoMemory>
-    ensures { IfOk result (AnswersAt (zero_place (unnamed (last_problem chain.now.certificate))) steps labels chain.now.certificate) }
+    requires { IsSettingOf (unnamed chain.now.certificate.first) setting.now }
+    ensures { IfOk result (Answers setting.now steps labels chain.now.certificate) }
 {
-    match zero_round(chain.certificate.last()) {
-        Some(_) => Ok(Shortest::Found(repeated(alloc, chain, steps, labels)?)),
-        None => searched(alloc, &chain.certificate, steps, labels),
+    let certificate = &chain.certificate;
+    if is_taken(alloc, setting, certificate)? {
+        let same = repeated_in(alloc, setting, certificate, steps, labels)?;
+        return Ok(Shortest::Found(same));
     }
+    searched(alloc, setting, certificate, steps, labels)
 }

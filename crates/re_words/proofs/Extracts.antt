@@ -17,7 +17,7 @@ use Rattle.re_algo.specs.declared.solving.TableVerdict.{TableVerdict}
 use Rattle.re_algo.specs.declared.solving.TableVerdict.TheVariants.{Yes}
 use Rattle.re_table_texts.specs.TableTexts.{table_input}
 use Rattle.re_table_texts.specs.declared.table_texts.TableForm.TheVariants.{Plain}
-use Rattle.re_upper_tables.specs.UpperTables.{listed_table}
+use Rattle.re_extract.specs.UpperTables.{listed_table}
 use Rattle.re_frame.proofs.Said.{fault_says}
 use Rattle.re_words.specs.Command.{command_of, word_of}
 use Rattle.re_words.specs.Extracting.{algorithm_outcome, extracted_from, extracting_outcome, if_read}

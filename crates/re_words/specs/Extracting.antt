@@ -11,7 +11,7 @@ use Rattle.re_check.specs.declared.verdict.Verdict.TheVariants.{Accepted, Refuse
 use Rattle.re_algo.specs.declared.counting.TheConstants.{MAX_VIEWS}
 use Rattle.re_algo.specs.Tables.{AnswerTable}
 use Rattle.re_table_texts.specs.PrintedTables.{table_text}
-use Rattle.re_upper_tables.specs.UpperTables.{listed_table}
+use Rattle.re_extract.specs.UpperTables.{listed_table}
 use Rattle.re_frame.specs.Check.{verdict_outcome}
 use Rattle.re_frame.specs.Outcomes.{Outcome, done, limit_of, refused}
 use Rattle.re_frame.specs.TextFaults.{fault_outcome}

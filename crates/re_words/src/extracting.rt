@@ -4,14 +4,14 @@ ghost use Rattle.re_words.specs.Command.{judges};
 ghost use Rattle.re_words.specs.Extracting.{algorithm_outcome, extracted_from, extracting_outcome};
 ghost use Rattle.re_frame.specs.Outcomes.{done as done_with, outcome_of};
 ghost use Rattle.re_words.specs.Tabling.{tabling_outcome};
-ghost use Rattle.re_upper_tables.specs.UpperTables.{listed_table};
+ghost use Rattle.re_extract.specs.UpperTables.{listed_table};
 ghost use Rattle.std.specs.Prelude.{◌≡◌, ◌≤◌, ℕ, List, [], codes, length, IfOk, IsErrOf, true};
 
 use crate::command::Command;
 use re_algo::MAX_VIEWS;
 use re_cert::{Certificate, read_certificate};
 use re_check::{Kind, Verdict, check, upper_steps};
-use re_extract::Extractor;
+use re_extract::{Extractor, upper_table};
 use re_frame::{
     Answer, Answering, Output, begun, done, fault_output, limit_of, refused, verdict_output,
 };
@@ -19,7 +19,6 @@ use re_io::MAX_BYTES;
 use re_labels::NoMemory;
 use re_problem::TextFault;
 use re_table_texts::{TableForm, print_table};
-use re_upper_tables::upper_table;
 use std::alloc::Global;
 
 // The table of an upper bound.

@@ -7,12 +7,12 @@ use Rattle.re_closure.proofs.answering.chain_output.Goals as goal
 
 pub returns-in-Ok-Lower : goal.returns-in-Ok-Lower
 returns-in-Ok-Lower c = λ given is.
-    IfOk-weaker c.closure_output.result _ _ (λ output may. lower_may given None c.args.more (outcome_of output) c.in-Ok-Lower.chain (subst (IsJudged given) (c.in-Ok-Lower.is ∙ ap Ok c.in-Ok-Lower.field-0-is) is) may) c.closure_output.ensures
+    IfOk-weaker c.closure_output.result _ _ (λ output may. lower_may given None c.args.more c.args.setting.now (outcome_of output) c.in-Ok-Lower.chain (subst (IsJudged given) (c.in-Ok-Lower.is ∙ ap Ok c.in-Ok-Lower.field-0-is) is) may) c.closure_output.ensures
 
 pub returns-in-Ok-Upper : goal.returns-in-Ok-Upper
 returns-in-Ok-Upper c = λ given is.
-    IfOk-weaker c.not_lower_output.result _ _ (λ output e. upper_may given None c.args.more (outcome_of output) c.in-Ok-Upper.field-0-0 (subst (IsJudged given) (c.in-Ok-Upper.is ∙ ap Ok c.in-Ok-Upper.field-0-is) is) e) c.not_lower_output.ensures
+    IfOk-weaker c.not_lower_output.result _ _ (λ output e. upper_may given None c.args.more c.args.setting.now (outcome_of output) c.in-Ok-Upper.field-0-0 (subst (IsJudged given) (c.in-Ok-Upper.is ∙ ap Ok c.in-Ok-Upper.field-0-is) is) e) c.not_lower_output.ensures
 
 pub returns : goal.returns
 returns c = λ given is.
-    refused_may given None c.args.more (outcome_of c.in_ok-verdict_output-in-Err.field-0) c.in-Err.verdict (subst (IsJudged given) c.in-Err.is is) c.in_ok-verdict_output-in-Err.ensures
+    refused_may given None c.args.more c.args.setting.now (outcome_of c.in_ok-verdict_output-in-Err.field-0) c.in-Err.verdict (subst (IsJudged given) c.in-Err.is is) c.in_ok-verdict_output-in-Err.ensures

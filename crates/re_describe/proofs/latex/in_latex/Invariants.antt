@@ -1,4 +1,4 @@
-use Rattle.std.proofs.Common.{ℕ, ◌≡◌, ◌++◌, drop, map}
+use Rattle.std.proofs.Common.{◌≡◌, ◌++◌, drop, map}
 use Rattle.re_describe.specs.Latex.{latex_lines, latex_of}
 use Rattle.re_describe.proofs.latex.in_latex.Given as goal
 

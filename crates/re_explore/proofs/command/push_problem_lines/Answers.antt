@@ -1,5 +1,5 @@
 use Rattle.std.proofs.Common.{◌++◌, ap, ◌∙◌}
-use Rattle.re_flexible_words.specs.Words.{flexible_help}
+use Rattle.re_forest_words.specs.Words.{forest_help}
 use Rattle.re_given_words.specs.Words.{given_help}
 use Rattle.re_graph_words.specs.Words.{graph_help}
 use Rattle.re_inputs.specs.InputWords.{input_help}
@@ -9,11 +9,11 @@ use Rattle.re_explore.proofs.Said.{joined_six}
 use Rattle.re_explore.proofs.command.push_problem_lines.Goals as goal
 
 pub returns : goal.returns
-unfolding problem_lines flexible_help given_help graph_help input_help settle_help
+unfolding problem_lines forest_help given_help graph_help input_help settle_help
 returns c =
     let first = c.in_ok-push_words.ensures ∙ ap (λ t. c.args.text.now.items ++ t) c.settle_help.ensures in
-    let flexible_part = c.in_ok-push_words-2.ensures ∙ ap (λ t. c.push_words.new.text.items ++ t) c.flexible_help.ensures ∙ ap (λ t. t ++ flexible_help) first in
-    let graph_part = c.in_ok-push_words-3.ensures ∙ ap (λ t. c.push_words-2.new.text.items ++ t) c.graph_help.ensures ∙ ap (λ t. t ++ graph_help) flexible_part in
+    let forest_part = c.in_ok-push_words-2.ensures ∙ ap (λ t. c.push_words.new.text.items ++ t) c.forest_help.ensures ∙ ap (λ t. t ++ forest_help) first in
+    let graph_part = c.in_ok-push_words-3.ensures ∙ ap (λ t. c.push_words-2.new.text.items ++ t) c.graph_help.ensures ∙ ap (λ t. t ++ graph_help) forest_part in
     let given_part = c.in_ok-push_words-4.ensures ∙ ap (λ t. c.push_words-3.new.text.items ++ t) c.given_help.ensures ∙ ap (λ t. t ++ given_help) graph_part in
     let input_part = c.in_ok-push_words-5.ensures ∙ ap (λ t. c.push_words-4.new.text.items ++ t) c.input_help.ensures ∙ ap (λ t. t ++ input_help) given_part in
-    input_part ∙ joined_six c.args.text.now.items settle_help flexible_help graph_help given_help input_help
+    input_part ∙ joined_six c.args.text.now.items settle_help forest_help graph_help given_help input_help

@@ -23,5 +23,5 @@ returns-in-Ok-clause-text_worth g c finished bytes input =
     let answered = c.put_output.ensures.answer (subst IsAnswer (sym finished) tt) in (
       c.in-Ok.output.text.items,
       answered.text,
-      worth_of (command_of (map string_bytes c.args.words.now)) bytes (outcome_of c.in-Ok.output) (c.in-Ok.ensures.output bytes input) (sym answered.status ∙ finished),
+      worth_of (map string_bytes c.args.words.now) (command_of (map string_bytes c.args.words.now)) bytes (outcome_of c.in-Ok.output) (c.in-Ok.ensures.output bytes input) (sym answered.status ∙ finished),
     )

@@ -20,6 +20,6 @@ pub returns-then-branch-clause-goes_on : goal.returns-then-branch-clause-goes_on
 returns-then-branch-clause-goes_on c =
     let few : length c.args.extension.steps.items ≤ c.args.most = grind arith in
     let small : AreSmall c.args.labels c.args.extension.steps.items = search rules in
-    let taken : IsTaken c.args.input.now c.in-Some.certificate = c.in_ok-is_accepted.ensures.0 c.if-branch.true in
+    let taken : IsTaken c.args.input.now c.in-Some.certificate = c.in_ok-is_taken_given.ensures.0 c.if-branch.true in
     goes_on c.args.input.now c.args.extension.kind c.args.most c.args.labels c.args.extension.back c.args.chain.now c.in-Some.certificate c.args.extension.steps.items c.args.extension.renaming.items c.names-names.ensures.problem
     (sym c.in_ok-certificate.ensures ∙ c.in-Some.is) c.over_problems.ensures few small taken

@@ -6,7 +6,7 @@ use Rattle.re_relaxed.proofs.words.relaxed_word.Goals as goal
 pub returns-in_default : goal.returns-in_default
 returns-in_default c =
     let words = map string_bytes c.args.words.now in
-    let few : length words < 2 = grind (arith, length-map, c.in_default.len_below) in
+    let few : length words < 1 = grind (arith, length-map, c.in_default.len_below) in
     sym (few_words words few)
 
 pub returns-in_default-2 : goal.returns-in_default-2

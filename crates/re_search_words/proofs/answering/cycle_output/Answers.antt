@@ -1,14 +1,11 @@
-use Rattle.std.proofs.Common.{inl, subst, sym}
-use Rattle.re_chains.proofs.WordsGiven.{both_ok}
-use Rattle.re_frame.specs.Outcomes.{outcome_of}
-use Rattle.re_cycle.specs.Answers.{Answers}
-use Rattle.re_search_words.specs.MayGive.{MayFindBehind}
-use Rattle.re_search_words.specs.declared.words.SearchWord.TheVariants.{Cycle}
+use Rattle.std.proofs.Common.{inl, inr, subst}
+use Rattle.std.proofs.lemmas.Result.{IfOk-weaker}
+use Rattle.re_given_words.specs.Settings.{RefusesIn}
 use Rattle.re_search_words.proofs.answering.cycle_output.Goals as goal
 
-pub returns-in-Found : goal.returns-in-Found
-returns-in-Found c =
-    let found = subst (Answers c.args.steps c.args.chain.now) c.in-Found.is c.in_ok-certificate.ensures in
-    both_ok _ _ _ c.certificate_output.result c.certificate_output.ensures.outcome c.certificate_output.ensures.text
-    (λ output one gives. subst (λ place. MayFindBehind place (Cycle c.args.steps c.args.merges c.args.nodes) c.args.chain.now (outcome_of output)) (sym found.0)
-    (inl (c.in-Found.certificate, record { one = one; goes_on = found.1; gives = gives })))
+pub returns-in-Some : goal.returns-in-Some
+returns-in-Some c = inr (subst (RefusesIn c.args.setting.now c.args.chain.now.certificate) c.in-Some.is c.in_ok-output.ensures)
+
+pub returns-in-None : goal.returns-in-None
+returns-in-None c =
+    IfOk-weaker c.cycle_found.result _ _ (λ output may. inl (subst (RefusesIn c.args.setting.now c.args.chain.now.certificate) c.in-None.is c.in_ok-output.ensures, may)) c.cycle_found.ensures

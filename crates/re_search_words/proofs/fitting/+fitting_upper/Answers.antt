@@ -6,6 +6,7 @@ use Rattle.re_search_words.proofs.fitting.+fitting_upper.Goals as goal
 
 pub returns : goal.returns
 returns t c =
+    let setting = c.args.setting.now in
     let chain = c.args.chain.now.certificate in
-    some_more (λ output. IsFound Upper c.args.steps c.three_quarters.result chain (outcome_of output)) (λ output. IsFound Upper c.args.steps c.args.labels chain (outcome_of output))
-    c.fitting_upper.result (λ output. found_more Upper c.args.steps c.three_quarters.result c.args.labels chain (outcome_of output) c.three_quarters.ensures.most) c.fitting_upper.ensures
+    some_more (λ output. IsFound setting Upper c.args.steps c.three_quarters.result chain (outcome_of output)) (λ output. IsFound setting Upper c.args.steps c.args.labels chain (outcome_of output))
+    c.fitting_upper.result (λ output. found_more setting Upper c.args.steps c.three_quarters.result c.args.labels chain (outcome_of output) c.three_quarters.ensures.most) c.fitting_upper.ensures

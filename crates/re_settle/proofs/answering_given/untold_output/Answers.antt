@@ -7,6 +7,6 @@ use Rattle.re_settle.proofs.answering_given.untold_output.Goals as goal
 
 pub returns : goal.returns
 returns c =
-    IfOk-weaker c.given_verdict.result _ _
-    (λ output e. untold_says c.args.problem.now c.args.input.now c.problem_chain-chain.result.certificate (outcome_of output) c.requires.input (c.problem_chain-chain.ensures ∙ ap problem_chain c.in_ok-copy.ensures) c.requires.untold e)
-    c.given_verdict.ensures
+    IfOk-weaker c.given_verdict_output.result _ _
+    (λ output e. untold_says c.args.problem.now c.args.input.now c.problem_chain-chain.result.certificate (outcome_of output) c.requires.input (c.problem_chain-chain.ensures ∙ ap problem_chain c.in_ok-copy.ensures) c.requires.untold (e ∙ c.in_ok-verdict.ensures.outcome))
+    c.given_verdict_output.ensures

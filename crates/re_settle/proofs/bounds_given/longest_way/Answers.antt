@@ -6,8 +6,8 @@ use Rattle.re_settle.specs.Measures.{greatest_degree, longest_labels, longest_st
 use Rattle.re_settle.proofs.GivenKnown.{longest_known}
 use Rattle.re_settle.proofs.bounds_given.longest_way.Goals as goal
 
-pub find_longest_given-requires-clause-input : goal.find_longest_given-requires-clause-input
-find_longest_given-requires-clause-input c = subst (λ (b : Bound). IsInput (unnamed b.first) (unnamed c.args.input.now)) (sym c.requires.chain) c.requires.input
+pub longest_given-requires-clause-input : goal.longest_given-requires-clause-input
+longest_given-requires-clause-input c = subst (λ (b : Bound). IsInput (unnamed b.first) (unnamed c.args.input.now)) (sym c.requires.chain) c.requires.input
 
 pub returns : goal.returns
 returns c =

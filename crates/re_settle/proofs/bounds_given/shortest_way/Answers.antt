@@ -1,7 +1,8 @@
 use Rattle.std.proofs.Common.{◌∙◌, [], ap, subst}
 use Rattle.re_cert.specs.declared.certificate.Kind.TheVariants.{Upper}
 use Rattle.re_chains.specs.Chains.{chain_with}
-use Rattle.re_shortest.specs.Answers.{AnswersGiven}
+use Rattle.re_given_words.specs.declared.setting.Setting.TheVariants.{Given}
+use Rattle.re_shortest.specs.Answers.{MayAnswer}
 use Rattle.re_problem.specs.NamedProblems.{NamedProblem}
 use Rattle.re_settle.proofs.GivenKnown.{shortest_known}
 use Rattle.re_settle.proofs.bounds_given.shortest_way.Goals as goal
@@ -11,4 +12,4 @@ returns c =
     let chain = c.upper_chain-chain.result.certificate in
     shortest_known c.args.times c.args.problem.now c.args.input.now chain c.in-Found.certificate c.args.steps c.args.labels c.count_of.result c.requires.tried
     (c.upper_chain-chain.ensures ∙ ap (λ (p : NamedProblem). chain_with Upper p []) c.in_ok-copy.ensures)
-    (subst (AnswersGiven c.args.input.now c.args.steps c.args.labels chain) c.in-Found.is c.in_ok-certificate.ensures) (c.in_ok-has.ensures.text c.if-not-has.false) c.count_of.ensures
+    (subst (MayAnswer (Given c.args.input.now) c.args.steps c.args.labels chain) c.in-Found.is c.in_ok-certificate.ensures) (c.in_ok-has.ensures.text c.if-not-has.false) c.count_of.ensures

@@ -10,7 +10,7 @@ returns c =
     let with = codes "with identifiers: " in
     let name = class_text c.class_of.result in
     let end = codes "\n" in
-    let shows = shows_lines c.args.classified.settled c.args.classified.above c.args.classified.length in
+    let shows = shows_lines c.args.names.now c.args.classified.settled c.args.classified.further c.args.classified.above c.args.classified.length in
     on_ok_weaker c.push_shows.result
     (λ e. e ∙ ap (λ t. t ++ shows) (c.in_ok-push_words-2.ensures ∙ ap (λ t. t ++ end) (c.in_ok-push_class.ensures ∙ ap (λ t. t ++ name) c.in_ok-push_words.ensures))
     ∙ append_assoc ((old ++ with) ++ name) end shows ∙ append_assoc (old ++ with) name (end ++ shows) ∙ append_assoc old with (name ++ (end ++ shows))

@@ -1,9 +1,10 @@
 use Rattle.std.proofs.Common.{◌*◌, ap, subst}
-use Rattle.re_cycle.specs.Answers.{AnswersGiven}
+use Rattle.re_cycle.specs.Answers.{Answers}
+use Rattle.re_given_words.specs.declared.setting.Setting.TheVariants.{Given}
 use Rattle.re_settle.proofs.GivenKnown.{cycle_known}
 use Rattle.re_settle.proofs.never_given.cycle_way.Goals as goal
 
 pub returns-then-has : goal.returns-then-has
 returns-then-has c =
     cycle_known c.args.times (300 * c.from-nodes.result) c.args.problem.now c.args.input.now c.args.chain.now.certificate c.in-Found.certificate (ap (λ n. 300 * n) c.from-nodes.ensures) c.requires.chain
-    (subst (AnswersGiven c.args.input.now 8 c.args.chain.now.certificate) c.in-Found.is c.in_ok-certificate.ensures) (c.in_ok-has.ensures.text c.if-has.true)
+    (subst (Answers (Given c.args.input.now) 8 c.args.chain.now.certificate) c.in-Found.is c.in_ok-certificate.ensures) (c.in_ok-has.ensures.text c.if-has.true)

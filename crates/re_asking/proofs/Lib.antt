@@ -1,0 +1,4 @@
+pub mod Besides
+mod CutWords
+mod DistanceLemmas
+mod NearLines

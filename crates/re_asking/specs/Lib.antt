@@ -1,0 +1,4 @@
+pub mod Beside
+pub mod BesideWords
+pub mod Distances
+pub mod NearWords

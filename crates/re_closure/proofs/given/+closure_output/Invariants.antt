@@ -1,4 +1,0 @@
-use Rattle.re_closure.proofs.given.+closure_output.Given as goal
-
-abbrev pub decreases-closure_output : goal.decreases-closure_output
-decreases-closure_output l = l.more

@@ -1,9 +1,0 @@
-use Rattle.std.proofs.Common.{inr, subst}
-use Rattle.re_given_words.specs.Extensions.{Refuses}
-use Rattle.re_closure.proofs.given.chain_closing.Goals as goal
-
-pub returns-in-Some : goal.returns-in-Some
-returns-in-Some c = inr (subst (Refuses c.args.input.now c.args.chain.now.certificate) c.in-Some.is c.in_ok-output.ensures)
-
-pub closing_output-requires : goal.closing_output-requires
-closing_output-requires c = subst (Refuses c.args.input.now c.args.chain.now.certificate) c.in-None.is c.in_ok-output.ensures

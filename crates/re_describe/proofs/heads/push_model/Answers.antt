@@ -1,7 +1,0 @@
-use Rattle.re_printing.proofs.Appending.{then, then_ok}
-use Rattle.re_describe.proofs.heads.push_model.Goals as goal
-
-pub returns : goal.returns
-returns c =
-    let e = then c.args.text.now.items c.push_between.new.text.items c.push_number.new.text.items _ _ c.in_ok-push_between.ensures c.in_ok-push_number.ensures in
-    then_ok c.push_words.result c.args.text.now.items c.push_number.new.text.items c.push_words.new.text.items _ _ e c.push_words.ensures

@@ -1,0 +1,14 @@
+use Rattle.std.proofs.Common.{◌≡◌, ◌≤◌, ◌-◌, ◌++◌, codes, length, drop, map}
+use Rattle.std.specs.List.{flat_map}
+use Rattle.re_describe.specs.Pieces.{items_text, run_item_text}
+use Rattle.re_problem.specs.CanonicalTexts.{runs}
+use Rattle.re_describe.proofs.items.push_items.Given as goal
+
+abbrev pub invariant-runs : goal.invariant-runs
+invariant-runs l = record {
+  within : l.at ≤ length l.numbers.items;
+  printed : l.fn.text.items ++ items_text l.names l.sets ≡ l.text.items ++ flat_map (λ next. codes " " ++ next) (map (run_item_text l.names) (runs (drop l.at l.numbers.items)));
+}
+
+abbrev pub decreases-runs : goal.decreases-runs
+decreases-runs l = length l.numbers.items - l.at

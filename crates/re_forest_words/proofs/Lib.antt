@@ -1,0 +1,3 @@
+pub mod BehindSteps
+pub mod Means
+mod Saying

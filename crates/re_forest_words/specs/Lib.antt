@@ -1,0 +1,5 @@
+pub mod Answers
+pub mod GreedyAnswers
+pub mod GreedyTexts
+pub mod Showings
+pub mod Words

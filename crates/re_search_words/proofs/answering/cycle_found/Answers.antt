@@ -1,0 +1,15 @@
+use Rattle.std.proofs.Common.{inl, subst}
+use Rattle.re_chains.proofs.WordsGiven.{both_ok}
+use Rattle.re_cert.specs.declared.certificate.Kind.TheVariants.{Fixed}
+use Rattle.re_cycle.specs.Answers.{Answers}
+use Rattle.re_frame.specs.Outcomes.{outcome_of}
+use Rattle.re_labels.specs.declared.TheConstants.{MAX_LABELS}
+use Rattle.re_search_words.proofs.ShorterTexts.{text_on}
+use Rattle.re_search_words.proofs.answering.cycle_found.Goals as goal
+
+pub returns-in-Found : goal.returns-in-Found
+returns-in-Found c =
+    let chain = c.args.chain.now.certificate in
+    let on = subst (Answers c.args.setting.now c.args.steps chain) c.in-Found.is c.in_ok-certificate.ensures in
+    both_ok _ _ _ c.print_in.result c.print_in.ensures.outcome c.print_in.ensures.text
+    (λ output one gives. inl (c.in-Found.certificate, text_on c.args.setting.now Fixed c.args.steps MAX_LABELS chain c.in-Found.certificate (outcome_of output) on one gives))

@@ -1,8 +1,0 @@
-use Rattle.std.proofs.Common.{subst}
-use Rattle.std.specs.Prelude.{IfSome}
-use Rattle.re_settle.proofs.Local.{fixed_settled}
-use Rattle.re_settle.specs.Ways.{IsFixedPoint}
-use Rattle.re_settle.proofs.settling.tried.Goals as goal
-
-pub returns-in-Some : goal.returns-in-Some
-returns-in-Some c = fixed_settled c.args.times c.args.problem.now c.in-Some.way (subst (λ found. IfSome found (IsFixedPoint c.args.times c.args.problem.now)) c.in-Some.is c.in_ok-way.ensures)

@@ -1,5 +1,0 @@
-use Rattle.re_upper_tables.proofs.Written.{upper_solves}
-use Rattle.re_upper_tables.proofs.upper_table_law.Goals as goal
-
-pub returns : goal.returns
-returns c = upper_solves

@@ -157,9 +157,10 @@ GROUPS = [
         "what the claim of `settle`, alone or given an input problem, its class and the meaning of the answers of `rounds`, `given`, `fit` and `solve` add. Nobody has to believe what shows a claim; "
         "which steps are kept behind a refusal, the line says.",
         [
+            ("re_settle", "Claims.HoldsIn", None),
             ("re_settle", "Claims.Holds", None),
+            ("re_settle", "Claims.HoldsGiven", None),
             ("re_settle", "Claims.claim_of", None),
-            ("re_settle", "GivenClaims.HoldsGiven", None),
             ("re_settle", "GivenClaims.claim_given", None),
             ("re_settle", "Classes.HoldsLocal", None),
             ("re_settle", "Classes.ClassHolds", None),

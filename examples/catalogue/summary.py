@@ -35,12 +35,12 @@ has `re check` judge what they name; `summary.py` wrote this page from the table
 
 A table holds a line for each problem: its number, its active and passive configurations, the first line of the answer (in hops, and in rounds of
 the graph where passive nodes are edges), the words that show it, the class with unique identifiers, and the words that show this. The answer is for
-nodes that know nothing but port numbers, on trees; the class is for nodes with unique identifiers below N, as N grows, on infinite trees and on finite
-forests of N nodes: `constant`, `order log* N`, `order log N`, `order N`, or a bound below and one above, of which `at least order log* N` is less a
-constant. An *at least* holds of problems of higher orders, too; which it is, no column says. Bounds above of the order of log N, or of log* N on paths,
-are those of a flexible set of labels, on finite forests: `explore flexible` finds one; `flexible.py` decides it by the definitions, knowing nothing
-else. All is proved of what `settle` says; where bounds come from certificates, `certificates.py` writes them, as `re check` accepts these.
-What is solved in k hops may use the orientation of each edge that its ports give; from unique identifiers one comes in a round.
+nodes that know nothing but port numbers, on trees; the class is for nodes with unique identifiers below N, as N grows, on finite forests of N nodes:
+`constant`, `order log* N`, `order log N`, `order N`, or a bound below and one above, of which `at least order log* N` is less a constant. An *at least*
+holds of problems of higher orders, too; which it is, no column says. Bounds above of the order of log N, or of log* N on paths, are those of a flexible
+set of labels: `explore flexible` finds one; `flexible.py` decides it by the definitions, knowing nothing else. But for these and for `order N` the class
+holds on infinite trees, too. All is proved of what `settle` says; where bounds come from certificates, `certificates.py` writes them, as `re check`
+accepts these. What is solved in k hops may use the orientation of each edge that its ports give; from unique identifiers one comes in a round.
 
 Bounds that no words find stand in `certificates.tar.xz`, and `certificates.py` puts them into the table. An upper one goes from a derived
 problem to a solved problem that is enough for it (`explore fit`), or to sets of its labels at the ports of few nodes; a lower one to a

@@ -13,7 +13,7 @@ import re
 import resource
 import subprocess
 import sys
-from itertools import combinations
+from itertools import combinations, combinations_with_replacement
 
 LINIAL = "Linial 1992"
 NAOR = "Naor, Stockmeyer 1995"
@@ -24,11 +24,13 @@ FEW_EDGES = "Chang, He, Li, Pettie, Uitto 2018"
 PARTIAL = "Balliu, Hirvonen, Lenzen, Olivetti, Suomela 2019"
 BINARY = "Balliu, Brandt, Efron, Hirvonen, Maus, Olivetti, Suomela 2020"
 PATHS = "Chang, Studený, Suomela 2021"
+REGULAR = "Balliu, Brandt, Chang, Olivetti, Studený, Suomela 2022"
 ARB = "Balliu, Brandt, Kuhn, Olivetti 2022"
 HOMO = "Brandt, Chang, Grebík, Grunau, Rozhoň, Vidnyánszky 2022"
 HALL = "Brandt, Maus, Narayanan, Schager, Uitto 2025"
 MATCHING = "Hańćkowiak, Karoński, Panconesi 1998"
 RULING = "Balliu, Brandt, Olivetti 2020"
+SPEEDUP = "Brandt 2019"
 HYPER = "Balliu, Brandt, Kuhn, Olivetti 2023"
 
 
@@ -59,8 +61,12 @@ def independent(degree):
     return [f"M^{degree}", f"P O^{degree - 1}"], ["M [PO]", "O^2"]
 
 
-def matching(degree):
-    return [f"M O^{degree - 1}", f"P^{degree}"], ["M^2", "O^2", "O P"]
+def matching(degree, most=1):
+    """A maximal matching; with `most`, of as many edges at a node as this, or fewer where all that lead on are taken."""
+    if most == 1:
+        return [f"M O^{degree - 1}", f"P^{degree}"], ["M^2", "O^2", "O P"]
+    fewer = [f"M^{k} P^{degree - k}" if k else f"P^{degree}" for k in range(most)]
+    return [f"M^{most} O^{degree - most}", *fewer], ["M^2", "O^2", "O P"]
 
 
 def two_sided(degree):
@@ -73,6 +79,54 @@ def exactly(degree, passive, active, others):
         return " ".join(f"{label}^{power}" for label, power in (("X", k), ("O", count - k)) if power)
 
     return [side(degree, k) for k in active], [side(passive, k) for k in others]
+
+
+def defective(degree, colours, others):
+    """Colours of which at least so many neighbours, behind the small letters, have another one."""
+    pairs = list(zip("RBG"[:colours], "rbg"[:colours]))
+    sides = [f"{same}^{degree - others} {other}^{others}" for same, other in pairs]
+    beside = [f"{x} {y}" for n, x in enumerate("RBG"[:colours]) for y in "RBG"[n:colours]]
+    beside += [f"{x} {small}" for x, same in pairs for small in "rbg"[:colours] if small != same]
+    return sides, beside + [" ".join(both) for both in combinations("rbg"[:colours], 2)]
+
+
+def arbdefective(degree, colours, out):
+    """Colours, and so many edges that lead out to whichever colour."""
+    names = "ABC"[:colours]
+    return [f"{x}^{degree - out} X^{out}" for x in names], [f"X [X{names}]", *(" ".join(both) for both in combinations(names, 2))]
+
+
+def dominating(degree, least):
+    """A set of nodes that have at least so many others beside them that aren't in it, and to which each of these points."""
+    inside = [f"M^{degree}", *(f"M^{degree - k} X^{k}" for k in range(1, least + 1))]
+    return [*inside, f"P O^{degree - 1}"], ["M [PO]", "X^2", "O^2"]
+
+
+def to_one_side(degree):
+    """The same with edges within the set that lead one way."""
+    return [f"M^{degree - 1} X", f"P O^{degree - 1}"], ["M [PXO]", "X [PXO]", "O^2"]
+
+
+def superweak():
+    """A superweak 2-colouring in degree 3: a node demands of more neighbours than it accepts to differ from it, or to be asked in turn."""
+    def sides(c):
+        return [f"({c}D) ({c}n)^2", f"({c}D)^2 ({c}n)", f"({c}D)^2 ({c}A)", f"({c}D)^3"]
+
+    both = ["(1D) (1A)", "(1D) (2D)", "(1D) (2A)", "(1D) (2n)", "(1A)^2", "(1A) (1n)", "(1A) (2D)", "(1A) (2A)", "(1A) (2n)", "(1n)^2"]
+    both += ["(1n) (2D)", "(1n) (2A)", "(1n) (2n)", "(2D) (2A)", "(2A)^2", "(2A) (2n)", "(2n)^2"]
+    return [*sides(1), *sides(2)], both
+
+
+def two_apart():
+    """A colouring of a path with 4 colours, in which nodes with a common neighbour differ too: a label is a colour and that of the neighbour."""
+    return ([f"({x}{y}) ({x}{z})" for x in "1234" for y, z in combinations("1234".replace(x, ""), 2)],
+            [f"({x}{y}) ({y}{x})" for x, y in combinations("1234", 2)])
+
+
+def greedy_colouring():
+    """A colouring in which a node of colour k has neighbours of each colour below k, to which it points."""
+    return (["1^3", "2^2 (21)", "3 (31) (32)", "(41) (42) (43)"],
+            ["1 [23]", "1 (21)", "1 (31)", "1 (41)", "2 3", "2 (32)", "2 (42)", "3 (43)"])
 
 
 PROBLEMS = [
@@ -139,6 +193,65 @@ PROBLEMS = [
     ("maximal matching with sides, degrees 2 and 2", MATCHING, "constant", *two_sided(2)),
     ("maximal matching with sides, degrees 3 and 3", MATCHING, "constant", *two_sided(3)),
     ("maximal matching with sides, degrees 4 and 4", MATCHING, "constant", *two_sided(4)),
+    ("no sinks, no sources, degree 4", SINKLESS, "log", *exactly(4, 2, [1, 2, 3], [1])),
+    ("no sinks, no sources, degree 5", SINKLESS, "log", *exactly(5, 2, [1, 2, 3, 4], [1])),
+    ("balanced orientation, degree 4", BINARY, "log", *exactly(4, 2, [2], [1])),
+    ("2 or 3 edges out, degree 5", BINARY, "log", *exactly(5, 2, [2, 3], [1])),
+    ("at least 2 edges out, degree 5", BINARY, "log", *exactly(5, 2, [2, 3, 4, 5], [1])),
+    ("an even number of edges out, degree 4", BINARY, "log", *exactly(4, 2, [0, 2, 4], [1])),
+    ("no or all edges out, degree 3", BINARY, "log", *exactly(3, 2, [0, 3], [1])),
+    ("0, 1 or 3 edges out, degree 3", BINARY, "log", *exactly(3, 2, [0, 1, 3], [1])),
+    ("perfect matching, degree 5", BINARY, "log", *exactly(5, 2, [1], [0, 2])),
+    ("3-factor, degree 5", BINARY, "log", *exactly(5, 2, [3], [0, 2])),
+    ("edge splitting, degree 4", BINARY, "log", *exactly(4, 2, [1, 2, 3], [0, 2])),
+    ("even edge splitting, degree 4", BINARY, "log", *exactly(4, 2, [2], [0, 2])),
+    ("perfect matching of triples, degrees 4 and 3", BINARY, "log", *exactly(4, 3, [1], [0, 3])),
+    ("weak splitting, degrees 4 and 3", BINARY, "log", *exactly(4, 3, [1, 2, 3], [0, 3])),
+    ("2 colours of hypergraphs, degrees 4 and 3", BINARY, "log", *exactly(4, 3, [0, 4], [1, 2])),
+    ("2 colours of hypergraphs, degrees 4 and 4", BINARY, "log", *exactly(4, 4, [0, 4], [1, 2, 3])),
+    ("hypersinkless orientation, degrees 5 and 3", HALL, "log", *exactly(5, 3, [1, 2, 3, 4, 5], [1])),
+    ("8 edge colours, degree 5", FEW_EDGES, "log", *edge_colouring(5, 8)),
+    ("6 colours, degree 5", LINIAL, "log*", *colouring(5, 6)),
+    ("2 colours, degree 4", SINKLESS, "log", *colouring(4, 2)),
+    ("homomorphism to Petersen's graph, degree 3", HOMO, "log", *homomorphism(3, "AB BC CD DE EA AF BG CH DI EJ FH HJ JG GI IF")),
+    ("homomorphism to two triangles at an edge, degree 3", HOMO, "log", *homomorphism(3, "AB AC BC BD CD")),
+    ("homomorphism to the 7-cycle, degree 4", HOMO, "log", *homomorphism(4, "AB BC CD DE EF FG GA")),
+    ("homomorphism to the wheel of 5, degree 3", HOMO, "log*", *homomorphism(3, "AB BC CD DE EA HA HB HC HD HE")),
+    ("homomorphism to the 7-cycle, paths", PATHS, "log*", *homomorphism(2, "AB BC CD DE EF FG GA")),
+    ("weak 3-colouring, paths", NAOR, "log*", *defective(2, 3, 1)),
+    ("weak 3-colouring, degree 3", NAOR, "constant", *defective(3, 3, 1)),
+    ("weak 2-colouring, degree 6", NAOR, "log*", *defective(6, 2, 1)),
+    ("2-partial 2-colouring, degree 5", PARTIAL, "log", *defective(5, 2, 2)),
+    ("2-partial 3-colouring, degree 3", PARTIAL, "log*", *defective(3, 3, 2)),
+    ("3-partial 2-colouring, degree 4", PARTIAL, "log", *defective(4, 2, 3)),
+    ("3-partial 2-colouring, degree 5", PARTIAL, "log", *defective(5, 2, 3)),
+    ("1-arbdefective 2 colours, degree 5", ARB, "log", *arbdefective(5, 2, 1)),
+    ("2-arbdefective 2 colours, degree 5", ARB, "easy", *arbdefective(5, 2, 2)),
+    ("1-arbdefective 3 colours, degree 4", ARB, "easy", *arbdefective(4, 3, 1)),
+    ("1-arbdefective 3 colours, degree 6", ARB, "log", *arbdefective(6, 3, 1)),
+    ("maximal matching, degree 5", LINIAL, "log*", *matching(5)),
+    ("maximal 2-matching, degree 3", LINIAL, "easy", *matching(3, 2)),
+    ("maximal 2-matching, degree 4", LINIAL, "easy", *matching(4, 2)),
+    ("maximal matching with sides, degrees 5 and 5", MATCHING, "constant", *two_sided(5)),
+    ("maximal 2-matching with sides, degrees 3 and 3", MATCHING, "constant", ["M^2 O", "M P^2", "P^3"], ["M^2 [OP]", "M O^2", "O^3"]),
+    ("maximal independent set, degree 5", LINIAL, "log*", *independent(5)),
+    ("1-outdegree dominating set, degree 3", ARB, "easy", *to_one_side(3)),
+    ("1-outdegree dominating set, degree 4", ARB, "easy", *to_one_side(4)),
+    ("1-degree dominating set, degree 3", ARB, "log*", *dominating(3, 1)),
+    ("2-degree dominating set, degree 3", ARB, "constant", *dominating(3, 2)),
+    ("3-degree dominating set, degree 4", ARB, "log*", *dominating(4, 3)),
+    ("perfect code, degree 4", REGULAR, "log", ["D^4", "P O^3"], ["D P", "O^2"]),
+    ("perfect code, paths", PATHS, "log", ["D^2", "P O"], ["D P", "O^2"]),
+    ("2-ruling set, degree 4", RULING, "log*", ["M^4", "P O^3", "Q U^3"], ["M [POU]", "Q O", "O [OU]", "U^2"]),
+    ("3-ruling set, paths", RULING, "log*", ["M^2", "P O", "Q U", "R V"], ["M [POUV]", "Q O", "R U", "O [OUV]", "U [UV]", "V^2"]),
+    ("4 colours that differ within 2 rounds, paths", LINIAL, "log*", *two_apart()),
+    ("maximal independent set of hypergraphs, degrees 3 and 3", HYPER, "easy", ["M^3", "P O^2"], ["P M^2", "O [MO]^2"]),
+    ("maximal matching of triples, degrees 3 and 3", HYPER, "log*", ["M O^2", "P^3"], ["M^3", "O [OP]^2"]),
+    ("4 colours, no triple of one, degrees 3 and 3", HYPER, "easy", [f"{x}^3" for x in "1234"],
+     [" ".join(chosen) for chosen in combinations_with_replacement("1234", 3) if len(set(chosen)) > 1]),
+    ("superweak 2-colouring, degree 3", SPEEDUP, "constant", *superweak()),
+    ("greedy colouring, degree 3", LINIAL, "log*", *greedy_colouring()),
+    ("2 colours, exactly one neighbour of one's own, degree 3", PARTIAL, "log", ["A^2 X", "B^2 Y"], ["A B", "X^2", "Y^2"]),
 ]
 
 # What a published class leaves room for.

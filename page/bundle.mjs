@@ -10,6 +10,7 @@ import {dirname, join} from 'path';
 import {Script} from 'vm';
 import {deflateRawSync} from 'zlib';
 import {pageFolder, programsIn, sourceIn, unpacked} from './held.mjs';
+import {lettersOf} from './src/texts/letters.js';
 import {shortTable} from './src/texts/tables.js';
 
 // What the file may hold beside its programs.
@@ -44,6 +45,14 @@ function scriptOf(root) {
     return script;
 }
 
+// A style without comments and without the blanks that it doesn't need; strings stay as they are.
+const shortStyle = style =>
+    style.replace(/\/\*[^]*?\*\//g, '')
+        .split(/("[^"]*")/)
+        .map(part => part.startsWith('"') ? part : part.replace(/\s+/g, ' ').replace(/ ?([{};]) ?|([,:]) /g, '$1$2'))
+        .join('')
+        .trim();
+
 const textsIn = folder => Object.fromEntries(
     readdirSync(join(examples, folder))
         .filter(name => name.endsWith('.txt'))
@@ -62,7 +71,7 @@ function catalogueHeld() {
     return Object.fromEntries(names.map(name => [name.slice(0, 5), packed(shortTable(String(bytesOf(join(folder, name)))))]));
 }
 
-const packed = bytes => deflateRawSync(bytes, {level: 9}).toString('base64');
+const packed = bytes => lettersOf(deflateRawSync(bytes, {level: 9}));
 const sha256 = (data, how) => createHash('sha256').update(data).digest(how);
 const json = value => JSON.stringify(value).replaceAll('<', '\\u003c');
 // No `</script` and no `<!--` may stand inside of a script.
@@ -80,13 +89,13 @@ function programsGiven() {
     return Object.entries(programsIn(held)).map(([name, wasm]) => ({name, wasm: unpacked(wasm), built: sourceIn(held, name)}));
 }
 const programs = programsGiven();
-const main = safe(scriptOf('main.js')), style = source('style.css');
+const main = safe(scriptOf('main.js')), style = shortStyle(source('style.css'));
 const parts = {
     'STYLE': style,
     'STYLE HASH': sha256(style, 'base64'),
     'MAIN': main,
     'MAIN HASH': sha256(main, 'base64'),
-    'WORKER': safe(scriptOf('engine/worker.js')),
+    'WORKER': packed(scriptOf('engine/worker.js')),
     'EXAMPLES': packed(JSON.stringify(examplesHeld())),
     'PROGRAMS': json(Object.fromEntries(programs.map(({name, wasm}) => [name, packed(wasm)]))),
     'PROGRAMS HELD': programs
@@ -95,7 +104,7 @@ const parts = {
                          .join('; ') +
         '.',
 };
-const htmlOf = () => source('index.html').replace(/\/\*([A-Z ]+)\*\//g, (_, name) => parts[name]);
+const htmlOf = () => source('index.html').replace(/^ +/gm, '').replace(/\/\*([A-Z ]+)\*\//g, (_, name) => parts[name]);
 
 // The largest tables of the catalogue stay out of a file that would be too large.
 const tables = catalogueHeld(), left = Object.keys(tables).sort((a, b) => tables[a].length - tables[b].length), out = [];

@@ -7,7 +7,9 @@ import {keepTheme, keptTheme} from './keeping/keeper.js';
 import {listenToKeys} from './views/keys.js';
 import {NumberField, numbersOf} from './dialogs/number_field.js';
 import {openHelpDialog, openTextDialog} from './dialogs/dialogs.js';
+import {openCatalogueDialog} from './dialogs/catalogue_dialog.js';
 import {openShareDialog} from './dialogs/share_dialog.js';
+import {openSurveyDialog} from './dialogs/survey_dialog.js';
 import {watchJobs} from './views/jobs_view.js';
 import {unpacked} from './engine/packed.js';
 import {listenToDrops, listenToPastes} from './views/paste.js';
@@ -118,7 +120,10 @@ function startBars(bench) {
         '#algorithm': () => bench.tree(),
         '#open-all': () => openAll(true),
         '#close-all': () => openAll(false),
+        '#survey': () => openSurveyDialog(bench),
+        '#browse': () => openCatalogueDialog(bench),
     };
+    $('#survey').hidden = !bench.words.has('settle');
     for (const [id, run] of Object.entries(act)) $(id).addEventListener('click', () => run());
 }
 
@@ -164,8 +169,8 @@ function tellNoWords(error) {
 async function start() {
     const theme = keptTheme();
     if (theme) document.documentElement.dataset.theme = theme;
-    const engine = new Engine(await readPrograms(), $('#worker').textContent), words = await wordsOfExplore(engine).catch(tellNoWords),
-          bench = new Workbench(engine, words);
+    const engine = new Engine(await readPrograms(), await unpacked($('#worker').textContent).text()),
+          words = await wordsOfExplore(engine).catch(tellNoWords), bench = new Workbench(engine, words);
     // For the tests, and whoever looks into the page.
     Object.assign(window, {bench, engine});
     const setText = startEditor(bench);

@@ -20,6 +20,7 @@ import {Parcels} from './engine/parcels.js';
 import {ReportView} from './views/report_view.js';
 import {firstNumbers} from './views/search_actions.js';
 import {Settling} from './cards/settling.js';
+import {Survey} from './cards/survey.js';
 import {Tries} from './cards/tries.js';
 import {openTreeDialog} from './dialogs/tree_dialog.js';
 import {Searches} from './cards/searches.js';
@@ -38,8 +39,8 @@ export class Workbench {
     // `words` are those of `explore` that the page may offer.
     constructor(engine, words) {
         const facts = new Facts(engine), cards = new Cards(() => this.show()), views = new Map(), names = new InputNames();
-        Object.assign(
-            this, {engine, words, facts, cards, views, names, numbers: firstNumbers(), tip: new Tip(), parcels: new Parcels(engine)});
+        Object.assign(this, {engine, words, facts, cards, views, names, numbers: firstNumbers(), tip: new Tip()});
+        Object.assign(this, {parcels: new Parcels(engine), survey: new Survey(engine)});
         this.keeper = new Keeper(this);
         const onKept = () => this.keeper.changed(), otherInput = (view, input) => this.given.otherInput(view, input);
         this.tries = new Tries({views, otherInput}, onKept);
@@ -92,10 +93,12 @@ export class Workbench {
         this.sessions = new Sessions(this);
         this.report = new ReportView(this);
         this.list = new CardList({cards, facts, nameOf: card => this.nameOf(card), go: id => this.go(id)});
-        this.watcher = new IntersectionObserver(entries => {
-            for (const {target, isIntersecting} of entries)
-                if (isIntersecting) [...views.values()].find(({node}) => node === target)?.comeNear();
-        }, {rootMargin: NEAR_CARDS});
+        this.watcher = new IntersectionObserver(entries => this.comeNear(entries), {rootMargin: NEAR_CARDS});
+    }
+
+    comeNear(entries) {
+        for (const {target, isIntersecting} of entries)
+            if (isIntersecting) [...this.views.values()].find(({node}) => node === target)?.comeNear();
     }
 
     // ---- The chain.
@@ -243,7 +246,9 @@ export class Workbench {
         this.editor.focus();
     }
     note(card) { openNoteDialog(card.note, note => this.cards.amend(card.id, {note: note || undefined}), card.id); }
-    nameChain(card) { openNameDialog(titleOf(card), title => this.cards.amend(card.id, {title: title || undefined}), card.id); }
+    nameChain(card) {
+        openNameDialog(card.title?.trim() || titleOf(card), title => this.cards.amend(card.id, {title: title || undefined}), card.id);
+    }
     certificate() { openCertificateDialog(this, this.claim.verdict, this.given.said); }
     tree() { openTreeDialog(this); }
 }

@@ -115,6 +115,26 @@ async function look(page, user, checks, theme) {
         await page.key('Escape');
         await page.until('!document.querySelector("dialog")');
     }
+    await page.value(`document.querySelector('.card.last').focus()`);
+    await page.key('b');
+    await page.until('document.querySelectorAll("dialog svg.diagram, dialog .classes").length === 4');
+    await faults('two cards side by side');
+    await page.key('Escape');
+    await page.click('#certificate');
+    await page.click('dialog footer button', 'Picture');
+    await page.until('document.querySelector("dialog svg.chain")');
+    await faults('the chain as a picture');
+    await page.key('Escape');
+    await page.click('#browse');
+    await page.until('document.querySelectorAll("dialog tr").length > 3');
+    await faults('the catalogue');
+    await page.key('Escape');
+    await page.click('#survey');
+    await page.fill('dialog textarea', 'A^3 / A^2\nX');
+    await page.click('dialog footer button', 'Settle all');
+    await page.until('[...document.querySelectorAll("dialog [role=status]")].some(node => node.textContent === "2 of 2 problems")');
+    await faults('a list that is settled');
+    await page.key('Escape');
     await page.choose('#gallery', 'orientation 3 upper');
     await page.until(`!document.querySelector('#algorithm').hidden`);
     await page.click('#algorithm');

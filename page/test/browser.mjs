@@ -171,7 +171,9 @@ class Page {
         else await this.key('Delete', {code: 46});
     }
 
+    // Once the field is there: a card gets its buttons when it is near to what is seen.
     async fill(selector, written, at = 0) {
+        await this.until(`document.querySelectorAll(${text(selector)}).length > ${at}`);
         await this.value(`(() => { const node = document.querySelectorAll(${text(selector)})[${
             at}]; node.scrollIntoView({block: 'center', behavior: 'instant'}); node.focus(); })()`);
         await this.write(written);

@@ -8,6 +8,7 @@ import {Script} from 'vm';
 import {deflateRawSync} from 'zlib';
 import {checked} from './checks.mjs';
 import {sourceIn, unpacked} from '../held.mjs';
+import {lettersOf} from '../src/texts/letters.js';
 import {shortTable, wholeTable} from '../src/texts/tables.js';
 import {catalogueTables, html, namesOfPrograms, pageFolder, wasmOf} from './place.mjs';
 
@@ -45,10 +46,12 @@ await checked('made anew from its sources', checks => {
 
 await checked('a table that is not unpacked stops it', checks => {
     // A program xz that writes all of a table, and then says that it failed.
-    const folder = mkdtempSync(join(tmpdir(), 'page-')), again = join(folder, 'again.html'), real = spawnSync('which', ['xz']).stdout.toString().trim();
+    const folder = mkdtempSync(join(tmpdir(), 'page-')), again = join(folder, 'again.html'),
+          real = spawnSync('which', ['xz']).stdout.toString().trim();
     writeFileSync(join(folder, 'xz'), `#!/bin/sh\n${real} "$@"\nexit 1\n`, {mode: 0o755});
     writeFileSync(again, text);
-    const {status, stderr} = spawnSync('node', [join(pageFolder, 'bundle.mjs'), again], {env: {...process.env, PATH: `${folder}:${process.env.PATH}`}});
+    const {status, stderr} =
+        spawnSync('node', [join(pageFolder, 'bundle.mjs'), again], {env: {...process.env, PATH: `${folder}:${process.env.PATH}`}});
     checks.check(`its exit code: ${status}`, status !== 0 && stderr.toString().includes('xz'));
     checks.check('the file is as before', readFileSync(again, 'utf8') === text);
     rmSync(folder, {recursive: true});
@@ -57,12 +60,27 @@ await checked('a table that is not unpacked stops it', checks => {
 await checked('green is what is accepted, red what is refused', checks => {
     const style = readFileSync(join(pageFolder, 'src/style.css'), 'utf8');
     // The hues of both in each of the places where colours are named: light, dark, and paper.
-    const named = name => [...style.matchAll(new RegExp(`--${name}: #([0-9a-f]{6})`, 'g'))].map(([, hex]) => [0, 2, 4].map(i => parseInt(hex.slice(i, i + 2), 16)));
+    const named = name => [...style.matchAll(new RegExp(`--${name}: #([0-9a-f]{6})`, 'g'))].map(
+        ([, hex]) => [0, 2, 4].map(i => parseInt(hex.slice(i, i + 2), 16)));
     checks.check('--good is green', named('good').length === 4 && named('good').every(([r, g, b]) => g > r && g > b));
     checks.check('--bad is red', named('bad').length === 4 && named('bad').every(([r, g, b]) => r > g && r > b));
-    const colourOf = selector => new RegExp(`${selector.replaceAll('.', '\\.').replaceAll(' ', '\\s+')} \\{[^}]*?(?:color|border-top-color): var\\(--(\\w+)\\)`).exec(style)?.[1];
-    checks.equal('where they are used', ['#claim.accepted', '#claim.refused', '.accepted #verdict .line', '.refused #verdict .line', '.good', '.faulty', '.fault'].map(colourOf),
+    const colourOf = selector =>
+        new RegExp(`${selector.replaceAll('.', '\\.').replaceAll(' ', '\\s+')} \\{[^}]*?(?:color|border-top-color): var\\(--(\\w+)\\)`)
+            .exec(style)
+            ?.[1];
+    checks.equal('where they are used',
+        ['#claim.accepted', '#claim.refused', '.accepted #verdict .line', '.refused #verdict .line', '.good', '.faulty', '.fault'].map(
+            colourOf),
         ['good', 'bad', 'good', 'bad', 'good', 'bad', 'bad']);
+});
+
+await checked('the style is that of the source', checks => {
+    const [, held] = /<style>([^]*?)<\/style>/.exec(text), source = readFileSync(join(pageFolder, 'src/style.css'), 'utf8');
+    // Each with what stands in strings, and without comments and all other blanks.
+    const parts = style =>
+        style.replace(/\/\*[^]*?\*\//g, '').split(/("[^"]*")/).map(part => part.startsWith('"') ? part : part.replace(/\s/g, '')).join('');
+    checks.check('but for blanks and comments', parts(held) === parts(source));
+    checks.check(`shorter: ${held.length} of ${source.length}`, held.length < source.length - 2000);
 });
 
 await checked('the catalogue is that of the examples', checks => {
@@ -70,7 +88,7 @@ await checked('the catalogue is that of the examples', checks => {
     for (const [name, table] of Object.entries(tables)) {
         // One that is left out has no room.
         if (held[name]) checks.check(name, wholeTable(unpacked(held[name]).toString()) === table);
-        else checks.check(`${name} has no room`, rest + deflateRawSync(shortTable(table), {level: 9}).length * 4 / 3 >= LARGEST_REST);
+        else checks.check(`${name} has no room`, rest + lettersOf(deflateRawSync(shortTable(table), {level: 9})).length >= LARGEST_REST);
     }
     checks.check('no other tables', Object.keys(held).length > 0 && Object.keys(held).every(name => tables[name]));
 });

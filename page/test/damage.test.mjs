@@ -5,7 +5,7 @@ import {answer, certificatesOfGallery, example, randomFrom, whyOf} from './place
 
 const count = Number(process.env.DAMAGED || 100), random = randomFrom(5);
 const names = [
-    ...['sinkless-fixed', 'orientation-upper', 'orientation-lower', 'colouring-refused'].map(name => `${name}.txt`),
+    ...['sinkless-fixed', 'orientation-upper', 'orientation-lower', 'colouring-refused'].map(name => `first/${name}.txt`),
     ...certificatesOfGallery().filter(name => /-[23]/.test(name)).map(name => `gallery/${name}`)
 ];
 const texts = names.map(example).filter(text => text.length < 4000);

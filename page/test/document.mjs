@@ -6,6 +6,8 @@ class Node {
     append(...children) { this.children.push(...children); }
     prepend(...children) { this.children.unshift(...children); }
     get textContent() { return this.children.map(child => typeof child === 'string' ? child : child.textContent).join(''); }
+    get tagName() { return this.tag; }
+    get childNodes() { return this.children.map(child => typeof child === 'string' ? {textContent: child} : child); }
     get classes() { return (this.getAttribute('class') || '').split(' '); }
 }
 
@@ -15,8 +17,8 @@ globalThis.document = {
 };
 
 // All elements of a class, in order.
-export const allOf = (node, name) =>
-    node.children.filter(child => child instanceof Node).flatMap(child => [...(child.classes.includes(name) ? [child] : []), ...allOf(child, name)]);
+export const allOf = (node, name) => node.children.filter(child => child instanceof Node)
+                                         .flatMap(child => [...(child.classes.includes(name) ? [child] : []), ...allOf(child, name)]);
 // The own words of an element, without those of a title in it.
 export const wordsOf = node => node.children.filter(child => typeof child === 'string').join('');
 export const numbersOf = (node, ...names) => names.map(name => Number(node.getAttribute(name)));

@@ -6,7 +6,9 @@ import {Tries} from '../src/cards/tries.js';
 import {Engine} from '../src/engine/engine.js';
 import {graphPicture} from '../src/dialogs/graph_view.js';
 import {drawRun} from '../src/dialogs/tree_dialog.js';
+import {cardBox, stackedPicture} from '../src/views/chain_picture.js';
 import {layout} from '../src/texts/layout.js';
+import {tikzOf} from '../src/texts/tikz.js';
 import {readGraph} from '../src/texts/graphs.js';
 import {drawDiagram, sizedNodes} from '../src/views/pictures.js';
 import {randomFrom, ringPlaces, treeAround} from '../src/texts/trees.js';
@@ -28,17 +30,23 @@ await checked('the heads of arrows are at the stronger label', checks => {
         return [nearest(start, places).label, nearest(tip.split(',').map(Number), places).label];
     });
     checks.equal('from the weaker to the stronger', shown.map(String).sort(), edges.map(String).sort());
-    checks.equal('as it is marked', allOf(picture, 'edge').map(edge => `${edge.getAttribute('data-weak')},${edge.getAttribute('data-strong')}`).sort(), edges.map(String).sort());
+    checks.equal('as it is marked',
+        allOf(picture, 'edge').map(edge => `${edge.getAttribute('data-weak')},${edge.getAttribute('data-strong')}`).sort(),
+        edges.map(String).sort());
 });
 
 await checked('what is given, and a solution, at the ports of a graph', checks => {
     const lines = ['1.1 2.2', '1.2 3.3', '1.3 2.1', '2.3 3.1'], given = [['a', 'b', 'c'], ['d', 'e', 'f'], ['g', 'h', 'i']],
           labels = given.map(row => row.map(label => label.toUpperCase()));
-    const text = `A B\n\nA B\n== given\nA B\n\nA B\n== graph\n${lines.join('\n')}\n== labels\n${given.map(row => row.join(' ')).join('\n')}\n`;
-    const picture = graphPicture(readGraph(text), labels), rects = picture.children.filter(node => node.tag === 'rect' || node.tag === 'text');
-    const nodes = rects.filter(node => node.tag === 'rect').map(rect => ({name: wordsOf(rects[rects.indexOf(rect) + 1]), at: numbersOf(rect, 'x', 'y').map(n => n + 11)}));
+    const text =
+        `A B\n\nA B\n== given\nA B\n\nA B\n== graph\n${lines.join('\n')}\n== labels\n${given.map(row => row.join(' ')).join('\n')}\n`;
+    const picture = graphPicture(readGraph(text), labels),
+          rects = picture.children.filter(node => node.tag === 'rect' || node.tag === 'text');
+    const nodes = rects.filter(node => node.tag === 'rect')
+                      .map(rect => ({name: wordsOf(rects[rects.indexOf(rect) + 1]), at: numbersOf(rect, 'x', 'y').map(n => n + 11)}));
     const ends = allOf(picture, 'end').map(end => {
-        const [path] = end.children, start = /^M ([-\d.]+) ([-\d.]+)/.exec(path.getAttribute('d')).slice(1).map(Number), placed = name => allOf(end, name).map(node => ({says: node.textContent, at: numbersOf(node, 'x', 'y')}));
+        const [path] = end.children, start = /^M ([-\d.]+) ([-\d.]+)/.exec(path.getAttribute('d')).slice(1).map(Number),
+              placed = name => allOf(end, name).map(node => ({says: node.textContent, at: numbersOf(node, 'x', 'y')}));
         return [nearest(start, nodes).name, nearest(start, placed('small')).says, placed('given')[0].says, placed('output')[0].says];
     });
     const wanted = lines.join(' ').split(' ').map(end => {
@@ -51,7 +59,8 @@ await checked('what is given, and a solution, at the ports of a graph', checks =
 await checked('what the algorithm outputs at the ports of a tree', checks => {
     for (const seed of [7, 8, 9]) {
         const nodes = treeAround({active: 3, passive: 2}, 3, randomFrom(seed)), at = ringPlaces(nodes);
-        const standing = nodes.map(({isActive, depth}, v) => ({round: 2, labels: isActive && depth === 1 ? [`${v}a`, `${v}b`, `${v}c`] : null}));
+        const standing =
+            nodes.map(({isActive, depth}, v) => ({round: 2, labels: isActive && depth === 1 ? [`${v}a`, `${v}b`, `${v}c`] : null}));
         const picture = drawRun(nodes, standing);
         // Each node with its neighbours, by its ports.
         const ports = nodes.map(({parent, own}, v) => parent === null ? [] : [[own, parent]]);
@@ -59,15 +68,77 @@ await checked('what the algorithm outputs at the ports of a tree', checks => {
         const places = at.map(({x, y}, v) => ({v, at: [x, y]}));
         let count = 0;
         for (const text of allOf(picture, 'output').filter(node => node.tag === 'text')) {
-            const [x, y] = numbersOf(text, 'x', 'y'), here = [x, y - 4], {v} = nearest(here, places.filter(place => standing[place.v].labels));
+            const [x, y] = numbersOf(text, 'x', 'y'), here = [x, y - 4],
+                      {v} = nearest(here, places.filter(place => standing[place.v].labels));
             // The neighbour in whose direction it stands.
             const angle = (to) => Math.abs(Math.atan2(Math.sin(to), Math.cos(to))), way = Math.atan2(here[1] - at[v].y, here[0] - at[v].x);
-            const [[port]] = ports[v].map(([number, u]) => [number, angle(Math.atan2(at[u].y - at[v].y, at[u].x - at[v].x) - way)]).sort((a, b) => a[1] - b[1]);
+            const [[port]] = ports[v]
+                                 .map(([number, u]) => [number, angle(Math.atan2(at[u].y - at[v].y, at[u].x - at[v].x) - way)])
+                                 .sort((a, b) => a[1] - b[1]);
             checks.equal(`seed ${seed}, node ${v}, port ${port}`, wordsOf(text), standing[v].labels[port - 1]);
             count++;
         }
         checks.equal('three at each node that outputs', count, 3 * standing.filter(({labels}) => labels).length);
     }
+});
+
+await checked('pictures as TikZ', checks => {
+    const classes = [['A'], ['B', '(C_1)'], ['D']], edges = [['A', 'B']], {tied, free} = sizedNodes(classes, edges);
+    const picture = drawDiagram(layout(tied, edges), free, 'a diagram'), lines = tikzOf(picture).split('\n');
+    checks.equal('a picture of its own', [lines[1].startsWith('\\begin{tikzpicture}[x=0.75pt, y=-0.75pt'), lines.at(-2)],
+        [true, '\\end{tikzpicture}']);
+    const named = lines.filter(line => line.startsWith('\\node')).map(line => /at \(([-\d.]+),([-\d.]+)\) \{(.*)\};$/.exec(line).slice(1));
+    const wanted =
+        allOf(picture, 'node').map(node => [...numbersOf(node.children[1], 'x', 'y'), node.children[1].textContent.replace('_', '\\_')]);
+    checks.equal('each class at its place', named.map(([x, y, text]) => [Number(x).toFixed(1), Number(y).toFixed(1), text]),
+        wanted.map(([x, y, text]) => [x.toFixed(1), y.toFixed(1), text]));
+    checks.equal('a box for each class',
+        lines.filter(line => /^\\draw\[rounded corners=5.25pt, fill=white\] \(.*\) rectangle \(.*\);$/.test(line)).length, 3);
+    // The tip of the arrow is where it is in the picture, and its line leads there.
+    const [tip] = allOf(picture, 'head')[0].getAttribute('points').split(' '), [head] = lines.filter(line => line.startsWith('\\fill'));
+    checks.check(
+        'one arrow with its head', head.startsWith(`\\fill (${tip.split(',').map(Number).join()}) -- `) && head.endsWith('-- cycle;'));
+    const curves = lines.filter(line => /^\\draw \(.*\) \.\. controls \(.*\) and \(.*\) \.\. \(.*\);$/.test(line)),
+          numbersIn = text => text.match(/-?\d+(?:\.\d+)?/g).map(Number);
+    checks.equal('and its line, by the same points', curves.map(numbersIn), [numbersIn(allOf(picture, 'line')[0].getAttribute('d'))]);
+    checks.check('nothing that isn\'t drawn',
+        !tikzOf(picture).includes('undefined') && !tikzOf(picture).includes('NaN') && !tikzOf(picture).includes('a diagram'));
+    // Of a graph: ports, circles and quadratic curves.
+    const graph = tikzOf(graphPicture(readGraph('A B\n\nA B\n== graph\n1.1 2.2\n1.2 2.1\n'), [['A', 'B'], ['B', 'A']]));
+    checks.equal('of a graph',
+        ['circle[radius=6pt]', 'font=\\sffamily\\scriptsize', 'font=\\sffamily\\footnotesize\\bfseries', '.. controls'].map(
+            part => graph.split(part).length - 1),
+        [2, 8, 4, 4]);
+});
+
+await checked('the whole chain as one picture', checks => {
+    const {tied, free} = sizedNodes([['A'], ['B']], [['A', 'B']]), drawnOnce = () => {
+        const picture = drawDiagram(layout(tied, [['A', 'B']]), free, 'a diagram'),
+              [, , width, height] = picture.getAttribute('viewBox').split(' ').map(Number);
+        return {picture, width, height};
+    };
+    const box = (head, lines, back) => cardBox({head, lines, diagrams: [drawnOnce(), null], back});
+    const boxes = [
+        box('0  first', {active: ['M^3', 'P O^2'], passive: ['M [PO]']}),
+        box('1  derived problem', {active: Array.from({length: 40}, (_, i) => `line ${i}`), passive: []}, 'back to problem 0: A → B')
+    ];
+    const picture = stackedPicture(boxes, ['', 'step'], ['accepted: ..'], 'The chain of first'),
+          [, , width, height] = picture.getAttribute('viewBox').split(' ').map(Number);
+    const texts = tikzOf(picture).split('\n').filter(line => line.startsWith('\\node')).map(line => ({
+        says: /\{([^]*)\};$/.exec(line)[1],
+        at: /at \(([-\d.]+),([-\d.]+)\)/.exec(line).slice(1).map(Number)
+    }));
+    const said = texts.map(({says}) => says);
+    checks.equal('what stands in it',
+        [
+            '0  first', 'M\\textsuperscript{3}', 'M [PO]', 'step', '1  derived problem', 'line 15', '$\\dots{}$ and 24 more', 'accepted: ..'
+        ].map(text => said.some(other => other.replace('\\dots{}', '$\\dots{}$').endsWith(text))),
+        Array(8).fill(true));
+    checks.check('and no more lines', !said.includes('line 16'));
+    checks.check('all of it within its edges',
+        texts.every(({says, at: [x, y]}) => x >= 0 && y > 0 && y < height && x + says.replace(/\\\w+/g, '').length < width));
+    const heights = ['0  first', 'step', '1  derived problem', 'accepted: ..'].map(text => texts.find(({says}) => says === text).at[1]);
+    checks.equal('one below the other', heights, [...heights].sort((a, b) => a - b));
 });
 
 await checked('a hundred changes are undone', checks => {
@@ -113,7 +184,10 @@ await checked('answers are kept for all words of a question', async checks => {
         }
         terminate() {}
     };
-    const engine = new Engine({}, '', 2), asked = [['re', ['lower', '2', '0'], 'A'], ['re', ['lower', '2', '1'], 'A'], ['re', ['lower', '2', '0'], 'B'], ['explore', ['lower', '2', '0'], 'A'], ['re', ['lower', '2'], 'A']];
+    const engine = new Engine({}, '', 2), asked = [
+        ['re', ['lower', '2', '0'], 'A'], ['re', ['lower', '2', '1'], 'A'], ['re', ['lower', '2', '0'], 'B'],
+        ['explore', ['lower', '2', '0'], 'A'], ['re', ['lower', '2'], 'A']
+    ];
     for (const [program, words, input] of asked)
         checks.equal(`${program} ${words.join(' ')}`, (await engine.ask(program, words, input)).text, `${words.join(' ')}: ${input}`);
     checks.equal('each was asked', sent, asked.length);

@@ -16,6 +16,7 @@ import {inAndOutSessions} from './user/in_and_out.mjs';
 import {keptSessions} from './user/kept.mjs';
 import {lateSessions} from './user/late.mjs';
 import {numbersSessions} from './user/numbers.mjs';
+import {picturesSessions} from './user/pictures.mjs';
 import {placesSessions} from './user/places.mjs';
 import {problemsSessions} from './user/problems.mjs';
 import {searchingSessions} from './user/searching.mjs';
@@ -24,6 +25,7 @@ import {wordsSessions} from './user/words.mjs';
 import {seeingSessions} from './user/seeing.mjs';
 import {sessionsSessions} from './user/sessions.mjs';
 import {settlingSessions} from './user/settling.mjs';
+import {tablesSessions} from './user/tables.mjs';
 
 const page = await openBrowser({height: 900}), user = new User(page, null);
 const pictures = process.env.PICTURES;
@@ -60,6 +62,7 @@ const sessions = {
     ...keptSessions,
     ...lateSessions,
     ...numbersSessions,
+    ...picturesSessions,
     ...placesSessions,
     ...problemsSessions,
     ...searchingSessions,
@@ -67,7 +70,8 @@ const sessions = {
     ...sessionsSessions,
     ...smallSessions,
     ...wordsSessions,
-    ...settlingSessions
+    ...settlingSessions,
+    ...tablesSessions
 };
 for (const [name, session] of Object.entries(sessions)) {
     await checked(name, async checks => {

@@ -4,10 +4,12 @@ import * as problems from '../src/texts/problems.js';
 import * as certificates from '../src/texts/certificates.js';
 import * as chains from '../src/cards/chains.js';
 import * as sessions from '../src/keeping/sessions.js';
-import {catalogueLine, namedForCatalogue, tableName} from '../src/texts/catalogue.js';
+import {catalogueLine, namedForCatalogue, rowsFound, rowsOfTable, tableName, valuesIn} from '../src/texts/catalogue.js';
 import {graphInput, graphPlaces, isGraphText, readGraph, readSolution} from '../src/texts/graphs.js';
 import {givenFault, givenInput, inputCommand, raisedInput, readFit, readGiven, withoutInput} from '../src/texts/inputs.js';
 import {InputNames} from '../src/cards/input_names.js';
+import {bytesOf, lettersOf} from '../src/texts/letters.js';
+import {inOneLine, problemsIn, tableOf} from '../src/texts/lists.js';
 import {findRelaxation, findRenaming} from '../src/texts/maps.js';
 import {blocksOfReport, partsOfText, roundsOfGraph} from '../src/texts/reports.js';
 import {commandsIn, leavesQuestion, nameLabels, readSettled} from '../src/texts/settled.js';
@@ -17,6 +19,7 @@ import {nameOfJob} from '../src/engine/job_names.js';
 import {sharedIn} from '../src/keeping/sessions.js';
 import * as kept from '../src/keeping/kept.js';
 import {isUnknown, wordsIn} from '../src/engine/words.js';
+import {texText} from '../src/texts/tikz.js';
 import {deliveriesOf, randomFrom, readRun, runInput, treeAround} from '../src/texts/trees.js';
 import {checked} from './checks.mjs';
 import {answer, catalogueTables, certificatesOfGallery, claimsOfLine, example, linesOfTable, namesIn, natively, randomFrom as numbersFrom, re} from './place.mjs';
@@ -29,6 +32,13 @@ const is = (what, found, wanted) => checks.equal(what, found, wanted), about = (
 });
 const filled = text => texts.filledLines(text);
 
+await about('texts in TikZ', () => {
+    is('powers are raised', texText('M^3 [PO]^12'), 'M\\textsuperscript{3} [PO]\\textsuperscript{12}');
+    is('what TeX would take for its own', texText('(IN_1) 50% #1 a&b {x} ~ \\ ^ $'),
+        '(IN\\_1) 50\\% \\#1 a\\&b \\{x\\} \\textasciitilde{} \\textbackslash{} \\textasciicircum{} \\$');
+    is('arrows and dots', texText('A → B…'), 'A $\\to$ B\\dots{}');
+});
+
 await about('notation', () => {
     is('brackets', texts.bracketed('M PO\nO O'), 'M [PO]\nO O');
     is('brackets of long names', texts.bracketed('(IN)O^2 [AB] A^3'), '[(IN)O]^2 [AB] A^3');
@@ -40,9 +50,21 @@ await about('notation', () => {
     is('LaTeX', texts.latexOf({active: ['A [B(c_d)]^2'], passive: []}).includes('\\mathsf{A}\\,[\\mathsf{B}\\mathsf{c\\_d}]^{2}'), true);
 });
 
+await about('bytes as letters', () => {
+    const number = numbersFrom(3);
+    for (let size = 0; size < 80; size++)
+        for (const made of [() => number(256), () => 0, () => 255]) {
+            const bytes = Array.from({length: size}, made), letters = lettersOf(bytes);
+            is(`${size} bytes`, [...bytesOf(letters)], bytes);
+            is('letters that no text of JSON and no markup changes', /^[!-~]*$/.test(letters) && !/["<\\]/.test(letters), true);
+        }
+    is('two for 13 bits', lettersOf(new Uint8Array(1300)).length, 1600);
+});
+
 // All problems of the examples and what the program derives of them.
 const firsts = [
-    ...namesIn('problems').filter(name => !name.startsWith('without')).map(name => `problems/${name}`), 'first/independent.txt', 'first/sinkless.txt'
+    ...namesIn('problems').filter(name => !name.startsWith('without')).map(name => `problems/${name}`), 'first/independent.txt',
+    'first/sinkless.txt'
 ].map(name => answer(['read'], example(name)));
 const canonical =
     [...firsts, answer(['family', 'colouring', '3', '3', '3']), answer(['read'], 'A B\n\n%3\n'), answer(['read'], '%2\n\nA^3\n')];
@@ -51,6 +73,48 @@ for (const first of firsts)
         const {status, text} = re(['step', n], first);
         if (status === 0) canonical.push(certificates.readStep(text).problem);
     }
+
+await about('lists of problems, and the table of what is known of them', () => {
+    const read = list => problemsIn(list).map(({name, text}) => [name, re(['read'], text)]),
+          said = (...lines) => re(['read'], lines.join('\n'));
+    is('one a line', read('M^3, P O^2 / M [PO], O^2\n\n(IN)^2 (OUT)/(IN) (OUT)\r\n'),
+        [['', said('M^3', 'P O^2', '', 'M [PO]', 'O^2')], ['', said('(IN)^2 (OUT)', '', '(IN) (OUT)')]]);
+    is('as the catalogue has them, numbers and answers and all', read('AAB ABB / AB BB\n17\tAA / AA AB\texactly 0 (0 rounds / x)\tre zero'),
+        [['', said('A A B', 'A B B', '', 'A B', 'B B')], ['17', said('A A', '', 'A A', 'A B')]]);
+    is('a side that is one line, and none', read('O [IO]^2 / I O\n%3 / A^2'),
+        [['', said('O [IO]^2', '', 'I O')], ['', said('%3', '', 'A^2')]]);
+    is('whole texts', read('# mine\nM^3\nP O^2\n\nM [PO]\nO^2\n---\nO [IO]^2\n\nI O\n-----\n\n'),
+        [['mine', said('M^3', 'P O^2', '', 'M [PO]', 'O^2')], ['', said('O [IO]^2', '', 'I O')]]);
+    is('one whole text', read('M^3\nP O^2\n\nM [PO]\nO^2\n').length, 1);
+    is('none', [problemsIn(''), problemsIn(' \n')], [[], []]);
+    for (const text of canonical)
+        if (text.length < 3000) is('in one line, and back', re(['read'], problemsIn(inOneLine(text))[0].text), {status: 0, text});
+    const rows = [
+        {
+            text: 'A^3\n\nA^2\n',
+            claims: readSettled('exactly 0\nby: re zero\nwith identifiers: constant\nby: re zero\nby: x y\n'),
+            time: 1234
+        },
+        {name: 'b\tc', text: 'A', fault: 'input: line 2:\n a block is missing'}, {text: 'B^3\n\nB^2\n'}
+    ];
+    is('the table', tableOf(rows).split('\n').slice(1), [
+        '1\tA^3 / A^2\texactly 0\tre zero\tconstant\tre zero; x y\t1.2', 'b c\tA\tinput: line 2: a block is missing\t\t\t\t',
+        '3\tB^3 / B^2\t\t\t\t\t', ''
+    ]);
+    is('which is a list again', problemsIn(tableOf([rows[0]]).split('\n')[1])[0], {name: '1', text: 'A^3\n\nA^2\n'});
+});
+
+await about('labels that fit no tree', () => {
+    const lost = (...lines) => problems.lostLabels(re(['read'], lines.join('\n')).text);
+    is('none', lost('M^3', 'P O^2', '', 'M [PO]', 'O^2'), {rounds: [], isAll: false});
+    is('one behind the other', lost('A^3', 'B C^2', '', 'B C', 'A D'), {rounds: [['D'], ['A']], isAll: false});
+    is('all of them', lost('A^3', 'B C^2', '', 'B D', 'A D').isAll, true);
+    for (const text of canonical) {
+        if (text.length > 3000) continue;
+        const said = natively('explore', ['flexible'], text).text;
+        is('as explore flexible says it', problems.lostLabels(text).isAll, said.startsWith('no solution'));
+    }
+});
 
 await about('problems', () => {
     for (const text of canonical) {
@@ -90,7 +154,8 @@ await about('certificates', () => {
         if (bound.kind === 'fixed') path.at(-1).back = {number: bound.back, pairs: bound.pairs};
         is(`${name} comes back`, chains.certificateOf(path, bound.kind, card => card.problem), text);
     }
-    is('a certificate before a tree', certificates.certificateAlone(example('first/orientation-run.txt')), example('first/orientation-upper.txt'));
+    is('a certificate before a tree', certificates.certificateAlone(example('first/orientation-run.txt')),
+        example('first/orientation-upper.txt'));
     for (const name of ['sinkless-orientation-3', 'maximal-independent-set-3-lower', 'three-colouring-3']) {
         const given = example(`gallery/${name}.txt`), bound = certificates.readCertificate(given);
         const steps = bound.steps.map(step => ({
@@ -206,11 +271,21 @@ await about('what the browser keeps', async () => {
               (problem, i) => ({kind: 'first', id: i + 1, parent: null, problem, title: `t${i}`})),
           others = {build: 'b', tab: '1', address: '', editor: {active: 'A', passive: '', isOwn: true, replaced: null}},
           notes = [[1, {problem: problems[0], list: [{kind: 'hint', text: 'n'}]}]],
-          tries = [[problems[4], [{what: 'zero', line: 'no', time: 1}, {what: 'rounds 4', line: 'more than 4', time: 2, input: problems[0]}]]],
-          history = sessions.historyOf({cards, current: 3, done: [{cards: [cards[0]], current: 1}], undone: [{cards: cards.slice(0, 2), current: 2}]}),
+          tries =
+              [[problems[4], [{what: 'zero', line: 'no', time: 1}, {what: 'rounds 4', line: 'more than 4', time: 2, input: problems[0]}]]],
+          history = sessions.historyOf(
+              {cards, current: 3, done: [{cards: [cards[0]], current: 1}], undone: [{cards: cards.slice(0, 2), current: 2}]}),
           inputs = [[problems[3], 2]], data = {...others, notes, tries, inputs, history}, parts = kept.withoutTexts(data);
-    const whole =
-        {...others, notes, tries, inputs, now: {current: 3, cards}, done: [{current: 1, cards: [cards[0]]}], undone: [{current: 2, cards: cards.slice(0, 2)}], all: cards};
+    const whole = {
+        ...others,
+        notes,
+        tries,
+        inputs,
+        now: {current: 3, cards},
+        done: [{current: 1, cards: [cards[0]]}],
+        undone: [{current: 2, cards: cards.slice(0, 2)}],
+        all: cards
+    };
     is('each problem once', parts.texts, [problems[0], problems[4], problems[3]]);
     is('packed', await kept.readKept(await kept.packKept(parts)), whole);
     is('not packed', await kept.readKept(kept.keptText(parts)), whole);
@@ -234,7 +309,7 @@ await about('what is given', () => {
         false, 'refused: given that input, step 2, clause END', 'holds: given that input, not solvable in 1 or fewer rounds', [['1', '[A]']]
     ]);
     // What a refusal says, of each form that the program prints.
-    const mis = answer(['read'], example('independent.txt')), sides = natively('explore', ['input', 'sides', '3', '2']).text,
+    const mis = answer(['read'], example('first/independent.txt')), sides = natively('explore', ['input', 'sides', '3', '2']).text,
           judged = (text, input = sides) => natively('explore', ['given'], givenInput(text, input)).text;
     const lower = answer(['lower', '1', '0'], mis), upper = example('gallery/maximal-matching-3-upper.txt'),
           withoutRow = lower.replace(/(== rows\n)[^\n]*\n/, '$1');
@@ -265,7 +340,8 @@ await about('what is given', () => {
 });
 
 await about('reports', () => {
-    for (const name of ['gallery/no-sinks-no-sources-3.txt', 'gallery/orientation-3-upper.txt', 'first/by-rows.txt', 'first/colouring-refused.txt']) {
+    for (const name of ['gallery/no-sinks-no-sources-3.txt', 'gallery/orientation-3-upper.txt', 'first/by-rows.txt',
+             'first/colouring-refused.txt']) {
         const report = natively('explore', ['describe'], example(name)).text, blocks = blocksOfReport(report),
               words = text => text.replace(/[#`*\s-]/g, '');
         is(`${name}: all of it`, words(blocks.map(block => block.text ?? block.items.join('\n')).join('\n')), words(report));
@@ -324,9 +400,10 @@ await about('what lines say in words', () => {
     is('the model of a claim',
         [
             'accepted: not solvable in 2 or fewer rounds', 'accepted: given that input, not solvable in 2 or fewer rounds',
-            'with identifiers: at least order log N', 'accepted: solvable in 1 rounds', 'more than 4'
+            'with identifiers: at least order log N', 'accepted: solvable in 1 rounds', 'more than 4',
+            'not solvable in any number of rounds with port numbers alone'
         ].map(modelOf),
-        ['with port numbers alone', 'with port numbers and that input', '', '', '']);
+        ['with port numbers alone', 'with port numbers and that input', '', '', '', '']);
     is('a search that found nothing',
         ['not found: nodes 15, cut 0', 'not found: nodes 1, cut 3', 'not found: graphs 16', 'more than 4'].map(inWords), [
             'not found: 15 problems looked at, none of them cut at a limit', 'not found: 1 problem looked at, 3 of them cut at a limit',
@@ -417,6 +494,27 @@ await about('the catalogue', () => {
         [{line: 'more than 1', shownBy: []}, {line: 'with identifiers: at least order log N', shownBy: []}]);
     is('one that lacks', catalogueLine(table, answer(['read'], 'A^3\nB^3\n\nA B\n')), null);
     is('too many labels', namedForCatalogue(answer(['family', 'colouring', '3', '2', '8'])), null);
+});
+
+await about('the catalogue to browse', () => {
+    for (const [name, text] of Object.entries(catalogueTables())) {
+        if (!/^\d-\d-\d$/.test(name) || text.length > 500000) continue;
+        const rows = rowsOfTable(text), lines = linesOfTable(text), of = found => found.map(({number}) => number);
+        is(`${name}: all lines`, rows.map(({number, problem, answer: said}) => [number, problem, said].join()),
+            lines.map(line => line.slice(0, 3).join()));
+        is('nothing asked', rowsFound(rows, {}).length, lines.length);
+        is('by number', of(rowsFound(rows, {words: ' 2 '})), ['2']);
+        is('by words', of(rowsFound(rows, {words: 'AB BB'})),
+            lines.filter(([, problem]) => problem.includes('AB') && problem.includes('BB')).map(([number]) => number));
+        for (const [said, count] of valuesIn(rows, 'answer').slice(0, 3))
+            is(`answered ${said}`, [rowsFound(rows, {answer: said}).length, lines.filter(line => line[2] === said).length], [count, count]);
+        const [[said] = [], [, most] = []] = valuesIn(rows, 'identifiers'),
+                                       both = rowsFound(rows, {answer: rows[0].answer, identifiers: rows[0].identifiers});
+        is('the commonest class first', !most || rowsFound(rows, {identifiers: said}).length >= most, true);
+        is('others like the first one',
+            both.every(row => row.answer === rows[0].answer && row.identifiers === rows[0].identifiers) && both[0].number === '1', true);
+        is('as the program reads them', re(['read'], problemsIn(rows.at(-1).problem)[0].text).status, 0);
+    }
 });
 
 await about('each problem of the catalogue is found under any names', () => {

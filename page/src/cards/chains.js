@@ -40,7 +40,8 @@ function firstLineOf({written, problem}) {
 }
 
 // A name may come with a foreign session: one that reads like what the programs say stands in quotes, and a long one is cut.
-const LONGEST_TITLE = 160, LIKE_A_LINE = /accepted|refused|holds:|solv|exactly|more than|at most|at least|^(yes|no)\b|rounds?$/i;
+const LONGEST_TITLE = 160,
+      LIKE_A_LINE = /accepted|refused|holds:|solv|exactly|more than|at most|at least|^(yes|no)\s*(:|$)|^no solution|rounds?$/i;
 function namedAs(title) {
     const [shown] = title.trim().split('\n'), short = shown.length > LONGEST_TITLE ? `${shown.slice(0, LONGEST_TITLE)}…` : shown;
     return LIKE_A_LINE.test(short.normalize('NFKC')) ? `“${short}”` : short;

@@ -184,7 +184,7 @@ export class Searches {
                 const answer = await task.ask('explore', words, chain);
                 await this.tried(view, task, what, answer);
                 if (isFound(answer)) return {what, certificate: answer.text};
-                const isCut = answer.text.startsWith('limit: more than'), next = more(numbers, isCut);
+                const isCut = /^limit: (?:searched )?more than/.test(answer.text), next = more(numbers, isCut);
                 if (!search.goesOn || !isCut && !answer.text.startsWith('not found') || String(next) === String(numbers)) return null;
                 numbers = next;
             }

@@ -4,6 +4,7 @@ import {button, code, copy, cut, download, element, faulty, hint, plural, replac
 import {say} from '../views/messages.js';
 import {identifiersIn, partsOfText} from '../texts/reports.js';
 import {openDialog, openTextDialog} from './dialogs.js';
+import {openChainPicture} from './picture_dialog.js';
 
 // So many characters of a certificate are shown; Copy and Download give all. Of larger ones no report is asked for.
 const MOST_SHOWN_OF_CERTIFICATE = 20000, LARGEST_WITH_REPORT = 1000000;
@@ -51,7 +52,10 @@ class CertificateDialog {
             button('Download', () => download(file, text)),
             this.bench.words.has('condense') &&
                 button('Condense', () => this.condense(), {title: 'explore condense: the same text with its configurations in groups'}),
-            button('Change it', () => {
+            button('Picture…', () => {
+                this.dialog.close();
+                openChainPicture(this.bench, [judged, judgedGiven].filter(Boolean).map(({line}) => line));
+            }, {title: 'the whole chain as one picture: SVG, PNG or TikZ'}), button('Change it', () => {
                 this.dialog.close();
                 openTextDialog(this.bench, text);
             }, {title: 'edit the text and open it as a new chain'}));

@@ -1,8 +1,8 @@
 // An editor of a problem: the active and the passive constraint, with line numbers and the fault at its line.
 import {button, element, faulty, hint, plural, replace} from '../views/dom.js';
 import {say} from '../views/messages.js';
-import {bracketed, filledLines} from '../texts/texts.js';
-import {describe, isHopeless} from '../texts/problems.js';
+import {bracketed, filledLines, sortedSet} from '../texts/texts.js';
+import {describe, lostLabels} from '../texts/problems.js';
 import {faultLine, isCertificate} from '../texts/certificates.js';
 import {LONGEST_SHOWN, NumberedArea} from './numbered_area.js';
 
@@ -147,15 +147,22 @@ export class Editor {
         const isLong = canonical.length > LONGEST_SHOWN,
               found = isLong ? await this.engine.work('describe', canonical) : describe(canonical);
         if (text !== this.text) return null;
-        const {labels, active, passive} = found;
+        const {labels, active, passive} = found, lost = isLong ? {rounds: []} : lostLabels(canonical);
         this.problem = canonical;
         replace(this.state, element('span.good', {}, 'Read: '),
             `${active.count} active and ${plural(passive.count, 'passive configuration')}, ${plural(labels.length, 'label')}.`,
-            aloneHint(found, !isLong && isHopeless(canonical)));
+            lostHint(found, lost));
+        if (lost.isAll) this.askSolution(text, canonical);
         const lines = area => filledLines(area.value).filter(line => !line.startsWith('%'));
         this.written = {active: lines(this.active), passive: lines(this.passive)};
         this.onRead(canonical, this.written);
         return canonical;
+    }
+
+    // Where no label seems to be left, the program's line on it.
+    async askSolution(text, canonical) {
+        const said = await this.engine.ask('explore', ['flexible'], canonical, {quiet: true}).catch(() => null), line = said?.text.trim();
+        if (line === 'no solution' && text === this.text) this.state.append(element('div.faulty', {}, `explore flexible: ${line}`));
     }
 
     complain(answer) {
@@ -213,12 +220,17 @@ function advice(answer, row = '') {
     return said ? element('div.hint', {}, said) : null;
 }
 
-// The commonest slips of the pen: labels that stand on one side alone, and a problem of which nothing is left without them.
-function aloneHint({active, passive}, isWithoutSolution) {
+// The commonest slips of the pen: labels that stand on one side alone, those that do without them, and a problem of which nothing is left then.
+function lostHint({active, passive}, {rounds, isAll}) {
     const said = [['active', active.alone], ['passive', passive.alone]]
                      .filter(([, labels]) => labels.length)
                      .map(([side, labels]) => `${labels.join(', ')} ${labels.length > 1 ? 'stand' : 'stands'} around ${
                               side} nodes alone: no solution has ${labels.length > 1 ? 'them' : 'it'}.`);
-    if (isWithoutSolution) said.push('There is no solution at all.');
+    const behind = sortedSet(rounds.slice(1).flat());
+    const them = labels => labels.length > 1 ? 'them' : 'it';
+    if (behind.length && !isAll)
+        said.push(`Without ${them(rounds[0])}, ${behind.join(', ')} ${
+            behind.length > 1 ? 'stand' : 'stands'} on one side alone: no solution has ${them(behind)} either.`);
+    if (isAll) said.push('There is no solution at all.');
     return said.length ? element('div.hint', {}, said.join(' ')) : null;
 }

@@ -6,7 +6,8 @@ import {openWideDialog} from './dialogs.js';
 import {graphInput, graphPlaces, readGraph, readSolution} from '../texts/graphs.js';
 import {NumberedArea} from './numbered_area.js';
 import {filledRows} from '../texts/texts.js';
-import {inRem, keepReadable, pictureFile, svg} from '../views/pictures.js';
+import {pictureButtons} from '../views/picture_files.js';
+import {inRem, keepReadable, svg} from '../views/pictures.js';
 
 const MARGIN = 30;
 
@@ -36,10 +37,6 @@ export function openGraphDialog(text, ask) {
             code('explore solve < graph.txt'));
         replace(box, graph && !fault ? graphPicture(graph, labels) : null);
     };
-    const save = () => {
-        const drawn = box.querySelector('svg');
-        if (drawn) download('graph.svg', pictureFile(drawn), 'image/svg+xml');
-    };
     openWideDialog('A finite graph', line, box,
         hint(`Squares are active nodes, circles passive ones; small numbers are ports.${
             input === null
@@ -54,7 +51,7 @@ export function openGraphDialog(text, ask) {
             button('Download', () => download('graph.txt', now())),
             button(
                 'Copy the command', event => copy('explore solve < graph.txt', event.currentTarget), {title: 'explore solve < graph.txt'}),
-            button('SVG', save, {'aria-label': 'download the graph as SVG'})));
+            pictureButtons('the graph', () => 'graph', () => box.querySelector('svg'))));
     draw();
 }
 

@@ -3,7 +3,8 @@ import {lineText} from '../views/claims.js';
 import {button, code, copy, download, element, faulty, hint, plural, replace} from '../views/dom.js';
 import {deliveriesOf, randomFrom, readRun, ringPlaces, runInput, treeAround} from '../texts/trees.js';
 import {openWideDialog} from './dialogs.js';
-import {inRem, keepReadable, pictureFile, svg} from '../views/pictures.js';
+import {pictureButtons} from '../views/picture_files.js';
+import {inRem, keepReadable, svg} from '../views/pictures.js';
 import {stagesOf} from '../cards/chains.js';
 
 const FEW_NODES = 60, NEAR = 3, FEW_LINES = 60;
@@ -42,13 +43,8 @@ class TreeDialog {
                     {class: 'primary'}),
                 this.wholeLabel, button('Extract the table', () => this.extract()),
                 button('Copy the input of re run', event => copy(this.input, event.currentTarget)),
-                button('SVG', () => this.save(), {'aria-label': 'download the tree as SVG'})),
+                pictureButtons('the tree', () => 'run', () => this.picture.querySelector('svg'))),
             this.table);
-    }
-
-    save() {
-        const drawn = this.picture.querySelector('svg');
-        if (drawn) download('run.svg', pictureFile(drawn), 'image/svg+xml');
     }
 
     async draw() {

@@ -21,6 +21,7 @@ const JOB_NAMES = {
     'bridge': 'looking for a step',
     'input': 'writing what is given',
     'family': 'writing a problem of a family',
+    'flexible': 'asking whether there is a solution',
     'layout': 'drawing a diagram',
     'mapped': 'writing a changed problem',
     'without': 'leaving labels out',

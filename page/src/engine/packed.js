@@ -1,6 +1,4 @@
 // What the file holds packed: a response to read as a text or as bytes.
+import {bytesOf} from '../texts/letters.js';
 
-export function unpacked(packed) {
-    const bytes = Uint8Array.from(atob(packed), c => c.charCodeAt(0));
-    return new Response(new Blob([bytes]).stream().pipeThrough(new DecompressionStream('deflate-raw')));
-}
+export const unpacked = packed => new Response(new Blob([bytesOf(packed)]).stream().pipeThrough(new DecompressionStream('deflate-raw')));

@@ -56,3 +56,24 @@ export function catalogueLine(table, text) {
         isInOrder: String(names) === String(found.names)
     };
 }
+
+// All lines of a table: [{number, problem, answer, by, identifiers, identifiersBy}].
+export const rowsOfTable = table => table.trimEnd().split('\n').map(line => {
+    const [number, problem, answer, by = '', identifiers = '', identifiersBy = ''] = line.split('\t');
+    return {number, problem, answer, by, identifiers, identifiersBy};
+});
+
+// Those that have a number or are written with these words, and have this answer and this class, where they are named.
+export function rowsFound(rows, {words = '', answer = '', identifiers = ''}) {
+    const asked = words.trim(), isNumber = /^\d+$/.test(asked);
+    return rows.filter(row => (!answer || row.answer === answer) && (!identifiers || row.identifiers === identifiers) &&
+            (!asked || (isNumber ? row.number === asked : asked.split(/\s+/).every(word => row.problem.includes(word)))));
+}
+
+// The different values of a column with how often each stands there, the commonest first: [[value, count]].
+export function valuesIn(rows, column) {
+    const counts = new Map();
+    for (const row of rows)
+        if (row[column]) counts.set(row[column], (counts.get(row[column]) || 0) + 1);
+    return [...counts].sort(([, one], [, other]) => other - one);
+}

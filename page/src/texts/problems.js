@@ -35,10 +35,15 @@ export function describe(text) {
     return {labels: sortedSet([...known[0], ...known[1]]), active, passive};
 }
 
-// Whether nothing is left on a side without the labels that stand on one side alone, those that do then, and so on: so there is no solution.
-export function isHopeless(text) {
-    const {active, passive} = describe(text), alone = [...active.alone, ...passive.alone];
-    return !active.count || !passive.count || alone.length > 0 && isHopeless(without(text, alone));
+// The labels that fit no tree: those that stand on one side alone, those that do without them, and so on, as {rounds, isAll}, a list for each
+// time. Where nothing is left on a side then, `isAll` says so: there is no solution.
+export function lostLabels(text) {
+    const rounds = [];
+    for (let rest = text;; rest = without(rest, rounds.at(-1))) {
+        const {active, passive} = describe(rest), alone = sortedSet([...active.alone, ...passive.alone]);
+        if (alone.length) rounds.push(alone);
+        if (!alone.length || !active.count || !passive.count) return {rounds, isAll: !active.count || !passive.count};
+    }
 }
 
 // The text of one side, without the line end behind it; nothing where it has no configuration.

@@ -5,7 +5,11 @@ export const roundsOfGraph = report =>
     /^The passive nodes are the edges of a graph, and two hops are one round of the graph\. (Problem 0 .*)$/m.exec(report)?.[1] || null;
 
 // What a bound says of unique identifiers, out of a report: its first sentence, up to the law that it cites; null where it says nothing of them.
-export const identifiersIn = report => /^With unique identifiers .*?(?= \()/m.exec(report)?.[0] || null;
+export const identifiersIn = report => plainFormulas(/^With unique identifiers .*?(?= \()/m.exec(report)?.[0] || '') || null;
+
+// Formulas between dollars as words: $C^{T + 1}$ as C^(T + 1).
+const plainFormulas = text => text.replace(/\$([^$]+)\$/g,
+    (_, formula) => formula.replaceAll('\\', '').replaceAll('{', '(').replaceAll('}', ')'));
 
 // Blocks {kind: 'heading', level, text}, {kind: 'code', text}, {kind: 'list', items} and {kind: 'paragraph', text}.
 export function blocksOfReport(markdown) {
@@ -37,6 +41,6 @@ function addTo(blocks, last, kind, line) {
 export function partsOfText(text) {
     return text.split(/(`[^`]+`|\*\*[^*]+\*\*)/).filter(Boolean).map(part => {
         if (/^`.+`$/s.test(part)) return {kind: 'code', text: part.slice(1, -1)};
-        return /^\*\*.+\*\*$/s.test(part) ? {kind: 'bold', text: part.slice(2, -2)} : {kind: 'plain', text: part};
+        return /^\*\*.+\*\*$/s.test(part) ? {kind: 'bold', text: part.slice(2, -2)} : {kind: 'plain', text: plainFormulas(part)};
     });
 }

@@ -1,5 +1,6 @@
 // The buttons of a card, and those for the labels that are selected on it.
 import {kindsOf} from '../cards/chains.js';
+import {openBesideDialog} from '../dialogs/beside_dialog.js';
 import {openDiagramDialog} from '../dialogs/dialogs.js';
 import {button, copy, element, hint, intoView} from './dom.js';
 import {SIDES} from '../texts/problems.js';
@@ -52,6 +53,8 @@ function moreMenu(bench, card, view) {
             bench.words.has('closure') && kindsOf(bench.cards.path(card.id)).includes('lower') &&
                 button('Closure with a diagram…', () => closureWithDiagram(bench, card, view),
                     {title: 'a fixed point by right-closed sets, of this problem raised by a diagram'}),
+            act('Beside another card…', () => openBesideDialog(bench, card), 'two cards side by side, and what stands in one of them alone',
+                'b'),
             button('Note…', () => bench.note(view.card)),
             button('To the editor', () => bench.toEditor(card), {title: 'as the first problem of another chain'}),
             button('Remove the card and all behind it', () => bench.cards.remove(card.id))));

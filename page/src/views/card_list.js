@@ -36,5 +36,8 @@ export class CardList {
         return this.row('li.other', last.id, this.nameOf(root), plural(count, 'card'));
     }
 
-    row(kind, id, name, size) { return element(kind, {}, button(name, () => this.go(id), {class: 'link'}), element('small', {}, size)); }
+    row(kind, id, name, size) {
+        return element(
+            kind, {}, button(name, () => this.go(id), {class: 'link', 'aria-label': `problem ${name}`}), element('small', {}, size));
+    }
 }

@@ -1,9 +1,9 @@
 // Lines of the programs as the page shows them: each as it was printed, with the model that it speaks of beside it, and counts in words.
 import {element, hint, plural} from './dom.js';
 
-// A bound speaks of deterministic algorithms that know port numbers alone, or also what is given.
+// A bound speaks of deterministic algorithms that know port numbers alone, or also what is given; where the line says so itself, nothing is added.
 export function modelOf(line) {
-    if (!/not solvable|isn't solvable/.test(line) || line.includes('with identifiers')) return '';
+    if (!/not solvable|isn't solvable/.test(line) || /with identifiers|with port numbers/.test(line)) return '';
     return /given that input/.test(line) ? 'with port numbers and that input' : 'with port numbers alone';
 }
 
@@ -22,7 +22,7 @@ export const claimNodes =
 
 // What a search says that found nothing.
 export const inWords = line =>
-    line.replace(/^not found: nodes (\d+), cut (\d+)$/,
+    line.replace(/^not found: (?:searched )?nodes (\d+), cut (\d+)$/,
             (_, nodes, cut) =>
                 `not found: ${plural(Number(nodes), 'problem')} looked at, ${cut === '0' ? 'none' : cut} of them cut at a limit`)
         .replace(/^not found: graphs (\d+)$/, (_, graphs) => `not found: ${plural(Number(graphs), 'graph')} tried`);

@@ -1,6 +1,7 @@
 // A strength diagram on a card: a picture, or for many classes a list with a button that draws it.
-import {button, code, download, element, hint, plural, replace, stopButton} from './dom.js';
-import {drawDiagram, pictureFile, sizedNodes} from './pictures.js';
+import {button, element, hint, plural, replace, stopButton} from './dom.js';
+import {pictureButtons} from './picture_files.js';
+import {drawDiagram, sizedNodes} from './pictures.js';
 
 // Pictures of more classes are drawn where they are asked for.
 const MOST_DRAWN = 20;
@@ -72,10 +73,8 @@ export class DiagramView {
         this.content.tabIndex = 0;
         this.content.setAttribute('role', 'group');
         this.content.setAttribute('aria-label', `${this.side} diagram, a picture`);
-        const save = () => download(`${this.name()}-${this.side}.svg`, pictureFile(picture), 'image/svg+xml');
         replace(this.caption, `${this.side} diagram`,
-            button('SVG', save,
-                {class: 'link save', title: 'download the picture', 'aria-label': `download the ${this.side} diagram as SVG`}));
+            pictureButtons(`the ${this.side} diagram`, () => `${this.name()}-${this.side}`, () => picture, {class: 'link'}));
         this.onDraw();
     }
 }

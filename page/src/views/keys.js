@@ -1,4 +1,5 @@
 // Keys: on the card that has the focus, or the last one.
+import {openBesideDialog} from '../dialogs/beside_dialog.js';
 import {openHelpDialog, openTextDialog} from '../dialogs/dialogs.js';
 
 export function listenToKeys(bench) {
@@ -45,6 +46,7 @@ function cardKeys(bench) {
         e: () => changes.edit(card, view),
         c: () => bench.copyProblem(card, view.node),
         l: () => bench.copyLatex(card, view.node),
+        b: () => openBesideDialog(bench, card),
         m: () => {
             if (view.selected.length > 1) changes.merge(card, view, view.selected, view.selected.at(-1));
         },

@@ -45,7 +45,8 @@ function messagePlaces(box) {
                   high = Math.max(0, document.querySelector('.bar').getBoundingClientRect().bottom) + 6;
     const lefts = [(innerWidth - width) / 2, 8, innerWidth - width - 24],
           between = Array.from({length: Math.max(0, Math.floor((low - high) / BETWEEN))}, (_, i) => low - i * BETWEEN);
-    return [low, high, 2, ...between, foot + 4].flatMap(top => lefts.map(left => [left, top].map(length => Math.max(0, length))));
+    // Below the edge of the foot, behind which half of a button may stand.
+    return [low, high, 2, ...between, foot + 16].flatMap(top => lefts.map(left => [left, top].map(length => Math.max(0, length))));
 }
 
 // Whether a box covers nothing that is used where its corner stands there: seen at points that stand closer than what is used is wide.

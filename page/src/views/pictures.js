@@ -89,15 +89,3 @@ function arrowHead([x, y], [fromX, fromY]) {
     const point = (along, across) => `${(x + along * c - across * s).toFixed(1)},${(y + along * s + across * c).toFixed(1)}`;
     return svg('polygon', {class: 'head', points: `${point(0, 0)} ${point(-8, 3.5)} ${point(-8, -3.5)}`});
 }
-
-const FILE_STYLE = `text { font: 14px monospace; fill: #111 } rect { fill: #fff; stroke: #333 } .line { fill: none; stroke: #333 }
-.near { display: none } .head { fill: #333 } circle { fill: #fff; stroke: #333 } .passive { fill: #ddd } .small { font-size: 14px; fill: #555 }
-.output { font-weight: 700 } .given { font-style: italic; fill: #555 }`;
-
-// The picture as a file of its own, without the page's style.
-export function pictureFile(picture) {
-    const copied = picture.cloneNode(true);
-    copied.setAttribute('xmlns', SVG);
-    copied.prepend(svg('style', {}, FILE_STYLE));
-    return new XMLSerializer().serializeToString(copied);
-}

@@ -55,7 +55,7 @@ export class ReportView {
         replace(this.content, hint(verdict ? 'asking…' : 'The chain is not judged yet.'));
         if (!verdict) return;
         const ask = words => claim.forThis(engine.start('explore', words, verdict.certificate || path[0].problem, {title: 'describe'}))
-                                .catch(error => ({status: 1, text: error.message}));
+                                 .catch(error => ({status: 1, text: error.message}));
         const answer = await ask(['describe']);
         if (turn !== this.turn) return;
         if (answer.status !== 0) {

@@ -12,7 +12,8 @@ const shownLine = `document.querySelector('#given-line .line')?.textContent`;
 // A problem of the user's own is given, by the window.
 async function giveOwn(page, active, passive) {
     const before = await page.value('bench.cards.path()[0].given?.problem || ""');
-    await page.click('#given button', 'Change').catch(() => {});
+    // The choice opens it by itself.
+    if (!await page.value(`Boolean(document.querySelector('dialog'))`)) await page.click('#given button', 'Change');
     await page.until(`document.querySelector('dialog textarea')`);
     await page.fill('dialog textarea', active, 0);
     await page.fill('dialog textarea', passive, 1);

@@ -53,13 +53,15 @@ export const besideSessions = {
         await user.step(2);
         await page.choose('#given-kind', 'a colouring');
         await page.until(`${textOf('#given-line .line')}?.startsWith('accepted')`);
-        const certificate = await user.certificate(), whole = `${certificate}== given\n${await page.value('bench.cards.path()[0].given.problem')}`;
+        const certificate = await user.certificate(),
+              whole = `${certificate}== given\n${await page.value('bench.cards.path()[0].given.problem')}`;
         await user.watchCopies();
         await page.click('#certificate');
         await page.until(`document.querySelector('dialog textarea')`);
         checks.equal('what is seen', await page.value(`document.querySelector('dialog textarea').value`), whole);
         const lines = await page.value(`[...document.querySelectorAll('dialog .line')].map(node => node.textContent)`);
-        checks.equal('the lines of the programs', lines, [answer(['check'], certificate).trim(), natively('explore', ['given'], whole).text.split('\n', 1)[0]]);
+        checks.equal('the lines of the programs', lines,
+            [answer(['check'], certificate).trim(), natively('explore', ['given'], whole).text.split('\n', 1)[0]]);
         await page.click('dialog footer button', 'Copy');
         checks.equal('what explore given judged', await user.copied(), whole);
         await page.click('dialog footer button', 'Copy without what is given');
@@ -69,7 +71,8 @@ export const besideSessions = {
             checks.equal('the command', await user.copied(), command);
         }
         await page.click('dialog footer button', 'Condense');
-        await page.until(`document.querySelector('dialog .state').textContent !== 'asking…' && document.querySelector('dialog .state').textContent`);
+        await page.until(
+            `document.querySelector('dialog .state').textContent !== 'asking…' && document.querySelector('dialog .state').textContent`);
         await page.click('dialog footer button', 'Copy');
         const condensed = await user.copied();
         checks.equal('condensed, it is judged again', natively('explore', ['given'], condensed).text.split('\n', 1)[0], lines[1]);
@@ -231,12 +234,14 @@ export const besideSessions = {
         checks.equal('in the list', await page.value(textOf('#card-list button')), `0 “${claim}”`);
         checks.equal('of the page', await page.value('document.title'), `“${claim}” – re workbench`);
         const named = (title, id) => page.value(`bench.cards.amend(${id}, {title: ${quoted(title)}})`);
-        for (const title of ['exactly 3', 'refused: clause END', 'Yes', 'at least order log N']) {
+        for (const title of ['exactly 3', 'refused: clause END', 'Yes', 'no: B', 'No solution', 'at least order log N']) {
             await named(title, session.cards[0].id);
             checks.equal(title, await page.until(`document.querySelector('.card .title').textContent`), `“${title}”`);
         }
-        await named('my matching', session.cards[0].id);
-        checks.equal('another name as it is', await page.value(textOf('.card .title')), 'my matching');
+        for (const title of ['my matching', 'No sinks, no sources', 'Yesterday']) {
+            await named(title, session.cards[0].id);
+            checks.equal('another name as it is', await page.value(textOf('.card .title')), title);
+        }
         // A note of the session is told to be one.
         await page.value(`bench.cards.amend(${session.cards[0].id}, {note: ${quoted(claim)}})`);
         checks.equal(

@@ -149,7 +149,8 @@ export const boundsSessions = {
             await page.until(`bench.cards.path()[0]?.title === ${quoted(name)}`);
             if (isGraphText(text)) {
                 checks.equal(name,
-                    await page.until(`document.querySelector('dialog svg.graph') && document.querySelector('dialog .line').textContent`),
+                    await page.until(
+                        `document.querySelector('dialog svg.graph') && document.querySelector('dialog p[role=status] .line').textContent`),
                     natively('explore', ['solve'], text).text.split('\n', 1)[0]);
                 checks.equal(`${name}: its problem`, await user.problem(), answer(['read'], text.split('== graph')[0]));
                 checks.equal(`${name}: its lines`, await page.value(`document.querySelector('dialog textarea').value`),

@@ -128,12 +128,12 @@ export const changesSessions = {
         await page.until(cardsAre(2));
         checks.equal('an arrow', await user.problem(), answer(['read'], 'O [IO]^2\n\nI [IO]\n'));
         await page.until(
-            `document.querySelector('#verdict').textContent.includes('re relax: yes: problem 0′ is a relaxation of problem 0.')`);
+            `document.querySelector('#verdict').textContent.includes('re relax: yes: problem 0′ is a relaxation of problem 0, so this is a bound of problem 0 too.')`);
         await user.openProblem('[MX] O^2\nM^3', 'M [XO]^2\nO^3\nM^3');
         await user.select('X');
         await user.actOnSelected('Leave out');
         await page.until(
-            `document.querySelector('#verdict').textContent.includes('re relax: yes: problem 0 is a relaxation of problem 0′.')`);
+            `document.querySelector('#verdict').textContent.includes('re relax: yes: problem 0 is a relaxation of problem 0′, so this is a bound of problem 0 too.')`);
     },
 
     async 'reduced by a map into itself'(user, page, checks) {

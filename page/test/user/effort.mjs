@@ -168,7 +168,7 @@ export const effortSessions = {
         checks.check('the card says so',
             (await page.value(`document.querySelector('.card.last .title').textContent`))
                 .endsWith('cycle 2 0 20000 given a colouring, 3 colours'));
-        // What was given when it was asked is given, also where the user chose something else meanwhile.
+        // What the user chose meanwhile stays, and what was given when it was asked is given again by a click.
         await user.openProblem('O [IO]^2', 'I O');
         await giveColours();
         await teachWord('longest', 'longest 1 10', await user.certificate());
@@ -178,7 +178,13 @@ export const effortSessions = {
         await page.choose('#given-kind', 'nothing');
         await page.until('!bench.cards.path()[0].given');
         await letGo(page);
-        await page.until(`bench.cards.path().length === 2 && bench.cards.path()[0].given?.count === 3`);
+        await page.until(`bench.cards.path().length === 2`);
+        checks.check('the choice stays', await page.value(`!bench.cards.path()[0].given`));
+        checks.equal('the card says with what it was found',
+            await page.until(`document.querySelector('.card.last .asked:not([hidden])')?.textContent`),
+            'found given a colouring, 3 colours; now nothing is given Give that again');
+        await page.click('.card.last .asked button', 'Give that again');
+        await page.until(`bench.cards.path()[0].given?.count === 3`);
         checks.equal('judged with it', await page.until(`${line}?.includes('in 1 or') && ${line}`), await given());
     },
 
@@ -322,7 +328,7 @@ export const effortSessions = {
         await page.click('dialog footer button', 'Use it');
         await page.until('bench.cards.path()[0].given');
         await user.search('cover', 2);
-        await page.until(`document.querySelector('dialog svg.graph') && document.querySelector('dialog .line')`);
+        await page.until(`document.querySelector('dialog svg.graph') && document.querySelector('dialog p[role=status] .line')`);
         checks.equal('the problem, and what is given', await page.value(`sent.find(([words]) => words === 'cover 2')[1]`),
             `${problem}== given\n${input}`);
         checks.equal('the line, with its model', await page.value(`document.querySelector('dialog p[role=status]').textContent`),
@@ -362,9 +368,9 @@ export const effortSessions = {
         const fixed = natively('explore', ['closure'], await user.problem()).text;
         await page.go();
         await teach(page, {
-            'relaxed 1': [4, 'limit: more than 1 nodes\n'],
+            'relaxed 1': [4, 'limit: searched more than 1 nodes\n'],
             'relaxed 2': [0, fixed],
-            'relaxed 3': [1, 'not found: nodes 3, cut 0\n'],
+            'relaxed 3': [1, 'not found: searched nodes 3, cut 0\n'],
             'relaxed 8': [2, 'words: not a command\nhelp: ..\n']
         });
         await user.openProblem('1^3\n2^3\n3^3', '1 2\n1 3\n2 3');

@@ -44,7 +44,7 @@ export const lateSessions = {
         await user.openProblem('O [IO]^2', 'I O');
         await user.select('O', 'I');
         await user.actOnSelected('passive: O → I');
-        await page.until(`${verdict}.includes('is a relaxation of problem 0.')`);
+        await page.until(`${verdict}.includes('is a relaxation of problem 0, so this is a bound of problem 0 too.')`);
         await page.click('#undo');
         await page.until(cardsAre(1));
         await page.value(`engine.answers.clear()`);
@@ -203,7 +203,7 @@ export const lateSessions = {
         await user.act('Step');
         await page.until(cardsAre(3));
         await isHeld(page);
-        checks.equal('it says nothing', await page.value(verdict), 'checking…');
+        checks.equal('it says nothing yet, and can be stopped', await page.value(verdict), 'checking… Stop');
         await letGo(page);
         await user.says('accepted: not solvable in 2 or fewer rounds');
     },

@@ -1,5 +1,6 @@
 // Problems that are written, and large ones.
-import {answer, example, re} from '../place.mjs';
+import {answer, example, natively, re} from '../place.mjs';
+import {explored} from '../teaching.mjs';
 import {cardsAre} from '../user.mjs';
 
 const quoted = value => JSON.stringify(value);
@@ -39,7 +40,11 @@ export const problemsSessions = {
         for (
             const [active, passive, said] of [['M^3\nP O^2', 'M [PQ]\nO O', 'Q stands around passive nodes alone: no solution has it.'],
                 ['M^3\nP O^2\nP Q O', 'M [PO]\nO O', 'Q stands around active nodes alone: no solution has it.'],
-                ['A^3\nB C^2', 'B C\nA D', 'D stands around passive nodes alone: no solution has it.'], [
+                [
+                    'A^3\nB C^2', 'B C\nA D',
+                    'D stands around passive nodes alone: no solution has it. Without it, A stands on one side alone: no solution has it either.'
+                ],
+                [
                     'A^3\nB C^2', 'B D\nA D',
                     'C stands around active nodes alone: no solution has it. D stands around passive nodes alone: no solution has it. There is no solution at all.'
                 ]]) {
@@ -47,6 +52,9 @@ export const problemsSessions = {
             await page.fill('#editor textarea', passive, 1);
             checks.check(said, await page.until(`document.querySelector('#editor .state .hint')?.textContent === ${quoted(said)}`));
         }
+        if (explored.has('flexible'))
+            checks.equal('as the program says it', await page.until(`document.querySelector('#editor .state .faulty')?.textContent`),
+                `explore flexible: ${natively('explore', ['flexible'], 'A^3\nB C^2\n\nB D\nA D\n').text.trim()}`);
         await page.fill('#editor textarea', 'M^3\nP O^2', 0);
         await page.fill('#editor textarea', 'M [PO]\nO O', 1);
         checks.check('no hint',

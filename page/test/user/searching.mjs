@@ -2,7 +2,7 @@
 import {PATIENCE, wait} from '../browser.mjs';
 import {inWords} from '../../src/views/claims.js';
 import {answer, natively} from '../place.mjs';
-import {explored, teachMissing} from '../teaching.mjs';
+import {explored, hold, isHeld, letGo, teachMissing} from '../teaching.mjs';
 import {cardsAre, MIS} from '../user.mjs';
 
 const jobs = `document.querySelector('#jobs').textContent`;
@@ -51,11 +51,19 @@ export const searchingSessions = {
 
     async 'what is found elsewhere is offered'(user, page, checks) {
         await user.openProblem(...MIS);
+        await hold(page, ['lower 5 0']);
         await user.search('lower', 5, 0);
+        await isHeld(page);
         await page.choose('#gallery', 'two colouring 3');
-        await page.until(`bench.cards.cards.some(card => card.title === 'lower 5 0') && bench.cards.path()[0].title === 'two colouring 3'`);
+        await page.until(`bench.cards.path()[0].title === 'two colouring 3'`);
+        await letGo(page);
+        await page.until(`bench.cards.cards.some(card => card.title === 'lower 5 0')`);
+        checks.equal('the user stays', await page.value('bench.cards.path()[0].title'), 'two colouring 3');
         await page.click('#card-list .other button', '0 M^3');
         await page.until(`bench.cards.path()[0].title === undefined`);
+        checks.equal(
+            'the card says it', await page.until(`document.querySelector('.card.last .note')?.textContent`), 'lower 5 0 found. Show×');
+        await page.click('.card.last .note button', 'Show');
         await user.says('accepted: not solvable in 5 or fewer rounds');
     },
 

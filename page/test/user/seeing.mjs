@@ -1,10 +1,13 @@
 // What a user sees of an answer: its colour, whose it is, and what is copied, saved, printed and kept.
+import {readFileSync} from 'fs';
+import {join} from 'path';
 import {latexOf} from '../../src/texts/texts.js';
-import {answer, natively} from '../place.mjs';
+import {answer, natively, pageFolder} from '../place.mjs';
 import {explored} from '../teaching.mjs';
 import {cardsAre, drawn, MIS} from '../user.mjs';
 
-const hueOf = selector => `(() => { const [r, g, b] = getComputedStyle(document.querySelector('${selector}')).color.match(/[\\d.]+/g).map(Number); return g > r && g > b ? 'green' : r > g && r > b ? 'red' : 'none'; })()`;
+const hueOf = selector => `(() => { const [r, g, b] = getComputedStyle(document.querySelector('${
+    selector}')).color.match(/[\\d.]+/g).map(Number); return g > r && g > b ? 'green' : r > g && r > b ? 'red' : 'none'; })()`;
 const dark = on => `document.documentElement.dataset.theme = '${on ? 'dark' : 'light'}'`;
 
 export const seeingSessions = {
@@ -25,7 +28,7 @@ export const seeingSessions = {
                 checks.equal('and refused', await page.value(hueOf('#given-line .line')), 'red');
             }
             await user.openProblem('1^3\n2^3', '[12]^2');
-            await user.says('refused: clause END').catch(() => {});
+            await page.until(`bench.cards.path()[0].problem.startsWith('1^3') && document.querySelector('#verdict-line')`);
             const line = await user.verdict();
             checks.equal(line, await page.value(hueOf('#verdict-line')), line.startsWith('accepted') ? 'green' : 'red');
             await user.openText('== certificate 1 lower\nA^3\n\nA^2\n== end\n');
@@ -33,6 +36,17 @@ export const seeingSessions = {
             checks.equal('a refused one', await page.value(hueOf('#verdict-line')), 'red');
         }
         await page.value('delete document.documentElement.dataset.theme');
+    },
+
+    async 'the style is read as that of the source'(user, page, checks) {
+        const source = readFileSync(join(pageFolder, 'src/style.css'), 'utf8'),
+              rules = sheet => `[...${sheet}.cssRules].map(rule => rule.cssText)`;
+        const [held, wanted] = await page.value(`(() => { const sheet = new CSSStyleSheet(); sheet.replaceSync(${
+            JSON.stringify(source)}); return [${rules('document.styleSheets[0]')}, ${rules('sheet')}]; })()`);
+        checks.equal('as many rules', held.length, wanted.length);
+        // A value of a name of its own is kept as it is written.
+        const plain = rule => rule.replace(/\s+/g, ' ').replace(/, /g, ',');
+        checks.equal('each rule', held.filter((rule, i) => plain(rule) !== plain(wanted[i])), []);
     },
 
     async 'notes go with their problem'(user, page, checks) {
@@ -62,7 +76,10 @@ export const seeingSessions = {
         if (explored.has('describe')) {
             await page.click('.card.last .menu summary');
             await page.click('.card.last .menu button', 'Copy its report for LaTeX');
-            checks.equal('its report', await user.copied(), natively('explore', ['describe', 'latex'], await page.value(`bench.facts.of(bench.cards.path()[1].problem).written().then(({text}) => text)`)).text);
+            checks.equal('its report', await user.copied(),
+                natively('explore', ['describe', 'latex'],
+                    await page.value(`bench.facts.of(bench.cards.path()[1].problem).written().then(({text}) => text)`))
+                    .text);
         }
         if (explored.has('given')) {
             await page.choose('#given-kind', 'an orientation');
@@ -70,13 +87,15 @@ export const seeingSessions = {
             await page.click('.card.last .menu summary');
             await page.click('.card.last .menu button', 'Copy with what is given');
             const text = await user.copied();
-            checks.equal('with what is given at it', answer(['read'], text.split('== given\n')[1]), await page.value(`bench.given.at(bench.cards.path(), bench.cards.path()[1])`));
+            checks.equal('with what is given at it', answer(['read'], text.split('== given\n')[1]),
+                await page.value(`bench.given.at(bench.cards.path(), bench.cards.path()[1])`));
             checks.check('that the program reads', natively('explore', ['fit'], text).status < 2);
         }
         // The files of its two diagrams.
-        await page.value(`(() => { const make = URL.createObjectURL.bind(URL); window.saved = []; URL.createObjectURL = blob => { blob.text().then(text => saved.push(text)); return make(blob); }; })()`);
+        await page.value(
+            `(() => { const make = URL.createObjectURL.bind(URL); window.saved = []; URL.createObjectURL = blob => { blob.text().then(text => saved.push(text)); return make(blob); }; })()`);
         for (const side of ['active', 'passive']) {
-            await page.click(`.card.last figure[data-side=${side}] .save`);
+            await page.click(`.card.last figure[data-side=${side}] .save button`, 'SVG');
             const file = await page.until('saved.length && saved.pop()');
             checks.check(`that of the ${side} side`, file.startsWith('<svg') && file.includes(`<title>${side} diagram: `));
         }
@@ -86,10 +105,12 @@ export const seeingSessions = {
         await user.openProblem(...MIS);
         for (const n of [2, 3]) await user.step(n);
         await page.click('#close-all');
-        await page.value(`window.print = () => { window.printed = [...document.querySelectorAll('.card')].map(card => [card.classList.contains('closed'), card.querySelectorAll('svg.diagram, .classes').length]); }`);
+        await page.value(
+            `window.print = () => { window.printed = [...document.querySelectorAll('.card')].map(card => [card.classList.contains('closed'), card.querySelectorAll('svg.diagram, .classes').length]); }`);
         await page.key('p', {modifiers: 2});
         checks.equal('each card is open, with its diagrams', await page.until('window.printed'), [[false, 2], [false, 2], [false, 2]]);
-        checks.equal('and closed again', await page.until(`[...document.querySelectorAll('.card')].every(card => card.classList.contains('closed'))`), true);
+        checks.equal('and closed again',
+            await page.until(`[...document.querySelectorAll('.card')].every(card => card.classList.contains('closed'))`), true);
     },
 
     async 'a reload keeps what was tried, and what redo brings back'(user, page, checks) {
@@ -104,7 +125,9 @@ export const seeingSessions = {
         await page.until('!bench.keeper.timer && location.hash.length > 20');
         await page.reload();
         await page.until(cardsAre(1));
-        checks.equal('both commands', await page.value(`[...document.querySelectorAll('.card.last .tried td:first-child')].map(cell => cell.textContent)`), ['rounds 0', 'rounds 1']);
+        checks.equal('both commands',
+            await page.value(`[...document.querySelectorAll('.card.last .tried td:first-child')].map(cell => cell.textContent)`),
+            ['rounds 0', 'rounds 1']);
         await page.click('#redo');
         checks.check('the step is there again', await page.until(`${cardsAre(2)} && ${drawn}`));
     },

@@ -48,8 +48,8 @@ export const settlingSessions = {
         await user.act('Settle');
         await page.until(note);
         await page.click('.card.last .note .by button', 'cover');
-        await page.until(`document.querySelector('dialog svg.graph') && document.querySelector('dialog .line')`);
-        checks.equal('the line of solve', await page.value(`document.querySelector('dialog .line').textContent`), NO);
+        await page.until(`document.querySelector('dialog svg.graph') && document.querySelector('dialog p[role=status] .line')`);
+        checks.equal('the line of solve', await page.value(`document.querySelector('dialog p[role=status] .line').textContent`), NO);
         const lines = (await page.value(`document.querySelector('dialog textarea').value`)).split('\n'),
               ends = lines.flatMap(line => line.split(' '));
         if (explored.has('solve'))
@@ -91,7 +91,7 @@ export const settlingSessions = {
         await page.fill('dialog textarea', 'nonsense');
         await page.click('dialog button', 'Solve');
         await page.until(
-            `!document.querySelector('dialog svg.graph') && document.querySelector('dialog .line').textContent.startsWith('input: ')`);
+            `!document.querySelector('dialog svg.graph') && document.querySelector('dialog p[role=status] .line').textContent.startsWith('input: ')`);
     },
 
     async 'the labels of a solution stand at their ports'(user, page, checks) {
@@ -136,7 +136,7 @@ export const settlingSessions = {
         for (const [name, problem, text] of [['2-3-2', ['O [IO]^2', 'I O'], 'AAA AAB ABB / AB'], ['3-3-2', MIS, 'AAA BBC / AB AC BB']]) {
             const table = linesOfTable(catalogueTables()[name]), [number, , ...columns] = table.find(line => line[1] === text);
             await user.openProblem(...problem);
-            checks.equal(`its line in ${name}`, await page.until(shown),
+            checks.equal(`its line in ${name}`, await page.until(`${shown}?.replace('Others like it…', '')`),
                 `The catalogue's line, number ${number}:${
                     claimsOfLine(columns)
                         .map(({line, shownBy}) =>

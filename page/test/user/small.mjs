@@ -122,7 +122,7 @@ export const smallSessions = {
         await page.until(`document.querySelector('.card.last .menu').open`);
         await wait(400);
         checks.equal('a chain with a map', await page.value(overSide), 0);
-        checks.check('the menu comes into view', await page.value(seen('.card.last .menu button')));
+        checks.check('the menu comes into view', await page.value(seen('.card.last .menu button:not([hidden])')));
         checks.check('and stands between no buttons',
             await page.value(
                 `(() => { const box = document.querySelector('.card.last .menu').getBoundingClientRect(); return [...document.querySelectorAll('.card.last .actions button:not(.menu button)')].every(node => { const other = node.getBoundingClientRect(); return other.bottom <= box.top + 1 || other.top >= box.bottom - 1; }); })()`));

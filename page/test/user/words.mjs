@@ -28,7 +28,7 @@ export const wordsSessions = {
             (await page.value(`document.querySelector('.card.last .ask[data-search=lower] button').title`)).startsWith('re lower 5 0\n'));
         await user.search('upper', 2, 0);
         const line = answer(['upper', '2', '0'], await user.problem()).trim(),
-              [, nodes, cut] = /^not found: nodes (\d+), cut (\d+)$/.exec(line);
+              [, nodes, cut] = /^not found: (?:searched )?nodes (\d+), cut (\d+)$/.exec(line);
         const note = await user.note();
         checks.check(`${line}: ${note}`,
             note.includes(`not found: ${nodes} problem`) && note.includes('looked at') && !note.includes('nodes') && cut === '0' &&

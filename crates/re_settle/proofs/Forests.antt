@@ -42,7 +42,7 @@ use Rattle.re_settle.specs.declared.types.Most.TheVariants as most
 use Rattle.re_settle.specs.declared.types.Settled.{Settled}
 use Rattle.re_settle.specs.declared.types.Settled.TheVariants as settled
 use Rattle.re_settle.specs.declared.types.Way.{Way}
-use Rattle.re_settle.specs.declared.types.Way.TheVariants.{Closure, Cover, Cycle, Fixed, Flexible, Longest, Lower, Merge, Raised, Relaxed, Rounds, Shortest, Upper, Zero}
+use Rattle.re_settle.specs.declared.types.Way.TheVariants.{Closure, Cover, Cycle, Fixed, Flexible, Longest, Lower, Merge, Raised, Relaxed, Rounds, Shortest, Through, Upper, Zero}
 
 -- ---- claims and classes
 module _ (problem : Problem) (is : IsProblem problem) where
@@ -149,6 +149,7 @@ never_on_forests problem (Raised first second) is low = (above_forests problem i
 never_on_forests problem (Merge from to) is low = (above_forests problem is).1 low
 never_on_forests problem (Cycle steps merges nodes) is low = (above_forests problem is).1 low
 never_on_forests problem (Relaxed nodes) is low = (above_forests problem is).1 low
+never_on_forests problem Through is low = (above_forests problem is).1 low
 never_on_forests problem (Rounds most) is low = (above_forests problem is).1 low
 never_on_forests problem (Longest steps labels) is low = (above_forests problem is).1 low
 never_on_forests problem (Shortest steps labels) is low = (above_forests problem is).1 low

@@ -44,7 +44,7 @@ use Rattle.re_settle.specs.Claims.{Holds}
 use Rattle.re_settle.specs.Ways.{ClosesBehind, HasText, IsFixedPoint, IsKnown, IsTried, SaysCounted, ShowsZero}
 use Rattle.re_settle.specs.declared.types.Claim.{Claim}
 use Rattle.re_settle.specs.declared.types.Claim.TheVariants.{AtMost, MoreThan, Never}
-use Rattle.re_settle.specs.declared.types.Way.TheVariants.{Closure, Cycle, Fixed, Flexible, Longest, Lower, Merge, Raised, Relaxed, Rounds, Shortest, Upper, Zero}
+use Rattle.re_settle.specs.declared.types.Way.TheVariants.{Closure, Cycle, Fixed, Flexible, Longest, Lower, Merge, Raised, Relaxed, Rounds, Shortest, Through, Upper, Zero}
 
 -- ---- searches of `re`
 pub lower_known : (times : ℕ) (problem : NamedProblem) (steps rounds : ℕ) (search : Search) (bound : Bound) → search ≡ Found bound → steps ≤ 8
@@ -186,6 +186,13 @@ relaxed_known times nodes problem chain bound tried start answers text =
     let on : relaxed.Answers (problem_chain problem) (relaxed_answer.Found bound) = subst (λ c. relaxed.Answers c (relaxed_answer.Found bound)) start answers in
     let never = never_on MAX_STEPS problem (problem_chain problem) bound refl on.1 in
     record { known = record { shown = record { tried = tried; shows = (refl, (bound, on, text)) }; holds = never.holds }; finds = refl; above = never.above }
+
+pub through_known : (times : ℕ) (problem : NamedProblem) (chain bound : Bound) → chain ≡ problem_chain problem → relaxed.Answers chain (relaxed_answer.Found bound) → HasText bound
+    → IsFixedPoint times problem Through
+through_known times problem chain bound start answers text =
+    let on : relaxed.Answers (problem_chain problem) (relaxed_answer.Found bound) = subst (λ c. relaxed.Answers c (relaxed_answer.Found bound)) start answers in
+    let never = never_on MAX_STEPS problem (problem_chain problem) bound refl on.1 in
+    record { known = record { shown = record { tried = tt; shows = (refl, (bound, on, text)) }; holds = never.holds }; finds = refl; above = never.above }
 
 -- ---- bounds that go on from the problem
 pub longest_known : (times : ℕ) (problem : NamedProblem) (chain bound : Bound) (steps labels rounds : ℕ) → IsTried times problem (Longest steps labels) → chain ≡ problem_chain problem

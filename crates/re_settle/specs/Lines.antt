@@ -31,7 +31,7 @@ use Rattle.re_settle.specs.declared.types.Order.TheVariants as order
 use Rattle.re_settle.specs.declared.types.Settled.{Settled}
 use Rattle.re_settle.specs.declared.types.Settled.TheVariants as settled
 use Rattle.re_settle.specs.declared.types.Way.{Way}
-use Rattle.re_settle.specs.declared.types.Way.TheVariants.{Closure, Cover, Cycle, Fixed, Flexible, Longest, Lower, Merge, Raised, Relaxed, Rounds, Shortest, Upper, Zero}
+use Rattle.re_settle.specs.declared.types.Way.TheVariants.{Closure, Cover, Cycle, Fixed, Flexible, Longest, Lower, Merge, Raised, Relaxed, Rounds, Shortest, Through, Upper, Zero}
 
 -- ---- the first line
 -- the rounds of the graph behind these words, where the passive nodes have two neighbours
@@ -72,6 +72,7 @@ way_words (Merge from to) = codes "explore merge"
 way_words (Cover nodes) = codes "explore cover"
 way_words (Cycle steps merges nodes) = codes "explore cycle"
 way_words (Relaxed nodes) = codes "explore relaxed"
+way_words Through = codes "explore through"
 way_words (Rounds most) = codes "explore rounds"
 way_words (Longest steps labels) = codes "explore longest"
 way_words (Shortest steps labels) = codes "explore shortest"
@@ -80,6 +81,7 @@ way_words (Shortest steps labels) = codes "explore shortest"
 abbrev pub way_numbers : Way → List ℕ
 way_numbers Zero = []
 way_numbers Flexible = []
+way_numbers Through = []
 way_numbers (Lower steps merges) = steps ∷ merges ∷ []
 way_numbers (Upper steps drops) = steps ∷ drops ∷ []
 way_numbers (Fixed steps merges) = steps ∷ merges ∷ []
@@ -103,6 +105,7 @@ way_rest names (Merge from to) = codes " '" ++ (named_text names from ++ (codes 
 way_rest names (Raised low high) = codes " with diagram " ++ named_text names low ++ codes " " ++ named_text names high
 way_rest names Zero = codes ""
 way_rest names Flexible = codes ""
+way_rest names Through = codes ""
 way_rest names (Lower steps merges) = codes ""
 way_rest names (Upper steps drops) = codes ""
 way_rest names (Fixed steps merges) = codes ""

@@ -49,7 +49,7 @@ use Rattle.re_settle.specs.declared.types.Least.TheVariants as least
 use Rattle.re_settle.specs.declared.types.Settled.{Settled}
 use Rattle.re_settle.specs.declared.types.Settled.TheVariants as settled
 use Rattle.re_settle.specs.declared.types.Way.{Way}
-use Rattle.re_settle.specs.declared.types.Way.TheVariants.{Closure, Cover, Cycle, Fixed, Flexible, Longest, Lower, Merge, Raised, Relaxed, Rounds, Shortest, Upper, Zero}
+use Rattle.re_settle.specs.declared.types.Way.TheVariants.{Closure, Cover, Cycle, Fixed, Flexible, Longest, Lower, Merge, Raised, Relaxed, Rounds, Shortest, Through, Upper, Zero}
 
 -- ---- which words are tried
 -- the numbers of the words that are tried on a problem, where bounds are taken so many times: a graph is listed, or one of at most 8 or of at most 64 nodes is made
@@ -57,6 +57,7 @@ use Rattle.re_settle.specs.declared.types.Way.TheVariants.{Closure, Cover, Cycle
 abbrev pub IsTried : ℕ → NamedProblem → Way → Type 0
 IsTried times problem Zero = Unit {0}
 IsTried times problem Flexible = Unit {0}
+IsTried times problem Through = Unit {0}
 IsTried times problem (Lower steps merges) = (steps ≤ 8) × (merges ≡ 0)
 IsTried times problem (Upper steps drops) = (steps ≤ 9) × (drops ≡ 0)
 IsTried times problem (Fixed steps merges) = (steps ≡ 4) × (merges ≡ 0)
@@ -130,7 +131,7 @@ few_of (counted.Tried rounds) = None
 
 -- what an answer of these words shows of the problem: that of `zero` whether there is an algorithm without communication; that of `flexible` that no set of
 -- labels is flexible; that of a search the bound that it
--- finds, or, of `cycle`, `relaxed`, `longest` and `shortest`, one that it may find; `rounds` what it may count; `closure` its fixed point; `cover` a graph
+-- finds, or, of `cycle`, `relaxed`, `through`, `longest` and `shortest`, one that it may find; `rounds` what it may count; `closure` its fixed point; `cover` a graph
 -- without a solution
 abbrev pub Shows : Way → Claim → NamedProblem → Type 0
 Shows Zero claim problem = ShowsZero (zero_place (unnamed problem)) claim
@@ -145,6 +146,8 @@ Shows (Cover nodes) claim problem = (claim ≡ Never) × ((graph : PortGraph) ×
 Shows (Cycle steps merges nodes) claim problem =
     (claim ≡ Never) × ((bound : Bound) × cycle.Answers setting.Alone steps (problem_chain problem) (cycle_answer.Found bound) × HasText bound)
 Shows (Relaxed nodes) claim problem =
+    (claim ≡ Never) × ((bound : Bound) × relaxed.Answers (problem_chain problem) (relaxed_answer.Found bound) × HasText bound)
+Shows Through claim problem =
     (claim ≡ Never) × ((bound : Bound) × relaxed.Answers (problem_chain problem) (relaxed_answer.Found bound) × HasText bound)
 Shows (Rounds most) claim problem = (counts : Counted) × MayTell (unnamed problem) None most counts × SaysCounted counts claim
 Shows (Longest steps labels) claim problem =

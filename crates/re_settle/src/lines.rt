@@ -144,6 +144,7 @@ fn way_words(way: Way) -> &'static str
         Way::Cover(_) => "explore cover",
         Way::Cycle(..) => "explore cycle",
         Way::Relaxed(_) => "explore relaxed",
+        Way::Through => "explore through",
         Way::Rounds(_) => "explore rounds",
         Way::Longest(..) => "explore longest",
         Way::Shortest(..) => "explore shortest",
@@ -174,7 +175,7 @@ fn way_numbers(way: Way) -> ArrayVec<u32, 3>
     ensures { result.items ≡ way_numbers way }
 {
     match way {
-        Way::Zero | Way::Flexible => ArrayVec::new(),
+        Way::Zero | Way::Flexible | Way::Through => ArrayVec::new(),
         Way::Closure(0) | Way::Raised(..) | Way::Merge(..) => ArrayVec::new(),
         Way::Closure(steps) => one(u32::from(steps)),
         Way::Cover(nodes) => one(u32::from(nodes)),

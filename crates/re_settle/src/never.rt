@@ -15,7 +15,7 @@ use re_given_words::Setting;
 use re_graph::{MAX_STEPS, find_cover, find_gadgets};
 use re_labels::NoMemory;
 use re_problem::Problem;
-use re_relaxed::{Relaxed, find_relaxed};
+use re_relaxed::{Relaxed, find_relaxed, find_through};
 use re_search::{FindFault, Search, find_fixed};
 use re_shaping::{ChainStepFault, MergeFault, merge_lower, step_lower};
 use re_step::{StepFault, step as derive};
@@ -47,6 +47,9 @@ const NEAR_RELAXED: u32 = 16;
 
 /// How many are looked at among these.
 const FAR_RELAXED: u32 = 200;
+
+/// How many tries maps to the problems of the library of `through` take at most: as many as the word's.
+const THROUGH_TRIES: u32 = 200_000;
 
 /// How many steps gadgets are joined in, and no more than `cover` takes.
 pub const GADGET_STEPS: usize = 1_000_000;
@@ -467,6 +470,29 @@ pub(crate) fn soon_way(
     }
 }
 
+// A fixed point behind a step to one of the library of `through`.
+fn through_way(
+    alloc: Global,
+    problem: &Problem,
+    chain: &LowerChain,
+    times: u8,
+) -> Result<Option<Way>, NoMemory>
+    requires { chain.now.certificate ≡ problem_chain problem.now }
+    ensures { IfOk result (λ found. IfSome found (IsFixedPoint times problem.now)) }
+{
+    let _problem = problem;
+    let _times = times;
+    let Relaxed::Found(certificate) = find_through(alloc, chain, None, THROUGH_TRIES)? else {
+        return Ok(None);
+    };
+    let has = has_text(alloc, &certificate)?;
+    if has {
+        Ok(Some(Way::Through))
+    } else {
+        Ok(None)
+    }
+}
+
 /// The first words that show a fixed point of the problem, whose chain is given too, of those that cost more.
 pub(crate) fn far_way(
     alloc: Global,
@@ -479,6 +505,9 @@ pub(crate) fn far_way(
     ensures { IfOk result (λ found. IfSome found (IsFixedPoint times problem.now)) }
 {
     if let Some(way) = closure_way(alloc, problem, chain, 2, times)? {
+        return Ok(Some(way));
+    }
+    if let Some(way) = through_way(alloc, problem, chain, times)? {
         return Ok(Some(way));
     }
     let nodes = FAR_RELAXED * u32::from(times);

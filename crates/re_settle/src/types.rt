@@ -30,6 +30,8 @@ pub enum Way {
     Cycle(u8, u8, u32),
     /// `explore relaxed N`: a fixed point behind a relaxation, of at most N that are looked at.
     Relaxed(u32),
+    /// `explore through`: a fixed point behind a step to one of its library.
+    Through,
     /// `explore rounds K`: how many rounds it takes, where these are at most K, or more than how many, as far as steps go and the
     /// problem before a step that passes a limit tells.
     Rounds(u8),

@@ -4,7 +4,7 @@ use Rattle.std.specs.Prelude.{filter}
 use Rattle.std.specs.List.{list_any}
 use Rattle.std.proofs.Math.ListN.{set}
 use Rattle.std.proofs.lemmas.List.Folds.{list_any-append, list_any_more}
-use Rattle.re_labels.proofs.Membership.{Contains-count_from, count_from-last}
+use Rattle.re_labels.proofs.Membership.{Contains-count_from, count_from-last, filter-alike}
 use Rattle.re_labels.proofs.Numbers.{IsLabelSet-count_from, IsLabelSet-filter, same_labels}
 use Rattle.re_labels.proofs.Sets.{Chosen, IsIn-has, has-filter}
 use Rattle.re_labels.proofs.Tests.{and-true, or-false, true-and}
@@ -12,7 +12,6 @@ use Rattle.re_labels.specs.Lists.{count_from}
 use Rattle.re_labels.specs.Sets.{has, with_label}
 use Rattle.re_labels.specs.declared.TheConstants.{MAX_LABELS}
 use Rattle.re_algo.specs.Counting.{view_place}
-use Rattle.re_table.proofs.Strengths.{filter-same}
 use Rattle.re_algo.proofs.Adding.{map-at_each, row_more}
 use Rattle.re_laws.specs.Algorithms.{Plain, at_port, back_at}
 use Rattle.re_algo.specs.SeenRows.{put_also, put_over, puts, some_puts, tested_row, tested_rows}
@@ -45,7 +44,7 @@ tested_rows-same d e t p q each =
     let w : Plain = get_or (all_views e d t) j leaf in
     map-at_each (λ i. filter (p w i) (count_from 0 MAX_LABELS)) (λ i. filter (q w i) (count_from 0 MAX_LABELS)) (count_from 1 e) 0 (λ k m.
     let i : ℕ = get_or (count_from 1 e) k 0 in
-    filter-same (p w i) (q w i) (count_from 0 MAX_LABELS) (λ x held. each w i x)))
+    filter-alike (p w i) (q w i) (count_from 0 MAX_LABELS) (λ x held. each w i x)))
 
 -- the label over the next port
 pub put_over-next : (d e t n : ℕ) (u : Plain) (labels : List ℕ) (passes : Plain → ℕ → ℕ → Bool) → tested_rows d e t (put_over t u (suc n) (at_port labels (suc n)) (put_also t u labels n passes)) ≡ tested_rows d e t (put_also t u labels (suc n) passes)

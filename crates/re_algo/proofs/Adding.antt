@@ -3,7 +3,7 @@ use Rattle.std.proofs.Common.{◌≡◌, ◌≢◌, ℕ, zero, suc, ◌+◌, ◌
 use Rattle.std.specs.Prelude.{filter}
 use Rattle.std.proofs.Math.ListN.{set}
 use Rattle.std.proofs.lemmas.List.{get_or-map}
-use Rattle.re_labels.proofs.Membership.{Contains-count_from, get_or-count_from, length-count_from}
+use Rattle.re_labels.proofs.Membership.{Contains-count_from, filter-alike, get_or-count_from, length-count_from}
 use Rattle.re_labels.proofs.Numbers.{IsLabelSet-count_from, IsLabelSet-filter, IsLabelSet-with_label, same_labels}
 use Rattle.re_labels.proofs.Sets.{Chosen, IsIn-has, has-filter, has-with_label}
 use Rattle.re_labels.proofs.Tests.{and-true, eqb-apart, eqb-same, eqb-true, or-false, or-left, or-right, or-true, true-and}
@@ -14,7 +14,6 @@ use Rattle.re_algo.proofs.Places.{place_at, tree_at}
 use Rattle.re_algo.specs.Counting.{view_place}
 use Rattle.re_laws.proofs.Tables.{same_view-refl, same_view-same}
 use Rattle.re_laws.specs.Algorithms.{Plain, same_view}
-use Rattle.re_table.proofs.Strengths.{filter-same}
 use Rattle.re_algo.specs.SeenRows.{tested_row, tested_rows}
 use Rattle.re_laws.specs.AllViews.{all_views}
 use Rattle.re_laws.specs.Trees.{IsView, leaf}
@@ -92,7 +91,7 @@ set_more e i y p q low high below each =
     others j l apart =
         let m : ℕ = get_or (count_from 1 e) j 0 in
         let m_is : m ≡ 1 + j = get_or-count_from 1 e j 0 (omega (arith, length-count_from 1 e)) in
-        filter-same (p m) (q m) (count_from 0 MAX_LABELS) (λ x held. sym (each m x ∙ (ap (λ b. p m x || (b && eqb y x)) (eqb-apart i m (λ e. apart (omega arith))) ∙ or-false (p m x))))
+        filter-alike (p m) (q m) (count_from 0 MAX_LABELS) (λ x held. sym (each m x ∙ (ap (λ b. p m x || (b && eqb y x)) (eqb-apart i m (λ e. apart (omega arith))) ∙ or-false (p m x))))
 
 -- one more label at a port of one view
 pub row_more : (d e t i y : ℕ) (w : Plain) (p q : Plain → ℕ → ℕ → Bool) → IsView e d t w → 1 ≤ i → i ≤ e → y < MAX_LABELS
@@ -117,7 +116,7 @@ row_more d e t i y w p q is low high below each =
         let place : view_place e d v ≡ j = place_at e d t j l in
         map-at_each (λ i. filter (p v i) (count_from 0 MAX_LABELS)) (λ i. filter (q v i) (count_from 0 MAX_LABELS)) (count_from 1 e) 0 (λ k m.
         let port : ℕ = get_or (count_from 1 e) k 0 in
-        filter-same (p v port) (q v port) (count_from 0 MAX_LABELS) (λ x held. sym (each v port x ∙ (ap (λ b. p v port x || b) (none v port x (other v place)) ∙ or-false (p v port x)))))
+        filter-alike (p v port) (q v port) (count_from 0 MAX_LABELS) (λ x held. sym (each v port x ∙ (ap (λ b. p v port x || b) (none v port x (other v place)) ∙ or-false (p v port x)))))
       where
         other : (v : Plain) → view_place e d v ≡ j → same_view w v ≡ false
         other v place = go (same_view w v) refl

@@ -10,15 +10,15 @@ use Rattle.re_labels.proofs.Sorting.{length-sorted}
 use Rattle.re_labels.specs.Configs.{sorted}
 use Rattle.re_labels.proofs.Placing.{row_found}
 use Rattle.re_labels.proofs.RowCalls.{row_of-some}
-use Rattle.re_labels.specs.Rows.{IsChoice, choices, in_order, is_full, row_of, singles}
-use Rattle.re_labels.proofs.Membership.{AllByRecursion-contains, Contains-none, any-In_from}
+use Rattle.re_labels.specs.Rows.{choices, in_order, is_full, row_of, singles}
+use Rattle.re_labels.proofs.Membership.{AllByRecursion-contains, any-In_from}
 use Rattle.re_labels.specs.PortLabels.{port_labels}
 use Rattle.re_labels.specs.Sets.{IsIn, IsLabelSet, number}
 use Rattle.re_table.proofs.Goodness.{filled-is_full, has_config-Has, is_full-filled}
 use Rattle.re_table.specs.Constraints.{Constraint, IsConstraint, has_config}
 use Rattle.std.proofs.lemmas.Bool.Decides.{nat_tests}
 use Rattle.re_table.specs.GoodRows.{is_allowed}
-use Rattle.re_algo.proofs.Drawing.{chosen_some, last_drawn}
+use Rattle.re_algo.proofs.Drawing.{chosen_some, first_passing}
 use Rattle.re_table.proofs.SetsInOrder.{AreSets, in_order-allowed, in_order-length}
 use Rattle.re_labels.specs.declared.TheConstants.{MAX_LABELS}
 
@@ -98,14 +98,14 @@ module _ (constraint : Constraint) (drawn : List ℕ) (others sets : List (List 
   asked_some below labels row some = in_order-allowed constraint sets row (are below labels row some) (row_is row some) ∙ begun
 
 -- ---- what the answer says of the first choice
-pub not_begun : (constraint : Constraint) (drawn : List ℕ) (others : List (List ℕ)) (r : Bool) → r ≡ false → r ≡ begins constraint drawn others → IsDrawn (first_behind constraint drawn others) drawn false drawn
-not_begun constraint drawn others r is e = subst (λ o. IsDrawn o drawn false drawn) (sym (none_found (λ labels. has_config constraint (drawn ++ labels)) (choices others) (sym e ∙ is))) (refl, refl)
+pub not_begun : (passes : List ℕ → Bool) (drawn : List ℕ) (others : List (List ℕ)) (r : Bool) → r ≡ false → r ≡ list_any (λ labels. passes (drawn ++ labels)) (choices others) → IsDrawn (first_passing passes drawn others) drawn false drawn
+not_begun passes drawn others r is e = subst (λ o. IsDrawn o drawn false drawn) (sym (none_found (λ labels. passes (drawn ++ labels)) (choices others) (sym e ∙ is))) (refl, refl)
 
-pub begun_found : (constraint : Constraint) (drawn : List ℕ) (others : List (List ℕ)) (r found : Bool) (new : List ℕ) → r ≡ true → r ≡ begins constraint drawn others → IsDrawn (first_behind constraint drawn others) drawn found new → found ≡ true
-begun_found constraint drawn others r found new is e h = go (first_behind constraint drawn others) refl h
+pub begun_found : (passes : List ℕ → Bool) (drawn : List ℕ) (others : List (List ℕ)) (r found : Bool) (new : List ℕ) → r ≡ true → r ≡ list_any (λ labels. passes (drawn ++ labels)) (choices others) → IsDrawn (first_passing passes drawn others) drawn found new → found ≡ true
+begun_found passes drawn others r found new is e h = go (first_passing passes drawn others) refl h
   where
-    go : (o : Option (List ℕ)) → o ≡ first_behind constraint drawn others → IsDrawn o drawn found new → found ≡ true
-    go None same h = absurd (some_found (λ labels. has_config constraint (drawn ++ labels)) (choices others) (sym e ∙ is) (sym same))
+    go : (o : Option (List ℕ)) → o ≡ first_passing passes drawn others → IsDrawn o drawn found new → found ≡ true
+    go None same h = absurd (some_found (λ labels. passes (drawn ++ labels)) (choices others) (sym e ∙ is) (sym same))
     go (Some labels) same h = h.0
 
 -- ---- the labels that are found

@@ -6,7 +6,7 @@ use Rattle.std.proofs.lemmas.Bool.Decides.{nat_tests}
 use Rattle.std.proofs.lemmas.List.{get_or-map, get_or_default, length-map}
 use Rattle.std.proofs.lemmas.List.Elements.{Contains-get_or, same_from_all_zip}
 use Rattle.re_labels.proofs.Rearranging.{Contains-Rearranged, length-AllZip}
-use Rattle.re_labels.proofs.Replacing.{has-support_of}
+use Rattle.re_labels.proofs.Replacing.{Contains-support_of, has-support_of}
 use Rattle.re_labels.proofs.Sorting.{Rearranged-sorted, length-sorted}
 use Rattle.re_labels.specs.Configs.{IsConfig, sorted, support_of}
 use Rattle.re_labels.specs.Rows.{IsChoice}
@@ -161,9 +161,6 @@ module _ (problem : Problem) (is : IsProblem problem) (T : ℕ) (f : Plain → L
         row_good.choice (around problem.passive.degree (suc T) f s) (around_chosen s view),
   )
 
-in_support : (xs : List ℕ) (x : ℕ) → Contains xs x → Contains (support_of xs) x
-in_support xs x held = has-IsIn (support_of xs) x (has-support_of xs x ∙ IsIn-has xs x held)
-
 of_support : (xs : List ℕ) (x : ℕ) → Contains (support_of xs) x → Contains xs x
 of_support xs x held = has-IsIn xs x (sym (has-support_of xs x) ∙ IsIn-has (support_of xs) x held)
 
@@ -205,13 +202,13 @@ module _ (problem : Problem) (is : IsProblem problem) (f : Plain → List ℕ)
   label_in : (s : Plain) → IsView problem.passive.degree problem.active.degree 1 s → (k : ℕ) → k < problem.passive.degree → Contains (support_of (f leaf)) (at_port (f leaf) (back_at s (suc k)))
   label_in s view k l =
       let range : (1 ≤ back_at s (suc k)) × (back_at s (suc k) ≤ problem.active.degree) = back_range problem.passive.degree problem.active.degree 0 s view k l in
-      in_support (f leaf) (at_port (f leaf) (back_at s (suc k))) (Contains-get_or (f leaf) (pred (back_at s (suc k))) 0 (let c = count_at in omega arith))
+      Contains-support_of (f leaf) (at_port (f leaf) (back_at s (suc k))) (Contains-get_or (f leaf) (pred (back_at s (suc k))) 0 (let c = count_at in omega arith))
 
   row_good : ((s : Plain) → IsView problem.passive.degree problem.active.degree 1 s → Has problem.passive (around problem.passive.degree 0 f s)) → IsGood problem.passive row
   row_good passive = record {
     count = length-ports (λ port. support_of (f leaf)) 1 problem.passive.degree;
     filled = AllByRecursion-count (λ (set : List ℕ). 0 < length set) (λ port. support_of (f leaf)) 1 problem.passive.degree (λ k l.
-        some_member (support_of (f leaf)) (at_port (f leaf) 1) (in_support (f leaf) (at_port (f leaf) 1) (Contains-get_or (f leaf) 0 0 (let c = count_at in let m = is.active.least in omega arith))));
+        some_member (support_of (f leaf)) (at_port (f leaf) 1) (Contains-support_of (f leaf) (at_port (f leaf) 1) (Contains-get_or (f leaf) 0 0 (let c = count_at in let m = is.active.least in omega arith))));
     choice = drawn passive;
   }
 

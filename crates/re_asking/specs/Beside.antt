@@ -2,7 +2,7 @@
 use Rattle.std.specs.Prelude.{◌≡◌, ◌==◌, ◌-◌, ℕ, Bool, true, false, List, [], ◌∷◌, ◌++◌, codes, length, slice_get, if◌then◌else◌, option_map, Option, None, Some, Result, Ok, Err}
 use Rattle.std.specs.Fmt.{decimal}
 use Rattle.std.specs.Option.{option_map_or}
-use Rattle.re_chains.specs.ChainTexts.{chain_fault, text_chain}
+use Rattle.re_chains.specs.ChainTexts.{ReadRefuses, chain_fault, text_chain}
 use Rattle.re_chains.specs.TwoTexts.{at_line, front_text, has_line, lines_to, problem_fault, problem_lines}
 use Rattle.re_frame.specs.Answers.{MayAnswer}
 use Rattle.re_frame.specs.Outcomes.{Outcome, refused}
@@ -14,7 +14,6 @@ use Rattle.re_problem.specs.ProblemTexts.{lines_of, or_else, problem_of}
 use Rattle.re_problem.specs.declared.fault.InputFault.{InputFault}
 use Rattle.re_problem.specs.declared.fault.InputFault.TheVariants.{BadSection}
 use Rattle.re_problem.specs.declared.fault.TextFault.{TextFault}
-use Rattle.re_problem.specs.declared.fault.TextFault.TheVariants.{Bad, NoMemory}
 use Rattle.re_asking.specs.declared.beside.Degrees.{Degrees}
 use Rattle.re_asking.specs.declared.beside.FrontText.{FrontText}
 use Rattle.re_asking.specs.declared.beside.FrontText.TheVariants.{Chain, Problem}
@@ -76,14 +75,10 @@ MayGiveBeside may front input bytes outcome = MayGiveRead (front_fault front byt
 
 -- ---- reading
 -- what the reading of a text gives: the degrees of its first problem exactly where it has no fault, and else its first fault
-abbrev pub Refuses : Option InputFault → TextFault → Type 0
-Refuses first (Bad fault) = first ≡ Some fault
-Refuses first NoMemory = Unit {0}
-
 pub record AreDegreesOf (degrees : Degrees) (problem : NamedProblem) : Type 0 where
   pub active : degrees.active ≡ problem.active.degree
   pub passive : degrees.passive ≡ problem.passive.degree
 
 abbrev pub GivesDegrees : Option InputFault → NamedProblem → Result Degrees TextFault → Type 0
 GivesDegrees first problem (Ok degrees) = (first ≡ None) × AreDegreesOf degrees problem
-GivesDegrees first problem (Err fault) = Refuses first fault
+GivesDegrees first problem (Err fault) = ReadRefuses first fault

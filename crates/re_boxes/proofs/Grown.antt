@@ -5,7 +5,7 @@ use Rattle.std.specs.List.{AllZip}
 use Rattle.re_labels.proofs.Rows.{AreSets, AreSets-Rearranged, not_larger, total, total-Rearranged, under_total, as_row}
 use Rattle.re_labels.specs.Rows.{IsChoice, IsUnder, set_at, IsRow}
 use Rattle.re_labels.proofs.Membership.{AllByRecursion-contains, Contains-here, Contains-none, In-Contains, Contains-In}
-use Rattle.re_labels.proofs.Sets.{IsIn-union, IsIn-union_cases}
+use Rattle.re_labels.proofs.Sets.{IsIn-union, IsIn-with_label_cases, IsIn-with_label_new}
 use Rattle.re_labels.specs.Sets.{IsIn, IsWithin, with_label}
 use Rattle.re_table.proofs.Goodness.{IsGood-Rearranged}
 use Rattle.re_table.proofs.MaxRows.{IsMaximal-max_rows, dominated, max_rows-IsMaximal}
@@ -14,24 +14,18 @@ use Rattle.re_table.specs.GoodRows.{IsDominated, IsGood, max_rows, IsMaximal}
 use Rattle.re_labels.proofs.Numbers.{IsLabelSet-with_label}
 use Rattle.re_labels.proofs.ChoicesOfRows.{IsUnder-refl}
 use Rattle.re_labels.proofs.Rearranging.{Rearranged-sym}
-use Rattle.re_boxes.proofs.Spread.{AreFilled, IsGood-under, IsIn-filled, one_label}
+use Rattle.re_boxes.proofs.Spread.{AreFilled, IsGood-under, IsIn-filled}
 use Rattle.re_boxes.specs.Boxes.{IsStrength}
 use Rattle.re_boxes.specs.Grown.{GrownLaw, IsGrown, LacksLaw, added}
 
 -- ---- a set with one more label
-with_label_cases : (s : List ℕ) (x z : ℕ) → IsIn z (with_label s x) → IsIn z s ⊎ (z ≡ x)
-with_label_cases s x z i = elim (IsIn-union_cases s (x ∷ []) z i) [ inl k ↦ inl k | inr k ↦ inr (one_label z x k) ]
-
-pub with_label_itself : (s : List ℕ) (x : ℕ) → IsIn x (with_label s x)
-with_label_itself s x = IsIn-union s (x ∷ []) x (inr (Contains-here x []))
-
 pub with_label_within : (s : List ℕ) (x : ℕ) → IsWithin s (with_label s x)
 with_label_within s x z i = IsIn-union s (x ∷ []) z (inl i)
 
 -- ---- a row with one more label
 added_filled : (i x : ℕ) (r : List (List ℕ)) → AreFilled r → AreFilled (added i x r)
 added_filled i x [] h = tt
-added_filled zero x (s ∷ r) h = (IsIn-filled x (with_label s x) (with_label_itself s x), h.1)
+added_filled zero x (s ∷ r) h = (IsIn-filled x (with_label s x) (IsIn-with_label_new s x), h.1)
 added_filled (suc i) x (s ∷ r) h = (h.0, added_filled i x r h.1)
 
 length-added : (i x : ℕ) (r : List (List ℕ)) → length (added i x r) ≡ length r
@@ -45,7 +39,7 @@ added_under i x [] [] h k = tt
 added_under i x [] (w ∷ t) h k = absurd h
 added_under i x (s ∷ r) [] h k = absurd h
 added_under zero x (s ∷ r) (w ∷ t) h k =
-    ((λ z c. elim (with_label_cases s x z c) [ inl j ↦ h.0 z j | inr e ↦ subst (λ v. IsIn v w) (sym e) k ]), h.1)
+    ((λ z c. elim (IsIn-with_label_cases s x z c) [ inl e ↦ subst (λ v. IsIn v w) e k | inr j ↦ h.0 z j ]), h.1)
 added_under (suc i) x (s ∷ r) (w ∷ t) h k = (h.0, added_under i x r t h.1 k)
 
 pub both_added : (i x : ℕ) (r t : List (List ℕ)) → IsUnder r t → IsUnder (added i x r) (added i x t)
@@ -53,9 +47,9 @@ both_added i x [] [] h = tt
 both_added i x [] (w ∷ t) h = absurd h
 both_added i x (s ∷ r) [] h = absurd h
 both_added zero x (s ∷ r) (w ∷ t) h = (
-  (λ z c. elim (with_label_cases s x z c) [
-    | inl j ↦ with_label_within w x z (h.0 z j)
-    | inr e ↦ subst (λ v. IsIn v (with_label w x)) (sym e) (with_label_itself w x)
+  (λ z c. elim (IsIn-with_label_cases s x z c) [
+    | inl e ↦ subst (λ v. IsIn v (with_label w x)) e (IsIn-with_label_new w x)
+    | inr j ↦ with_label_within w x z (h.0 z j)
   ]),
   h.1,
 )
@@ -78,9 +72,9 @@ added_good constraint r i x good only = record {
     parts i [] c k = inl k
     parts zero (s ∷ r) [] k = absurd k
     parts (suc i) (s ∷ r) [] k = absurd k
-    parts zero (s ∷ r) (z ∷ c) k = elim (with_label_cases s x z k.0) [
-      | inl j ↦ inl (j, k.1)
-      | inr e ↦ inr (subst (λ v. IsIn v (x ∷ [])) (sym e) (Contains-here x []), k.1)
+    parts zero (s ∷ r) (z ∷ c) k = elim (IsIn-with_label_cases s x z k.0) [
+      | inl e ↦ inr (subst (λ v. IsIn v (x ∷ [])) e (Contains-here x []), k.1)
+      | inr j ↦ inl (j, k.1)
     ]
     parts (suc i) (s ∷ r) (z ∷ c) k = elim (parts i r c k.1) [ inl j ↦ inl (k.0, j) | inr j ↦ inr (k.0, j) ]
 
@@ -118,7 +112,7 @@ grown_is_maximal constraint n r row good grown = record {
 
 AreSets-added : (n i x : ℕ) (r : List (List ℕ)) → x < n → AreSets n r → AreSets n (added i x r)
 AreSets-added n i x [] b h = tt
-AreSets-added n zero x (s ∷ r) b h = ((IsLabelSet-with_label n s x b h.0.0, IsIn-filled x (with_label s x) (with_label_itself s x)), h.1)
+AreSets-added n zero x (s ∷ r) b h = ((IsLabelSet-with_label n s x b h.0.0, IsIn-filled x (with_label s x) (IsIn-with_label_new s x)), h.1)
 AreSets-added n (suc i) x (s ∷ r) b h = (h.0, AreSets-added n i x r b h.1)
 
 pub added_above : (i x : ℕ) (r : List (List ℕ)) → IsUnder r (added i x r)
@@ -128,7 +122,7 @@ added_above (suc i) x (s ∷ r) = ((λ z c. c), added_above i x r)
 
 added_there : (i x : ℕ) (r : List (List ℕ)) → i < length r → IsIn x (set_at (added i x r) i)
 added_there i x [] b = absurd (omega arith)
-added_there zero x (s ∷ r) b = with_label_itself s x
+added_there zero x (s ∷ r) b = IsIn-with_label_new s x
 added_there (suc i) x (s ∷ r) b = added_there i x r (omega arith)
 
 -- no label can be added to a maximal row
@@ -162,9 +156,9 @@ pub each_up : (ups : ℕ → List ℕ) (r : List (List ℕ)) (i x y : ℕ) (c : 
 each_up ups [] i x y c itself w k h = absurd (Contains-none x w)
 each_up ups (s ∷ r) zero x y [] itself w k h = absurd h
 each_up ups (s ∷ r) (suc i) x y [] itself w k h = absurd h
-each_up ups (s ∷ r) zero x y (v ∷ c) itself w k h = elim (with_label_cases s y v h.0) [
-  | inl j ↦ (v ∷ c, (j, h.1), (itself v, each_same c))
-  | inr e ↦ (x ∷ c, (w, h.1), (subst (λ u. IsIn u (ups x)) (sym e) k, each_same c))
+each_up ups (s ∷ r) zero x y (v ∷ c) itself w k h = elim (IsIn-with_label_cases s y v h.0) [
+  | inl e ↦ (x ∷ c, (w, h.1), (subst (λ u. IsIn u (ups x)) e k, each_same c))
+  | inr j ↦ (v ∷ c, (j, h.1), (itself v, each_same c))
 ]
   where
     each_same : (c : List ℕ) → AllZip (λ u v. IsIn v (ups u)) c c

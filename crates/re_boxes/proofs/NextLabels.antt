@@ -4,8 +4,8 @@ use Rattle.std.specs.Prelude.{Contains, ◌↔◌, MatchBool}
 use Rattle.std.proofs.lemmas.Bool.{false≢true}
 use Rattle.std.proofs.lemmas.List.Elements.{Contains-append_cases, Contains-append_left, Contains-append_right}
 use Rattle.re_labels.proofs.Membership.{Contains-cases, Contains-filter, Contains-here, Contains-none}
-use Rattle.re_labels.proofs.Sets.{IsIn-has, IsIn-meet, IsIn-meet_cases, has-IsIn, has-with_label}
-use Rattle.re_labels.proofs.Tests.{eqb-same, eqb-true, or-left, or-right, or-true}
+use Rattle.re_labels.proofs.Sets.{has-IsIn, has-with_label, IsIn-has, IsIn-meet, IsIn-meet_cases, IsIn-with_label_cases, IsIn-with_label_old}
+use Rattle.re_labels.proofs.Tests.{eqb-same, eqb-true, or-left}
 use Rattle.re_labels.specs.Sets.{IsIn, has, meet, with_label, without_label}
 use Rattle.re_table.proofs.Descents.{ending-narrow}
 use Rattle.re_boxes.specs.Spans.{Tree, IsEnding, IsFirst, IsSpan}
@@ -13,13 +13,7 @@ use Rattle.re_table.specs.declared.branches.Branches.{Branches}
 use Rattle.re_boxes.specs.declared.visiting.Candidate.{Candidate}
 use Rattle.re_labels.specs.declared.TheConstants.{MAX_LABELS}
 
--- ---- a set with one more label
-pub IsIn-with_cases : (s : List ℕ) (y x : ℕ) → IsIn x (with_label s y) → (y ≡ x) ⊎ IsIn x s
-IsIn-with_cases s y x i = elim (or-true (eqb y x) (has s x) (sym (has-with_label s y x) ∙ IsIn-has (with_label s y) x i)) [ inl e ↦ inl (eqb-true y x e) | inr h ↦ inr (has-IsIn s x h) ]
-
-pub IsIn-with_old : (s : List ℕ) (y x : ℕ) → IsIn x s → IsIn x (with_label s y)
-IsIn-with_old s y x i = has-IsIn (with_label s y) x (has-with_label s y x ∙ or-right (eqb y x) (has s x) (IsIn-has s x i))
-
+-- a set with one more label
 pub IsIn-with_new : (s : List ℕ) (y x : ℕ) → y ≡ x → IsIn x (with_label s y)
 IsIn-with_new s y x e = has-IsIn (with_label s y) x (has-with_label s y x ∙ or-left (eqb y x) (has s x) (ap (eqb y) (sym e) ∙ eqb-same y))
 
@@ -33,12 +27,12 @@ labels-none x = (λ i. absurd (Contains-none x i), λ h. absurd (Contains-none h
 pub labels-more : (all : List Candidate) (one : Candidate) (s new : List ℕ) → ((x : ℕ) → IsIn x s ↔ HasLabel all x) → new ≡ with_label s one.label
     → (x : ℕ) → IsIn x new ↔ HasLabel (all ++ one ∷ []) x
 labels-more all one s new is e x = subst (λ t. IsIn x t ↔ HasLabel (all ++ one ∷ []) x) (sym e) (
-  (λ i. elim (IsIn-with_cases s one.label x i) [
+  (λ i. elim (IsIn-with_label_cases s one.label x i) [
     | inl same ↦ (one, Contains-append_right all (one ∷ []) one (Contains-here one []), same)
     | inr old ↦ let h = (is x).0 old in (h.0, Contains-append_left all (one ∷ []) h.0 h.1, h.2)
   ]),
   (λ h. elim (Contains-append_cases all (one ∷ []) h.0 h.1) [
-    | inl old ↦ IsIn-with_old s one.label x ((is x).1 (h.0, old, h.2))
+    | inl old ↦ IsIn-with_label_old s one.label x ((is x).1 (h.0, old, h.2))
     | inr new ↦ elim (Contains-cases h.0 one [] new) [
       | inl same ↦ IsIn-with_new s one.label x (subst (λ (k : Candidate). k.label ≡ x) same h.2)
       | inr none ↦ absurd (Contains-none h.0 none)
@@ -95,12 +89,12 @@ module _ (constraint : Tree) (depth : ℕ) (span : Branches) where
       (λ two. (ends other ending).1 (omega (arith, two.0), (state.later other ending).1 (omega (arith, two.0, low_first.0), two.1))),
     );
     labels = λ x. subst (λ t. IsIn x t ↔ ((x < label + 1) × Comes constraint depth span x)) (sym e) (
-      (λ i. elim (IsIn-with_cases found label x i) [
+      (λ i. elim (IsIn-with_label_cases found label x i) [
         | inl same ↦ (omega (arith, same), (first.some.0, subst (λ y. IsEnding constraint depth span (y ∷ first.some.0)) same low_first.1))
         | inr old ↦ let two = (state.labels x).0 old in (omega (arith, two.0, low_first.0), two.1)
       ]),
       (λ two. elim (sides x two.0) [
-        | inl old ↦ IsIn-with_old found label x ((state.labels x).1 (old, two.1))
+        | inl old ↦ IsIn-with_label_old found label x ((state.labels x).1 (old, two.1))
         | inr late ↦
             let there : IsEnding constraint depth rest (x ∷ two.1.0) = (state.later x two.1.0).1 (late.0, two.1.1) in
             let least_one = first.least x two.1.0 there in

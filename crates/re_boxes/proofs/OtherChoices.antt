@@ -1,16 +1,15 @@
 -- Choices with another label at a place, and a box that is parted at any place first.
-use Rattle.std.proofs.Common.{◌≡◌, ℕ, zero, suc, ◌+◌, ◌<◌, ◌≤◌, eqb, ◌⊎◌, true, false, not, List, [], ◌∷◌, length, filter, get_or, refl, sym, ap, ◌∙◌, subst, inl, inr, arith}
+use Rattle.std.proofs.Common.{◌≡◌, ℕ, zero, suc, ◌+◌, ◌<◌, ◌≤◌, ◌⊎◌, true, false, not, List, [], ◌∷◌, length, filter, get_or, refl, sym, ap, ◌∙◌, subst, inl, inr, arith}
 use Rattle.std.specs.Prelude.{slice_set}
 use Rattle.std.specs.List.{AllByRecursion}
 use Rattle.std.proofs.lemmas.Bool.{false≢true}
-use Rattle.std.proofs.lemmas.Bool.Decides.{eqb_tells}
 use Rattle.re_boxes.specs.Boxes.{IsCovered, IsUp}
 use Rattle.re_labels.proofs.Rearranging.{length-AllZip}
 use Rattle.re_labels.proofs.Rows.{all_at}
 use Rattle.re_labels.specs.Rows.{IsChoice, IsUnder, set_at}
 use Rattle.re_labels.proofs.Membership.{Contains-filter}
 use Rattle.re_labels.proofs.Sets.{IsIn-has, IsIn-union_cases, has-IsIn}
-use Rattle.re_labels.proofs.Tests.{eqb-same}
+use Rattle.re_labels.proofs.Tests.{same_or_not}
 use Rattle.re_labels.specs.Sets.{IsIn, IsWithin, has, union}
 use Rattle.re_table.specs.Constraints.{Constraint, Has}
 use Rattle.re_boxes.specs.Held.{AreHeldBeside}
@@ -40,9 +39,6 @@ other_chosen (x ∷ c) (s ∷ r) (suc place) y e h k = (
   h zero (omega arith) (λ q. absurd (omega (arith, q))),
   other_chosen c r place y (omega (arith, e)) (λ i b ne. h (suc i) (omega (arith, b)) (λ q. ne (omega (arith, q)))) k,
 )
-
-pub same_or_apart : (i j : ℕ) → (i ≡ j) ⊎ (i ≡ j → ⊥)
-same_or_apart i j = elim (eqb_tells i j) [ inl t ↦ inl t.1 | inr t ↦ inr (λ e. false≢true (sym t.0 ∙ subst (λ k. eqb i k ≡ true) e (eqb-same i))) ]
 
 some_label : (s : List ℕ) → 0 < length s → (y : ℕ) × IsIn y s
 some_label [] some = absurd (omega arith)
@@ -84,7 +80,7 @@ module _ (constraint : Constraint) (ups : ℕ → List ℕ) (rows : List (List (
       let high : length r ≡ length b = length-AllZip IsWithin r b u in
       let inside = lacking.within in
       let beside : AreHeldBeside place c r = (λ i within ne. under_at f r i h (get_or c i 0) (held i (omega (arith, within, wide)) ne)) in
-      elim (same_or_apart lacking.at place) [
+      elim (same_or_not lacking.at place) [
         | inl same ↦
             let y = some_label (set_at r place) (all_at (λ s. 0 < length s) r place good.filled (omega (arith, inside, same, even, high))) in
             absurd (bad (omega (arith, inside, same, even)) y.0 (under_at r b place u y.0 y.1) (good.choice (slice_set c place y.0) (other_chosen c r place y.0 (omega (arith, even, high)) beside y.1)))

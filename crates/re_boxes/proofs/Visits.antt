@@ -1,11 +1,10 @@
 -- The visit of the rests with a beginning, label by label.
-use Rattle.std.proofs.Common.{◌≡◌, ◌∷◌, ◌++◌, ◌∙◌, ◌+◌, ℕ, suc, ◌<◌, ◌≤◌, max, List, [], length, get_or, refl, sym, ap, subst, arith, inl, inr, ◌⊎◌, append_assoc, length-append, map, take, drop}
+use Rattle.std.proofs.Common.{◌≡◌, ◌∷◌, ◌++◌, ◌∙◌, ◌+◌, ℕ, suc, ◌<◌, ◌≤◌, max, List, [], length, get_or, refl, sym, ap, subst, arith, inl, inr, ◌⊎◌, append_assoc, length-append, map}
 use Rattle.std.specs.Prelude.{Contains, ◌↔◌}
 use Rattle.std.specs.List.{AllByRecursion}
 use Rattle.std.proofs.lemmas.List.{get_or_past}
-use Rattle.std.specs.List.{refill}
 use Rattle.re_labels.proofs.Rearranging.{Rearranged-refl, Rearranged-sym}
-use Rattle.re_labels.proofs.Sorting.{AllByRecursion-Rearranged, Rearranged-sorted, length-sorted, sorted-Rearranged, sorted_again, sorted_rises, take_front, inserted_low, inserted_high}
+use Rattle.re_labels.proofs.Sorting.{AllByRecursion-Rearranged, Rearranged-sorted, length-sorted, sorted-Rearranged, sorted_again, sorted_rises, inserted_low, inserted_high}
 use Rattle.re_labels.specs.Configs.{IsConfig, inserted, sorted}
 use Rattle.re_labels.specs.Rearranging.{Rearranged, chained, kept, swapped}
 use Rattle.re_labels.proofs.OrdersAt.{get_or-map}
@@ -534,10 +533,6 @@ narrowed-up_sets constraint is n old new few e len sets narrowed = same_lists ne
 
         one_set : get_or new k [] ≡ up_set (constraint_of constraint) k n
         one_set = same_labels (get_or new k []) (up_set (constraint_of constraint) k n) new_set.0 up_set_set.0 (IsWithin-Sub (get_or new k []) (up_set (constraint_of constraint) k n) to) (IsWithin-Sub (up_set (constraint_of constraint) k n) (get_or new k []) from)
-
--- what is written back, where the number stays
-pub refilled : {X : Type 0} (old new : List X) → length new ≡ length old → refill (length old) old new ≡ new
-refilled old new e = ap (λ n. take n (new ++ drop (length new) old)) (sym e) ∙ take_front new (drop (length new) old)
 
 -- where no set has another label than its own, no rest narrows them
 pub narrowed-alone : (constraint : Tree) (beginning : List ℕ) (sets : List (List ℕ)) → ((a b : ℕ) → a < length sets → IsIn b (get_or sets a []) → b ≡ a) → IsNarrowed (constraint_of constraint) beginning sets sets

@@ -5,7 +5,7 @@ use Rattle.std.specs.List.{AllByRecursion}
 use Rattle.std.proofs.lemmas.List.{drop-drop, take_all, take_at}
 use Rattle.std.proofs.Math.Seq.{drop-append-add, take-add}
 use Rattle.re_labels.proofs.Rearranging.{Contains-Rearranged}
-use Rattle.re_labels.proofs.Sorting.{Rearranged-sorted, length-sorted}
+use Rattle.re_labels.proofs.Sorting.{Rearranged-sorted}
 use Rattle.re_labels.specs.Configs.{IsConfig, sorted}
 use Rattle.re_check.proofs.NextLabels.{label-entry}
 use Rattle.re_check.proofs.RowSets.{place_of-there}
@@ -18,6 +18,7 @@ use Rattle.re_labels.specs.Lists.{IsBefore, IsRising, count_from, place_of}
 use Rattle.re_labels.specs.Sets.{number}
 use Rattle.re_table.proofs.MaxSets.{max_sets_law}
 use Rattle.re_table.specs.Constraints.{Constraint, Has, IsConstraint}
+use Rattle.re_table.proofs.ConstraintImages.{held_labels}
 use Rattle.re_problem.specs.NamedProblems.{IsNamedProblem, NamedProblem, unnamed}
 use Rattle.re_problem.specs.Steps.{IsLowerStepByRow, IsLowerStepBySet, LowerMap, SetEntry, entry_sets, label_at, label_of}
 use Rattle.re_problem.specs.Steps.LowerMap.{by_row, by_set}
@@ -38,11 +39,6 @@ held_label : (n : ℕ) (constraint : Constraint) (labels : List ℕ) (x : ℕ) �
 held_label n constraint labels x is has at =
     let config : IsConfig constraint.degree n (sorted labels) = AllByRecursion-contains (IsConfig constraint.degree n) constraint.configs (sorted labels) is.configs has in
     AllByRecursion-contains (λ y. y < n) (sorted labels) x config.below (Contains-Rearranged x (Rearranged-sorted labels) at)
-
-pub held_labels : (n : ℕ) (constraint : Constraint) (labels : List ℕ) → IsConstraint n constraint → Has constraint labels → (length labels ≡ constraint.degree) × AllByRecursion (λ label. label < n) labels
-held_labels n constraint labels is has =
-    let config : IsConfig constraint.degree n (sorted labels) = AllByRecursion-contains (IsConfig constraint.degree n) constraint.configs (sorted labels) is.configs has in
-    (sym (length-sorted labels) ∙ config.count, AllByRecursion-from_contains (λ y. y < n) labels (λ x at. held_label n constraint labels x is has at))
 
 -- ---- maps by sets
 -- entries are those of their sets with their labels

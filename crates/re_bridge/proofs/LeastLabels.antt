@@ -1,12 +1,12 @@
 -- Problems that relax to each other, and how few labels they have.
-use Rattle.std.proofs.Common.{◌≡◌, ℕ, suc, ◌+◌, ◌<◌, ◌≤◌, Bool, true, false, cond, not, ltb, eqb, List, [], ◌∷◌, length, map, Some, None, refl, sym, ap, ◌∙◌, subst, arith, inl, inr}
+use Rattle.std.proofs.Common.{◌≡◌, ℕ, ◌+◌, ◌<◌, ◌≤◌, true, not, ltb, List, length, map, Some, None, refl, sym, ap, ◌∙◌, subst, arith, inl, inr}
 use Rattle.std.specs.Prelude.{Contains, filter}
 use Rattle.std.specs.List.{AllByRecursion}
 use Rattle.std.proofs.lemmas.List.{get_or-map}
 use Rattle.std.proofs.lemmas.List.Filters.{length-filter_both}
 use Rattle.re_changes.proofs.Counted.{length-map_counted}
 use Rattle.re_labels.proofs.Rearranging.{Contains-Rearranged, Rearranged-map, Rearranged-sym}
-use Rattle.re_labels.proofs.Replacing.{IsLabelSet-support_of, has-support_of}
+use Rattle.re_labels.proofs.Replacing.{has-support_of, IsLabelSet-support_of, length-support_of_most}
 use Rattle.re_labels.proofs.Sorting.{Rearranged-sorted}
 use Rattle.re_labels.specs.Configs.{image_at, sorted, support_of}
 use Rattle.re_labels.proofs.Membership.{AllByRecursion-from_contains, Contains-In, Contains-count_from, Contains-filter, Contains-filter_cases, Contains-map, Contains-map_cases, count_from_range, get_or-count_from, length-count_from, length-map', map-alike}
@@ -14,7 +14,7 @@ use Rattle.re_labels.proofs.Numbers.{IsLabelSet-filter, same_labels}
 use Rattle.re_labels.proofs.Sets.{IsIn-has, has-IsIn, has-filter}
 use Rattle.re_labels.proofs.Tests.{and-true, below-true, true-and, true-below}
 use Rattle.re_labels.specs.Lists.{count_from}
-use Rattle.re_labels.specs.Sets.{IsLabelSet, has, with_label}
+use Rattle.re_labels.specs.Sets.{IsLabelSet, has}
 use Rattle.re_problem.proofs.StepLaws.{map-map}
 use Rattle.re_problem.specs.NamedProblems.{IsNamedProblem, NamedProblem, OccursIn, unnamed}
 use Rattle.re_problem.specs.Problems.{IsProblem, Problem}
@@ -35,19 +35,6 @@ within-shorter n s t hs ht inside =
     (λ x c. (and-true (has t x) (has s x) (sym (has-filter (has s) t x) ∙ c)).1)
     (λ x c. has-filter (has s) t x ∙ true-and (has t x) (has s x) (inside x c) c) in
     subst (λ l. length l ≤ length t) same (omega (arith, length-filter_both (has s) (λ x. not (has s x)) (λ x. refl) t))
-
-with-longest : (s : List ℕ) (x : ℕ) → length (with_label s x) ≤ suc (length s)
-with-longest [] x = omega arith
-with-longest (y ∷ s) x = go (ltb x y) (eqb x y) (with-longest s x)
-  where
-    go : (a b : Bool) → length (with_label s x) ≤ suc (length s) → length (cond a (x ∷ y ∷ s) (cond b (y ∷ s) (y ∷ with_label s x))) ≤ suc (suc (length s))
-    go true b rest = omega arith
-    go false true rest = omega arith
-    go false false rest = omega arith
-
-support-longest : (xs : List ℕ) → length (support_of xs) ≤ length xs
-support-longest [] = omega arith
-support-longest (x ∷ xs) = omega (arith, with-longest (support_of xs) x, support-longest xs)
 
 -- ---- there and back
 module _ (named : NamedProblem) (other : Problem) (to back : ℕ → ℕ) (is : IsNamedProblem named) (is_other : IsProblem other) (there : IsRelaxed (unnamed named) other to) (again : IsRelaxed other (unnamed named) back) where
@@ -116,7 +103,7 @@ module _ (named : NamedProblem) (other : Problem) (to back : ℕ → ℕ) (is : 
       omega (
         arith,
         within-shorter (length named.names) (image_set images) (support_of between) (IsLabelSet-support_of (length named.names) images images-low) (IsLabelSet-support_of (length named.names) between between-low) inside,
-        support-longest between,
+        length-support_of_most between,
         length-filter_both (λ y. ltb y (length named.names)) (λ y. not (ltb y (length named.names))) (λ y. refl) (map back (count_from 0 other.labels)),
         length-map_counted back other.labels,
       )

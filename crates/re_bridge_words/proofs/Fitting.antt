@@ -3,6 +3,7 @@ use Rattle.std.proofs.Common.{◌≡◌, ℕ, ◌<◌, ◌≤◌, true, eqb, leb
 use Rattle.std.specs.Prelude.{◌&&◌, Contains}
 use Rattle.std.specs.List.{list_all}
 use Rattle.std.proofs.lemmas.Bool.Decides.{nat_tests}
+use Rattle.re_table.proofs.ConstraintImages.{held_labels}
 use Rattle.re_labels.proofs.Membership.{AllByRecursion-contains, Contains-In, Contains-map, In-Contains, all-In_from}
 use Rattle.re_labels.proofs.Tests.{eqb-same, true-and, true-below}
 use Rattle.re_problem.proofs.Building.{below_all}
@@ -17,7 +18,7 @@ use Rattle.re_check.specs.StepClauses.{entry_labels}
 use Rattle.re_check.proofs.StepMeaning.{lower_clauses}
 use Rattle.re_check.specs.Clauses.{step_fault}
 use Rattle.re_search.proofs.Entries.{rows-fit, set-is}
-use Rattle.re_bridge.proofs.Bridging.{held_labels, set_assignment}
+use Rattle.re_bridge.proofs.Bridging.{set_assignment}
 use Rattle.re_bridge.specs.Bridges.{IsFound, bridge_of, rows_of, sets_of, step_by}
 use Rattle.re_bridge.specs.Laws.{IsAnswer, Meets}
 use Rattle.re_bridge_words.specs.Bridged.{IsBridged, in_one_form}

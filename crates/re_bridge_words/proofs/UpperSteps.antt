@@ -1,10 +1,10 @@
 -- An upper step with sets fits the problems on both sides, and meets its clauses.
-use Rattle.std.proofs.Common.{◌≡◌, ℕ, ◌<◌, ◌≤◌, ◌+◌, eqb, true, false, List, [], ◌∷◌, ◌++◌, length, map, get_or, None, refl, sym, ap, ◌∙◌, subst, arith}
+use Rattle.std.proofs.Common.{◌≡◌, ℕ, ◌<◌, ◌≤◌, ◌+◌, true, false, List, [], ◌∷◌, ◌++◌, length, map, get_or, None, refl, sym, ap, ◌∙◌, subst, arith}
 use Rattle.std.specs.Prelude.{Contains}
 use Rattle.std.specs.List.{AllByRecursion, list_all}
 use Rattle.std.proofs.lemmas.List.{get_or_default}
 use Rattle.re_labels.proofs.Membership.{AllByRecursion-contains, Contains-map, In-Contains, all-In_from, count_from_range, length-count_from, length-map'}
-use Rattle.re_labels.proofs.Tests.{and-true, eqb-true, true-and, true-below}
+use Rattle.re_labels.proofs.Tests.{true-and, true-below}
 use Rattle.re_labels.specs.Lists.{IsRising, count_from}
 use Rattle.re_labels.specs.Sets.{IsLabelSet}
 use Rattle.re_labels.specs.declared.TheConstants.{MAX_LABELS}
@@ -16,7 +16,7 @@ use Rattle.re_problem.specs.Steps.{IsUpperStep, SetEntry, entry_sets}
 use Rattle.re_cert.specs.Bounds.{Bound, BoundStep, entry_fits, is_label, step_fits}
 use Rattle.re_cert.specs.declared.certificate.Kind.TheVariants.{Upper}
 use Rattle.re_chains.specs.Chains.{chain_with}
-use Rattle.re_check.specs.Clauses.{are_exchanged, step_fault}
+use Rattle.re_check.specs.Clauses.{step_fault}
 use Rattle.re_check.specs.ClauseLaws.{UpperStepLaw}
 use Rattle.re_changes.proofs.Counted.{pushed}
 use Rattle.re_fit.specs.Fits.{entries_of}
@@ -61,9 +61,6 @@ pub held-chain : (bound : Bound) (held next : NamedProblem) (entries : List SetE
 held-chain bound held next entries sets e f = (λ i. chain_with Upper bound.first (bound.steps ++ held_step (e i) (f i) ∷ []))
 
 -- ---- the walk
-pub degrees : (before next : NamedProblem) → are_exchanged before next ≡ true → (next.active.degree ≡ before.passive.degree) × (next.passive.degree ≡ before.active.degree)
-degrees before next e = let both = and-true (eqb next.active.degree before.passive.degree) (eqb next.passive.degree before.active.degree) e in (eqb-true next.active.degree before.passive.degree both.0, eqb-true next.passive.degree before.active.degree both.1)
-
 -- ---- the sets that are found
 pub leads : (before last next : NamedProblem) (given sets : List (List ℕ)) → last ≡ before → given ≡ sets → IsUpperStep (unnamed last) (unnamed next) (entries_of sets) → IsUpperStep (unnamed before) (unnamed next) (entries_of given)
 leads before last next given sets e f step = subst (λ (p : NamedProblem). IsUpperStep (unnamed p) (unnamed next) (entries_of given)) e (subst (λ (s : List (List ℕ)). IsUpperStep (unnamed last) (unnamed next) (entries_of s)) (sym f) step)

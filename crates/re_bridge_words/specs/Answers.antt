@@ -1,9 +1,10 @@
 -- The words `bridge` and `reduce`, and what they may answer.
 use Rattle.std.specs.Prelude.{◌≡◌, ℕ, List, [], ◌∷◌, ◌++◌, codes, if◌then◌else◌, Option, None, Some}
 use Rattle.std.specs.Str.{bytes_eq}
-use Rattle.re_frame.specs.Outcomes.{Outcome}
+use Rattle.re_frame.specs.Outcomes.{Outcome, refused}
 use Rattle.re_frame.specs.declared.status.Status.TheVariants.{Done}
 use Rattle.re_bridge_words.specs.BridgeWords.{BridgeWorth, text_outcome}
+use Rattle.re_bridge_words.specs.Laws.{NoWorth}
 use Rattle.re_bridge_words.specs.ReduceWords.{ReduceWorth, reduce_outcome}
 use Rattle.re_bridge_words.specs.declared.words.BridgeWord.{BridgeWord}
 use Rattle.re_bridge_words.specs.declared.words.BridgeWord.TheVariants.{Bridge, Reduce}
@@ -29,7 +30,13 @@ abbrev pub WordWorth : BridgeWord → List ℕ → List ℕ → Type 0
 WordWorth Bridge bytes text = BridgeWorth bytes text
 WordWorth Reduce bytes text = ReduceWorth bytes text
 
--- what a word may answer to a text: one outcome alone, and this is known of its text
+-- what is known where the answer is the line `no` alone, which `reduce` never gives
+abbrev pub WordNo : BridgeWord → List ℕ → Type 0
+WordNo Bridge bytes = NoWorth bytes
+WordNo Reduce bytes = Unit {0}
+
+-- what a word may answer to a text: one outcome alone, this is known of its text, and this where it is `no`
 pub record MayGive (word : BridgeWord) (bytes : List ℕ) (outcome : Outcome) : Type 0 where
   pub one : outcome ≡ word_outcome word bytes
   pub worth : outcome.status ≡ Done → WordWorth word bytes outcome.text
+  pub no : outcome ≡ refused (codes "no\n") → WordNo word bytes

@@ -1,17 +1,18 @@
 //! What the word `bridge` answers.
 ghost use Rattle.re_bridge.specs.Bridges.{has_many_rows};
 ghost use Rattle.re_bridge_words.specs.BridgeWords.{BridgeWorth, IsBridgedText, IsLongerText, bridge_outcome, kind_outcome, sound_outcome, text_outcome, upper_outcome};
+ghost use Rattle.re_bridge_words.specs.Laws.{NoLonger, NoWorth};
 ghost use Rattle.re_cert.specs.Bounds.{last_problem};
 ghost use Rattle.re_cert.specs.declared.certificate.Kind.TheVariants.{Fixed};
 ghost use Rattle.re_cert.specs.declared.certificate.TheConstants.{MAX_STEPS};
 ghost use Rattle.re_chains.specs.Chains.{chain_of};
 ghost use Rattle.re_chains.specs.HeldBounds.{held_bound};
-ghost use Rattle.re_frame.specs.Outcomes.{outcome_of};
+ghost use Rattle.re_frame.specs.Outcomes.{outcome_of, refused as refused_with};
 ghost use Rattle.re_frame.specs.declared.status.Status.TheVariants.{Done};
 ghost use Rattle.re_io.specs.declared.read.TheConstants.{MAX_BYTES};
-ghost use Rattle.std.specs.Prelude.{◌≡◌, ◌<◌, ◌≤◌, IfOk, length};
+ghost use Rattle.std.specs.Prelude.{◌≡◌, ◌<◌, ◌≤◌, IfOk, codes, length};
 
-use crate::{bridge, bridge_upper};
+use crate::{bridge, bridge_upper, no_law, no_upper_law};
 use re_bridge::BridgeFault;
 use re_cert::{Certificate, Kind, MAX_STEPS};
 use re_chains::{
@@ -122,8 +123,14 @@ fn as_chain(alloc: Global, bound: Certificate) -> Result<Certificate, NoMemory>
 fn bound_output(alloc: Global, bound: Certificate, to: &Problem) -> Result<Output, NoMemory>
     ensures output { IfOk result (λ output. outcome_of output ≡ sound_outcome to.now (chain_of bound)) }
     ensures text { IfOk result (λ output. (outcome_of output).status ≡ Done → IsBridgedText to.now (chain_of bound) output.text.items) }
+    ensures no { IfOk result (λ output. outcome_of output ≡ refused_with (codes "no\n") → NoLonger to.now (chain_of bound)) }
 {
     let chain = as_chain(alloc, bound)?;
+    no_law();
+    no_upper_law();
+    let last = chain.last();
+    let _last = last.names();
+    let _to = to.names();
     sound_output(alloc, chain, to)
 }
 
@@ -133,6 +140,7 @@ pub(crate) fn text_output(alloc: Global, text: &[u8]) -> Result<Output, NoMemory
     requires { length text.now ≤ MAX_BYTES }
     ensures output { IfOk result (λ output. outcome_of output ≡ text_outcome text.now) }
     ensures text { IfOk result (λ output. (outcome_of output).status ≡ Done → BridgeWorth text.now output.text.items) }
+    ensures no { IfOk result (λ output. outcome_of output ≡ refused_with (codes "no\n") → NoWorth text.now) }
 {
     match read_two(alloc, TO, text) {
         Ok(texts) => bound_output(alloc, texts.bound, &texts.problem),

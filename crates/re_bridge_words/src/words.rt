@@ -1,9 +1,9 @@
 //! The words, and what they answer.
-ghost use Rattle.re_bridge_words.specs.Answers.{WordWorth, bridge_help, bridge_word_of, word_outcome};
-ghost use Rattle.re_frame.specs.Outcomes.{outcome_of};
+ghost use Rattle.re_bridge_words.specs.Answers.{WordNo, WordWorth, bridge_help, bridge_word_of, word_outcome};
+ghost use Rattle.re_frame.specs.Outcomes.{outcome_of, refused};
 ghost use Rattle.re_frame.specs.declared.status.Status.TheVariants.{Done};
 ghost use Rattle.re_io.specs.declared.read.TheConstants.{MAX_BYTES};
-ghost use Rattle.std.specs.Prelude.{◌≡◌, ◌≤◌, IfOk, length, map, string_bytes};
+ghost use Rattle.std.specs.Prelude.{◌≡◌, ◌≤◌, IfOk, codes, length, map, string_bytes};
 
 use crate::answering::text_output;
 use crate::reducing::reduce_output;
@@ -54,6 +54,7 @@ fn output_for(alloc: Global, word: BridgeWord, text: &[u8]) -> Result<Output, No
     requires { length text.now ≤ MAX_BYTES }
     ensures output { IfOk result (λ output. outcome_of output ≡ word_outcome word text.now) }
     ensures text { IfOk result (λ output. (outcome_of output).status ≡ Done → WordWorth word text.now output.text.items) }
+    ensures no { IfOk result (λ output. outcome_of output ≡ refused (codes "no\n") → WordNo word text.now) }
 {
     match word {
         BridgeWord::Bridge => text_output(alloc, text),

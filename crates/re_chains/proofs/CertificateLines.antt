@@ -13,7 +13,7 @@ use Rattle.re_problem.specs.declared.fault.InputFault.{InputFault}
 use Rattle.re_problem.specs.declared.fault.InputFault.TheVariants.{EarlyEnd}
 use Rattle.re_problem.specs.SectionLines.{is_section, name_in, section_name, words_of}
 use Rattle.re_cert.specs.CertificateTexts.{Brought, First, Next, State, and_behind, bad_section, begins, behind, behind_from, certificate_fault, fault_behind, goes_on, has_ended, in_text, joined, judged, judged_in, map_begins, past, renaming_ends, silent, step_begins, text_ends, whole_step}
-use Rattle.re_cert.specs.SectionLines.{heading_in, heading_of, section_by, section_of}
+use Rattle.re_cert.specs.SectionLines.{heading_in, heading_of, section_named, section_of}
 use Rattle.re_cert.specs.declared.cert_reader.Phase.{Phase}
 use Rattle.re_cert.specs.declared.cert_reader.Phase.TheVariants as phase
 use Rattle.re_cert.specs.declared.sections.Section.TheVariants.{Other}
@@ -32,7 +32,7 @@ section_filled (b ∷ d ∷ line) section = ap (λ x. is_empty_line (x ∷ d ∷
 -- one with this name begins no section of a certificate
 other_section : (line : List ℕ) → section_name line ≡ Some (codes "given") → section_of line ≡ Other
 unfolding section_of
-other_section line named = ap section_by named
+other_section line named = ap (λ name. option_map_or section_named name Other) named
 
 two_words : (words : List (List ℕ)) (name : List ℕ) → name_in words ≡ Some name → heading_in words ≡ None
 two_words [] name named = absurd (cc)

@@ -6,13 +6,12 @@ use Rattle.std.proofs.Math.Seq.{take-append_seam}
 use Rattle.std.proofs.lemmas.Grind.{flat_map-append}
 use Rattle.re_labels.proofs.Membership.{AllByRecursion-weaker}
 use Rattle.re_labels.proofs.Tests.{eqb-true}
-use Rattle.re_texts.proofs.BlocksWritten.{block_written}
-use Rattle.re_texts.proofs.ReadBack.{all_append, canonical_law, canonical_lines_law}
-use Rattle.re_texts.specs.CanonicalLines.{IsWithinLimits, block_lines, canonical_lines}
-use Rattle.re_problem.proofs.EndedLines.{NoFeed, lines_in-ended, parts-ended}
+use Rattle.re_texts.proofs.ReadBack.{all_append, canonical_feeds, canonical_law, canonical_lines_law}
+use Rattle.re_texts.specs.CanonicalLines.{IsWithinLimits, canonical_lines}
+use Rattle.re_problem.proofs.EndedLines.{NoFeed, lines_of-ended}
 use Rattle.re_problem.specs.CanonicalTexts.{canonical}
 use Rattle.re_problem.specs.NamedProblems.{IsNamedProblem, NamedProblem}
-use Rattle.re_problem.specs.ProblemTexts.{bytes_of, ended, fault_at, fault_if, first_fault, first_from, lines_in, lines_of, or_else, problem_of}
+use Rattle.re_problem.specs.ProblemTexts.{bytes_of, ended, fault_at, fault_if, first_fault, first_from, lines_of, or_else, problem_of}
 use Rattle.re_problem.specs.declared.fault.InputFault.{InputFault}
 use Rattle.re_problem.specs.declared.fault.InputFault.TheVariants.{BadSection, EarlyEnd}
 use Rattle.re_problem.proofs.InnerLines.{inner_line, neither}
@@ -50,10 +49,6 @@ lines_ended (b ∷ text) = go (eqb b 10) refl (lines_ended text)
     }
     go false other more = record { first = b ∷ more.first; rest = more.rest; text_is = ap (λ l. b ∷ l) more.text_is; feed = ((other, more.feed.0), more.feed.1) }
 
--- the lines of such a text
-lines_are : (lines : List (List ℕ)) → AllByRecursion NoFeed lines → lines_of (ended lines) ≡ lines
-lines_are lines feed = ap lines_in (parts-ended lines feed) ∙ lines_in-ended lines
-
 -- how long it is
 ended_bytes : (lines : List (List ℕ)) → length (ended lines) ≡ bytes_of lines
 ended_bytes [] = refl
@@ -71,12 +66,6 @@ inner_lines byte from before (line ∷ lines) none =
     let both = neither (fault_at byte from before line) (first_from byte from (before ++ line ∷ []) lines) none in
     ap (λ b. b || list_any is_section lines) (inner_line byte from before line both.0) ∙ inner_lines byte from (before ++ line ∷ []) lines both.1
 
-canonical_feed : (problem : NamedProblem) → IsNamedProblem problem → AllByRecursion NoFeed (canonical_lines problem)
-canonical_feed problem is =
-    let active = (block_written problem.names problem.active is.names is.problem.active).feed in
-    let passive = (block_written problem.names problem.passive is.names is.problem.passive).feed in
-    all_append NoFeed (block_lines problem.names problem.active) ([] ∷ block_lines problem.names problem.passive) active (tt, passive)
-
 -- ---- texts of certificates
 -- one ends with a line feed
 certificate_ended : (bound : Bound) → certificate_text bound ≡ (header_text (has_row_maps bound.steps) bound.kind bound.back ++ codes "\n" ++ canonical bound.first ++ steps_text bound.first bound.steps ++ back_section bound ++ codes "== end") ++ 10 ∷ []
@@ -88,7 +77,7 @@ certificate_lines bound = subst IsLines (sym (certificate_ended bound)) (lines_e
 -- it is read as one
 is_begun : (lines : List (List ℕ)) → AllByRecursion NoFeed lines → begins_section lines ≡ true → is_certificate_text (ended lines) ≡ true
 unfolding is_certificate_text
-is_begun lines feed begins = ap begins_section (lines_are lines feed) ∙ begins
+is_begun lines feed begins = ap begins_section (lines_of-ended lines feed) ∙ begins
 
 module _ (bound : Bound) (input : NamedProblem) (right : certificate_fault (text_lines (certificate_text bound)) ≡ None) (read : certificate_of (text_lines (certificate_text bound)) ≡ bound) (is : IsNamedProblem input) (within : IsWithinLimits input) where
   of : IsLines (certificate_text bound)
@@ -126,7 +115,7 @@ module _ (bound : Bound) (input : NamedProblem) (right : certificate_fault (text
   mark_feed = (refl, (refl, (refl, (refl, (refl, (refl, (refl, (refl, tt))))))))
 
   all_lines : lines_of (given_text bound input) ≡ front ++ mark ∷ back
-  all_lines = ap lines_of joined ∙ lines_are (front ++ mark ∷ back) (all_append NoFeed front (mark ∷ back) of.feed (mark_feed, canonical_feed input is))
+  all_lines = ap lines_of joined ∙ lines_of-ended (front ++ mark ∷ back) (all_append NoFeed front (mark ∷ back) of.feed (mark_feed, canonical_feeds input is))
 
   -- ---- the cut
   has : has_line (codes "given") (given_text bound input) ≡ true

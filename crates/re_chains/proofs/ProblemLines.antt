@@ -1,5 +1,5 @@
 -- A problem text behind that line, line by line to its end.
-use Rattle.std.proofs.Common.{◌≡◌, ℕ, eqb, zero, suc, ◌<◌, ◌≤◌, ◌+◌, true, false, List, [], ◌∷◌, ◌++◌, length, length-append, append_assoc, refl, sym, ap, ◌∙◌, arith, Option, Some, None, Result, Ok, Err}
+use Rattle.std.proofs.Common.{◌≡◌, ℕ, zero, suc, ◌<◌, ◌≤◌, ◌+◌, true, false, List, [], ◌∷◌, ◌++◌, length, length-append, append_assoc, refl, sym, ap, ◌∙◌, arith, Option, Some, None, Result, Ok, Err}
 use Rattle.std.specs.List.{list_any}
 use Rattle.std.proofs.lemmas.List.{append-nil}
 use Rattle.re_io.specs.declared.read.TheConstants.{MAX_BYTES}
@@ -127,7 +127,3 @@ section_whole reader number problem given byte start lines stands = ap (λ f. or
 pub section_broken : (reader : TextReader) (number : ℕ) (fault : TextFault) → FinishGives reader (Err fault) → SectionRefuses reader number fault
 section_broken reader number (Bad fault) given = λ byte start lines stands. ap (λ f. or_else f (Some (BadSection number))) (given byte start lines stands)
 section_broken reader number NoMemory given = tt
-
-pub some_left : (n : ℕ) → eqb n 0 ≡ false → 0 < n
-some_left zero e = absurd (cc)
-some_left (suc n) e = omega arith

@@ -1,13 +1,12 @@
 -- Two tests of strength that agree on the labels below a bound give the same classes and the same edges.
-use Rattle.std.proofs.Common.{◌≡◌, ℕ, ◌<◌, ◌+◌, Bool, true, not, ◌&&◌, ◌||◌, List, [], ◌∷◌, ◌++◌, length, map, flat_map, get_or, refl, sym, ap, ◌∙◌, subst, arith}
+use Rattle.std.proofs.Common.{◌≡◌, ℕ, ◌<◌, ◌+◌, Bool, true, not, ◌&&◌, ◌||◌, List, [], ◌∷◌, length, map, flat_map, get_or, refl, sym, ap, ◌∙◌, subst, arith}
 use Rattle.std.specs.Prelude.{Contains, slice_index, unwrap_or, ◌==◌}
 use Rattle.std.specs.List.{AllByRecursion, list_any}
 use Rattle.std.proofs.lemmas.List.{get_or-map, get_or_default}
-use Rattle.re_labels.proofs.Membership.{Contains-count_from, Contains-filter_cases, Contains-here, Contains-later, count_from_range, get_or-count_from, length-count_from, map-alike}
+use Rattle.re_labels.proofs.Membership.{Contains-count_from, Contains-filter_cases, Contains-here, Contains-later, count_from_range, filter-alike, flat_map-alike, get_or-count_from, length-count_from, map-alike}
 use Rattle.re_labels.proofs.Sets.{IsIn-has, has-filter, has-meet}
 use Rattle.re_labels.specs.Lists.{count_from}
 use Rattle.re_labels.specs.Sets.{first_of, has, meet}
-use Rattle.re_table.proofs.Strengths.{filter-same}
 use Rattle.re_table.specs.Constraints.{Constraint}
 use Rattle.re_table.specs.Strength.{is_at_least_as_strong, up_set}
 use Rattle.re_problem.specs.Problems.{Problem}
@@ -17,10 +16,6 @@ use Rattle.re_changes.specs.Diagrams.{classes_of, edges_from, edges_of}
 use Rattle.re_changes.specs.Merging.{covers}
 
 -- ---- lists under tests and maps that agree on their elements
-pub flat_map-alike : {X Y : Type 0} (f g : X → List Y) (xs : List X) → ((x : X) → Contains xs x → f x ≡ g x) → flat_map f xs ≡ flat_map g xs
-flat_map-alike f g [] h = refl
-flat_map-alike f g (x ∷ xs) h = λ i. h x (Contains-here x xs) i ++ flat_map-alike f g xs (λ y held. h y (Contains-later y x xs held)) i
-
 pub any-alike : {X : Type 0} (p q : X → Bool) (xs : List X) → ((x : X) → Contains xs x → p x ≡ q x) → list_any p xs ≡ list_any q xs
 any-alike p q [] h = refl
 any-alike p q (x ∷ xs) h = λ i. h x (Contains-here x xs) i || any-alike p q xs (λ y held. h y (Contains-later y x xs held)) i
@@ -34,14 +29,14 @@ Alike n strong other = (b a : ℕ) → b < n → a < n → strong b a ≡ other 
 
 module _ (n : ℕ) (strong other : ℕ → ℕ → Bool) (alike : Alike n strong other) where
   pub class_of-alike : (a : ℕ) → a < n → class_of strong n a ≡ class_of other n a
-  class_of-alike a l = filter-same (are_equal strong a) (are_equal other a) (count_from 0 n)
+  class_of-alike a l = filter-alike (are_equal strong a) (are_equal other a) (count_from 0 n)
       (λ b held. let m = below_bound n b held in λ i. alike a b l m i && alike b a m l i)
 
   pub least_equal-alike : (a : ℕ) → a < n → least_equal strong n a ≡ least_equal other n a
   least_equal-alike a l = ap (λ class. unwrap_or (first_of class) a) (class_of-alike a l)
 
   pub least_labels-alike : least_labels strong n ≡ least_labels other n
-  least_labels-alike = filter-same (λ a. least_equal strong n a == a) (λ a. least_equal other n a == a) (count_from 0 n)
+  least_labels-alike = filter-alike (λ a. least_equal strong n a == a) (λ a. least_equal other n a == a) (count_from 0 n)
       (λ a held. ap (λ least. least == a) (least_equal-alike a (below_bound n a held)))
 
   stronger-alike : (b a : ℕ) → b < n → a < n → is_stronger strong b a ≡ is_stronger other b a
@@ -59,7 +54,7 @@ module _ (n : ℕ) (strong other : ℕ → ℕ → Bool) (alike : Alike n strong
       (Contains-filter_cases (λ a. least_equal other n a == a) (count_from 0 n) (slice_index (least_labels other n) y) (y, l, get_or_default (least_labels other n) y (slice_index (least_labels other n) y) 0 l)).0
 
   pub edges_from-alike : (x : ℕ) → x < length (least_labels other n) → edges_from strong n (least_labels other n) x ≡ edges_from other n (least_labels other n) x
-  edges_from-alike x l = ap (map (λ y. (x, y))) (filter-same (λ y. is_next strong n (slice_index (least_labels other n) y) (slice_index (least_labels other n) x))
+  edges_from-alike x l = ap (map (λ y. (x, y))) (filter-alike (λ y. is_next strong n (slice_index (least_labels other n) y) (slice_index (least_labels other n) x))
       (λ y. is_next other n (slice_index (least_labels other n) y) (slice_index (least_labels other n) x)) (count_from 0 (length (least_labels other n)))
       (λ y held. next-alike (slice_index (least_labels other n) y) (slice_index (least_labels other n) x) (least-below y (below_bound (length (least_labels other n)) y held)) (least-below x l)))
 

@@ -1,12 +1,11 @@
 -- The least label of each class, where a test of strength is reflexive and goes on from label to label.
 use Rattle.std.proofs.Common.{◌≡◌, ℕ, ◌<◌, Bool, true, eqb, List, [], ◌∷◌, refl, sym, ap, ◌∙◌, arith}
 use Rattle.std.specs.Prelude.{Contains, unwrap_or, ◌==◌}
-use Rattle.re_labels.proofs.Membership.{Contains-count_from, Contains-filter, Contains-filter_cases, Contains-here, Contains-none}
+use Rattle.re_labels.proofs.Membership.{Contains-count_from, Contains-filter, Contains-filter_cases, Contains-here, Contains-none, filter-alike}
 use Rattle.re_labels.proofs.Numbers.{IsLabelSet-count_from, IsLabelSet-filter}
 use Rattle.re_labels.proofs.Tests.{and-true, eqb-same, eqb-true, same_tests, true-and}
 use Rattle.re_labels.specs.Lists.{count_from}
 use Rattle.re_labels.specs.Sets.{IsLabelSet, first_of}
-use Rattle.re_table.proofs.Strengths.{filter-same}
 use Rattle.re_changes.proofs.Alike.{below_bound}
 use Rattle.re_changes.specs.Classes.{are_equal, class_of, least_equal, least_labels}
 
@@ -51,7 +50,7 @@ module _ (strong : ℕ → ℕ → Bool) (n : ℕ) (itself : (a : ℕ) → stron
   -- equal labels have one class, and so one least label
   pub least-same : (a b : ℕ) → a < n → b < n → are_equal strong a b ≡ true → least_equal strong n a ≡ least_equal strong n b
   least-same a b l m e =
-      let class : class_of strong n a ≡ class_of strong n b = filter-same (are_equal strong a) (are_equal strong b) (count_from 0 n)
+      let class : class_of strong n a ≡ class_of strong n b = filter-alike (are_equal strong a) (are_equal strong b) (count_from 0 n)
       (λ x held. same_tests (are_equal strong a x) (are_equal strong b x) (λ h. equal-chain b a x (equal-flip a b e) h) (λ h. equal-chain a b x e h)) in
       ap (λ s. unwrap_or (first_of s) a) class ∙ first-alike (class_of strong n b) a b b (own_class b m)
 

@@ -27,6 +27,11 @@ use Rattle.re_check.specs.ClauseLaws.{LowerClausesLaw, UpperClausesLaw}
 use Rattle.re_check.specs.declared.clause.Clause.{Clause}
 use Rattle.re_check.specs.declared.clause.Clause.TheVariants.{L1, L2, L3, L4, L5, U1, U2, U3, U4}
 
+pub exchanged-degrees : (before next : NamedProblem) → are_exchanged before next ≡ true → (next.active.degree ≡ before.passive.degree) × (next.passive.degree ≡ before.active.degree)
+exchanged-degrees before next e =
+    let both = and-true (eqb next.active.degree before.passive.degree) (eqb next.passive.degree before.active.degree) e in
+    (eqb-true next.active.degree before.passive.degree both.0, eqb-true next.passive.degree before.active.degree both.1)
+
 -- ---- equal lists
 pub lists-Decides : (sets others : List (List ℕ)) → Decides (pointwise bytes_eq sets others) (sets ≡ others)
 lists-Decides sets others = slice_eq-Decides bytes_eq-Decides sets others (pointwise bytes_eq sets others) refl

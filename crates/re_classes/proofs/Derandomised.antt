@@ -10,29 +10,28 @@ use Rattle.re_given.proofs.AllInputViews.{Contains-all_trees, FitsAround-fits, a
 use Rattle.re_given.proofs.Relabelled.{relabelled, relabelled-known}
 use Rattle.re_given.specs.Given.{around_known}
 use Rattle.re_given.specs.InputViews.{InputView, known}
-use Rattle.re_labels.proofs.Membership.{AllByRecursion-contains, AllByRecursion-from_contains, Contains-filter, Contains-filter_cases, Contains-map, Contains-map_cases, any_found, any_true, length-map'}
-use Rattle.re_labels.proofs.Tests.{and-true, true-and}
+use Rattle.re_labels.proofs.Membership.{AllByRecursion-contains, AllByRecursion-from_contains, Contains-filter, Contains-filter_cases, Contains-map, Contains-map_cases, any_found, any_true, length-filter_most, length-map'}
+use Rattle.re_labels.proofs.Tests.{and-true, not-true, true-and}
 use Rattle.re_local.proofs.LocalGiven.{around_known-relabelled}
 use Rattle.re_layers.specs.Networks.{AreDifferent}
 use Rattle.re_local.specs.LocalAlgorithms.{SolvableLocal, behind_passive, identified, shown}
 use Rattle.re_problem.proofs.Examples.{IsProblem-relaxed_sinkless}
-use Rattle.re_problem.proofs.FedLines.{unnot, unnot_true}
+use Rattle.re_problem.proofs.FedLines.{unnot}
 use Rattle.re_problem.specs.Examples.{relaxed_sinkless}
 use Rattle.re_problem.specs.Problems.{Problem}
 use Rattle.re_classes.proofs.Drawn.{none_happens, passing-strings, tally}
 use Rattle.re_classes.proofs.FewerNames.{fewer_names}
-use Rattle.re_classes.proofs.NamedViews.{fails_named, images-relabelled, no_names_active, no_names_passive, with_string}
+use Rattle.re_classes.proofs.IdentifiedViews.{fails_identified, images-relabelled, no_names_active, no_names_passive, with_string}
 use Rattle.re_classes.proofs.Numbered.{active_view_below, passive_view_below}
 use Rattle.re_classes.proofs.Powers.{sinkless_bits, views_few}
 use Rattle.re_classes.proofs.ViewCounts.{view_count}
-use Rattle.re_classes.specs.RandomLaws.{DerandomisedLaw, DerandomisedNamedLaw, RandomisedLaw, RandomisedNamedLaw, SinklessRandomLaw, id_views, random_base}
-use Rattle.re_classes.specs.NamedRandom.{FailsRarelyNamed, with_images, with_strings}
+use Rattle.re_classes.specs.RandomLaws.{DerandomisedLaw, DerandomisedIdentifiedLaw, RandomisedLaw, RandomisedIdentifiedLaw, SinklessRandomLaw, id_views, random_base}
+use Rattle.re_classes.specs.IdentifiedRandom.{FailsRarelyIdentified, with_images, with_strings}
 use Rattle.re_local.proofs.Counting.{one_if}
 use Rattle.re_local.proofs.Separated.{sinkless_unique}
 use Rattle.re_local.specs.SeparatingLaws.{identifier_base}
 use Rattle.re_table.proofs.Goodness.{has_config-Has}
 use Rattle.re_table.specs.Constraints.{has_config}
-use Rattle.re_layers.proofs.Membership.{length-filter_most}
 
 -- whether nothing stands twice
 abbrev pub are_different : List ℕ → Bool
@@ -52,12 +51,12 @@ tells-AreDifferent : (xs : List ℕ) → are_different xs ≡ true → AreDiffer
 tells-AreDifferent [] h = tt
 tells-AreDifferent (x ∷ xs) h =
     let both = and-true (not (list_any (eqb x) xs)) (are_different xs) h in
-    (λ held. false≢true (sym (unnot_true (list_any (eqb x) xs) both.0) ∙ any_true (eqb x) xs x held same), tells-AreDifferent xs both.1)
+    (λ held. false≢true (sym (not-true (list_any (eqb x) xs) both.0) ∙ any_true (eqb x) xs x held same), tells-AreDifferent xs both.1)
   where
     same : eqb x x ≡ true
     same = elim (eqb_tells x x) [ inl t ↦ t.0 | inr t ↦ absurd (t.1 refl) ]
 
-module _ (problem : Problem) (N R T q : ℕ) (algorithm : InputView → List ℕ) (fails : FailsRarelyNamed problem N R T q algorithm) where
+module _ (problem : Problem) (N R T q : ℕ) (algorithm : InputView → List ℕ) (fails : FailsRarelyIdentified problem N R T q algorithm) where
   abbrev a : ℕ
   a = problem.active.degree
 
@@ -160,15 +159,15 @@ module _ (problem : Problem) (N R T q : ℕ) (algorithm : InputView → List ℕ
       map-same-id [] = refl
       map-same-id (x ∷ xs) = ap (◌∷◌ x) (map-same-id xs)
 
-pub derandomised_named : DerandomisedNamedLaw
-derandomised_named problem d zero R T q algorithm is low low' few fails = (
+pub derandomised_identified : DerandomisedIdentifiedLaw
+derandomised_identified problem d zero R T q algorithm is low low' few fails = (
   λ k. [],
   record {
     active = λ v view fits apart. absurd (no_names_active problem T is v view fits);
     passive = λ v view fits apart. absurd (no_names_passive problem T is v view fits);
   },
 )
-derandomised_named problem d (suc M) R T q algorithm is low low' few fails =
+derandomised_identified problem d (suc M) R T q algorithm is low low' few fails =
     let (strings, none) = none_happens R N q (events problem N R T q algorithm fails) (all_rare problem N R T q algorithm fails) enough in
     fixed_strings problem N R T q algorithm fails strings none
   where
@@ -202,8 +201,8 @@ derandomised_named problem d (suc M) R T q algorithm is low low' few fails =
 -- one that sees no identifiers is one that takes no notice of them
 pub derandomised : DerandomisedLaw
 derandomised problem d N R T q algorithm is low low' few fails =
-    derandomised_named problem d N R T q (λ k. algorithm (with_images (λ label. label % R) k)) is low low' few
-    (fails_named problem N R T q algorithm is fails)
+    derandomised_identified problem d N R T q (λ k. algorithm (with_images (λ label. label % R) k)) is low low' few
+    (fails_identified problem N R T q algorithm is fails)
 
 pub randomised : RandomisedLaw
 randomised problem d C l T is low low' small never q R algorithm enough fails =
@@ -211,9 +210,9 @@ randomised problem d C l T is low low' small never q R algorithm enough fails =
     let few : id_views d ((2 ^ l) ^ (T + 1)) T ≤ q = (let v = views_few d l T least in omega (arith, v, enough)) in
     never ((2 ^ l) ^ (T + 1)) (pow-le-pow_left small (T + 1)) (derandomised problem d ((2 ^ l) ^ (T + 1)) R T q algorithm is low low' few fails)
 
-pub randomised_named : RandomisedNamedLaw
-randomised_named problem d C l T is low low' small never N q R algorithm many enough fails =
-    never M (omega arith) (derandomised_named problem d M R T q algorithm is low low' few (fewer_names problem M N R T q algorithm many fails))
+pub randomised_identified : RandomisedIdentifiedLaw
+randomised_identified problem d C l T is low low' small never N q R algorithm many enough fails =
+    never M (omega arith) (derandomised_identified problem d M R T q algorithm is low low' few (fewer_names problem M N R T q algorithm many fails))
   where
     M : ℕ
     M = C ^ (T + 1)

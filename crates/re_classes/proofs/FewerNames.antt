@@ -15,7 +15,7 @@ use Rattle.re_local.specs.LocalAlgorithms.{identified}
 use Rattle.re_classes.proofs.Drawn.{passing-strings, tally, tally-const, tally-same, total-same}
 use Rattle.re_classes.proofs.Numbered.{active_view_below, passive_view_below}
 use Rattle.re_classes.specs.RandomLaws.{FewerNamesLaw}
-use Rattle.re_classes.specs.NamedRandom.{with_strings}
+use Rattle.re_classes.specs.IdentifiedRandom.{with_strings}
 use Rattle.re_classes.specs.RandomAlgorithms.{string_lists}
 use Rattle.re_local.proofs.Counting.{one_if, total-scaled}
 use Rattle.re_table.specs.Constraints.{Constraint, Has, has_config}

@@ -5,8 +5,8 @@ pub mod Derandomised
 pub mod Drawn
 pub mod DrawnColours
 pub mod FewerNames
-pub mod NamedRandomness
-pub mod NamedViews
+pub mod IdentifiedRandomness
+pub mod IdentifiedViews
 pub mod Numbered
 pub mod Powers
 pub mod RandomGap

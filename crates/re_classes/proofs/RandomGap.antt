@@ -6,12 +6,12 @@ use Rattle.re_layers.proofs.Towers.{above, below_power, cube_below, power_below,
 use Rattle.re_layers.specs.Towers.{tower}
 use Rattle.re_ordered.proofs.Gap.{gap}
 use Rattle.re_ordered.proofs.PortNumbered.{Solvable-local}
-use Rattle.re_classes.proofs.Derandomised.{derandomised, derandomised_named}
+use Rattle.re_classes.proofs.Derandomised.{derandomised, derandomised_identified}
 use Rattle.re_classes.proofs.FewerNames.{fewer_names}
-use Rattle.re_classes.proofs.NamedViews.{fails_named}
-use Rattle.re_classes.specs.GapLaws.{NamedConstantLaw, NamedGapLaw, RandomisedConstantLaw, RandomisedGapLaw}
+use Rattle.re_classes.proofs.IdentifiedViews.{fails_identified}
+use Rattle.re_classes.specs.GapLaws.{IdentifiedConstantLaw, IdentifiedGapLaw, RandomisedConstantLaw, RandomisedGapLaw}
 use Rattle.re_classes.specs.RandomLaws.{id_views}
-use Rattle.re_classes.specs.NamedRandom.{with_images}
+use Rattle.re_classes.specs.IdentifiedRandom.{with_images}
 
 pub randomised_constant : RandomisedConstantLaw
 randomised_constant problem T is =
@@ -22,13 +22,13 @@ randomised_constant problem T is =
           (id_views (problem.active.degree + problem.passive.degree) N T) algorithm is (omega arith) (omega arith) (omega arith) fails),
     )
 
-pub named_constant : NamedConstantLaw
-named_constant problem T is =
+pub identified_constant : IdentifiedConstantLaw
+identified_constant problem T is =
     let (N, ports) = Solvable-local problem T is in (
       N,
       id_views (problem.active.degree + problem.passive.degree) N T,
       λ wide R algorithm many fails.
-          ports (derandomised_named problem (problem.active.degree + problem.passive.degree) N R T
+          ports (derandomised_identified problem (problem.active.degree + problem.passive.degree) N R T
           (id_views (problem.active.degree + problem.passive.degree) N T) algorithm is (omega arith) (omega arith) (omega arith)
           (fewer_names problem N wide R T (id_views (problem.active.degree + problem.passive.degree) N T) algorithm many fails)),
     )
@@ -57,10 +57,10 @@ few_views d m T low small large =
         let cubes : 5 * (x * x) ≤ x * (x * x) = mul-le-mul_right (x * x) l in
         omega (arith, l, square, cubes, h)
 
-pub named_gap : NamedGapLaw
-named_gap problem h N R T q algorithm is l many enough fails =
+pub identified_gap : IdentifiedGapLaw
+identified_gap problem h N R T q algorithm is l many enough fails =
     (gap problem h T (tower (T + h + 6)) is l (omega arith)).0
-    (derandomised_named problem 6 (tower (T + h + 6)) R T q algorithm is is.active.most is.passive.most few
+    (derandomised_identified problem 6 (tower (T + h + 6)) R T q algorithm is is.active.most is.passive.most few
     (fewer_names problem (tower (T + h + 6)) N R T q algorithm many fails))
   where
     m : ℕ
@@ -95,5 +95,5 @@ named_gap problem h N R T q algorithm is l many enough fails =
 
 pub randomised_gap : RandomisedGapLaw
 randomised_gap problem h R T q algorithm is l enough fails =
-    named_gap problem h (tower (T + h + 6)) R T q (λ k. algorithm (with_images (λ label. label % R) k)) is l (omega arith) enough
-    (fails_named problem (tower (T + h + 6)) R T q algorithm is fails)
+    identified_gap problem h (tower (T + h + 6)) R T q (λ k. algorithm (with_images (λ label. label % R) k)) is l (omega arith) enough
+    (fails_identified problem (tower (T + h + 6)) R T q algorithm is fails)

@@ -3,6 +3,6 @@ pub mod Classes
 pub mod Examples
 pub mod GapLaws
 pub mod Laws
-pub mod NamedRandom
+pub mod IdentifiedRandom
 pub mod RandomAlgorithms
 pub mod RandomLaws

@@ -5,7 +5,7 @@ use Rattle.re_given.specs.InputViews.{InputView}
 use Rattle.re_local.specs.LocalAlgorithms.{SolvableLocal, SolvesApart, identified}
 use Rattle.re_problem.specs.Examples.{relaxed_sinkless}
 use Rattle.re_problem.specs.Problems.{IsProblem, Problem}
-use Rattle.re_classes.specs.NamedRandom.{FailsRarelyNamed, with_images}
+use Rattle.re_classes.specs.IdentifiedRandom.{FailsRarelyIdentified, with_images}
 use Rattle.re_classes.specs.RandomAlgorithms.{FailsRarely}
 use Rattle.re_local.specs.SeparatingLaws.{IsBeyondPower}
 
@@ -48,38 +48,38 @@ SinklessRandomLaw = (T : ℕ) → IsBeyondDoublePower relaxed_sinkless (random_b
 -- a randomised algorithm without identifiers is one that takes no notice of them: it fails as rarely with different ones, however many these are
 abbrev pub UnnoticedNamesLaw : Type 0
 UnnoticedNamesLaw = (problem : Problem) (R T q : ℕ) (algorithm : InputView → List ℕ) → IsProblem problem →
-    FailsRarely problem R T q algorithm ↔ ((N : ℕ) → FailsRarelyNamed problem N R T q (λ seen. algorithm (with_images (λ label. label % R) seen)))
+    FailsRarely problem R T q algorithm ↔ ((N : ℕ) → FailsRarelyIdentified problem N R T q (λ seen. algorithm (with_images (λ label. label % R) seen)))
 
 -- a local algorithm that takes no notice of strings, if there is one, fails with a probability below any 1 / q
-abbrev pub CertainNamedLaw : Type 0
-CertainNamedLaw = (problem : Problem) (N R T q : ℕ) (algorithm : InputView → List ℕ) → 1 ≤ R →
+abbrev pub CertainIdentifiedLaw : Type 0
+CertainIdentifiedLaw = (problem : Problem) (N R T q : ℕ) (algorithm : InputView → List ℕ) → 1 ≤ R →
     SolvesApart problem (identified problem.active.degree problem.passive.degree N) (λ x. x) T algorithm →
-    FailsRarelyNamed problem N R T q (λ seen. algorithm (with_images (λ label. label / R) seen))
+    FailsRarelyIdentified problem N R T q (λ seen. algorithm (with_images (λ label. label / R) seen))
 
 -- a randomised algorithm with N identifiers that fails with a probability below 1 / q, with no more than q views with N identifiers, gives a
 -- deterministic one
-abbrev pub DerandomisedNamedLaw : Type 0
-DerandomisedNamedLaw = (problem : Problem) (d N R T q : ℕ) (algorithm : InputView → List ℕ) → IsProblem problem →
-    problem.active.degree ≤ d → problem.passive.degree ≤ d → id_views d N T ≤ q → FailsRarelyNamed problem N R T q algorithm → SolvableLocal problem N T
+abbrev pub DerandomisedIdentifiedLaw : Type 0
+DerandomisedIdentifiedLaw = (problem : Problem) (d N R T q : ℕ) (algorithm : InputView → List ℕ) → IsProblem problem →
+    problem.active.degree ≤ d → problem.passive.degree ≤ d → id_views d N T ≤ q → FailsRarelyIdentified problem N R T q algorithm → SolvableLocal problem N T
 
 -- so with N identifiers a randomised algorithm of T rounds that fails so rarely is there exactly where a deterministic one is
-abbrev pub NamedRandomnessLaw : Type 0
-NamedRandomnessLaw = (problem : Problem) (d N T q : ℕ) → IsProblem problem → problem.active.degree ≤ d → problem.passive.degree ≤ d →
-    id_views d N T ≤ q → ((R : ℕ) × (algorithm : InputView → List ℕ) × FailsRarelyNamed problem N R T q algorithm) ↔ SolvableLocal problem N T
+abbrev pub IdentifiedRandomnessLaw : Type 0
+IdentifiedRandomnessLaw = (problem : Problem) (d N T q : ℕ) → IsProblem problem → problem.active.degree ≤ d → problem.passive.degree ≤ d →
+    id_views d N T ≤ q → ((R : ℕ) × (algorithm : InputView → List ℕ) × FailsRarelyIdentified problem N R T q algorithm) ↔ SolvableLocal problem N T
 
 -- one that fails rarely with more identifiers does so with fewer
 abbrev pub FewerNamesLaw : Type 0
 FewerNamesLaw = (problem : Problem) (N more R T q : ℕ) (algorithm : InputView → List ℕ) → N ≤ more →
-    FailsRarelyNamed problem more R T q algorithm → FailsRarelyNamed problem N R T q algorithm
+    FailsRarelyIdentified problem more R T q algorithm → FailsRarelyIdentified problem N R T q algorithm
 
 -- no randomised algorithm of T rounds with N identifiers, with however many strings, fails with a probability below 1 / q at each node, where N
 -- is at least C ^ (T + 1) and q at least 2 ^ (D ^ (T + 1)): each of them fails at some node, for some port numbering and some different
 -- identifiers, with a probability of at least 1 / q
-abbrev pub IsBeyondNamed : Problem → ℕ → ℕ → ℕ → Type 0
-IsBeyondNamed problem C D T = (N q R : ℕ) (algorithm : InputView → List ℕ) → C ^ (T + 1) ≤ N → 2 ^ (D ^ (T + 1)) ≤ q →
-    FailsRarelyNamed problem N R T q algorithm → ⊥
+abbrev pub IsBeyondIdentified : Problem → ℕ → ℕ → ℕ → Type 0
+IsBeyondIdentified problem C D T = (N q R : ℕ) (algorithm : InputView → List ℕ) → C ^ (T + 1) ≤ N → 2 ^ (D ^ (T + 1)) ≤ q →
+    FailsRarelyIdentified problem N R T q algorithm → ⊥
 
 -- so it is where no local algorithm of T rounds solves the problem with C ^ (T + 1) identifiers or more
-abbrev pub RandomisedNamedLaw : Type 0
-RandomisedNamedLaw = (problem : Problem) (d C l T : ℕ) → IsProblem problem → problem.active.degree ≤ d → problem.passive.degree ≤ d → C ≤ 2 ^ l →
-    IsBeyondPower problem C T → IsBeyondNamed problem C (random_base d l) T
+abbrev pub RandomisedIdentifiedLaw : Type 0
+RandomisedIdentifiedLaw = (problem : Problem) (d C l T : ℕ) → IsProblem problem → problem.active.degree ≤ d → problem.passive.degree ≤ d → C ≤ 2 ^ l →
+    IsBeyondPower problem C T → IsBeyondIdentified problem C (random_base d l) T

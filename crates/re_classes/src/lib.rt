@@ -8,10 +8,10 @@ ghost use Rattle.re_classes.specs.Laws.{AboveLogStarLaw, BelowLogStarLaw, Consta
 ghost use Rattle.re_classes.specs.Laws.{ApartLaw, NothingBetweenLaw, WeakerLaw};
 
 pub use random::{
-    certain_law, certain_named_law, derandomised_law, derandomised_named_law, drawn_colour_law,
-    fewer_names_law, named_constant_law, named_gap_law, named_randomness_law,
-    randomised_constant_law, randomised_gap_law, randomised_law, randomised_named_law,
-    sinkless_random_law, unnoticed_names_law,
+    certain_identified_law, certain_law, derandomised_identified_law, derandomised_law,
+    drawn_colour_law, fewer_names_law, identified_constant_law, identified_gap_law,
+    identified_randomness_law, randomised_constant_law, randomised_gap_law,
+    randomised_identified_law, randomised_law, sinkless_random_law, unnoticed_names_law,
 };
 
 /// A problem takes a constant number of rounds with unique identifiers exactly where some number is enough with port numbers alone.

@@ -1,9 +1,9 @@
 //! Randomised algorithms, and what lower bounds for algorithms with unique identifiers say of them: laws alone, no code.
 
 ghost use Rattle.re_classes.specs.Chances.{DrawnColourLaw};
-ghost use Rattle.re_classes.specs.GapLaws.{NamedConstantLaw, NamedGapLaw, RandomisedConstantLaw, RandomisedGapLaw};
-ghost use Rattle.re_classes.specs.RandomLaws.{CertainLaw, CertainNamedLaw, DerandomisedLaw, DerandomisedNamedLaw, FewerNamesLaw, NamedRandomnessLaw};
-ghost use Rattle.re_classes.specs.RandomLaws.{RandomisedLaw, RandomisedNamedLaw, SinklessRandomLaw, UnnoticedNamesLaw};
+ghost use Rattle.re_classes.specs.GapLaws.{IdentifiedConstantLaw, IdentifiedGapLaw, RandomisedConstantLaw, RandomisedGapLaw};
+ghost use Rattle.re_classes.specs.RandomLaws.{CertainLaw, CertainIdentifiedLaw, DerandomisedLaw, DerandomisedIdentifiedLaw, FewerNamesLaw, IdentifiedRandomnessLaw};
+ghost use Rattle.re_classes.specs.RandomLaws.{RandomisedLaw, RandomisedIdentifiedLaw, SinklessRandomLaw, UnnoticedNamesLaw};
 
 /// An algorithm that solves a problem whatever the strings are fails with a probability below 1 / q for any q: a test of the definition.
 pub fn certain_law()
@@ -41,18 +41,18 @@ pub fn unnoticed_names_law()
 {}
 
 /// A local algorithm that takes no notice of strings fails with a probability below 1 / q for any q.
-pub fn certain_named_law()
-    ensures { CertainNamedLaw }
+pub fn certain_identified_law()
+    ensures { CertainIdentifiedLaw }
 {}
 
 /// A randomised algorithm that sees identifiers too and fails rarely enough is a deterministic one.
-pub fn derandomised_named_law()
-    ensures { DerandomisedNamedLaw }
+pub fn derandomised_identified_law()
+    ensures { DerandomisedIdentifiedLaw }
 {}
 
 /// So with N identifiers a randomised algorithm that fails so rarely is there exactly where a deterministic one is.
-pub fn named_randomness_law()
-    ensures { NamedRandomnessLaw }
+pub fn identified_randomness_law()
+    ensures { IdentifiedRandomnessLaw }
 {}
 
 /// One that fails rarely with more identifiers does so with fewer.
@@ -63,8 +63,8 @@ pub fn fewer_names_law()
 /// Where no local algorithm of T rounds solves a problem with C^(T + 1) identifiers or more, each randomised algorithm of T rounds that sees
 /// identifiers below N fails at some node, for some port numbering and some different identifiers, with a probability of at least 1 / q, if N is
 /// at least C^(T + 1) and q at least 2^(D^(T + 1)).
-pub fn randomised_named_law()
-    ensures { RandomisedNamedLaw }
+pub fn randomised_identified_law()
+    ensures { RandomisedIdentifiedLaw }
 {}
 
 /// For each problem and number T of rounds there is a number q such that a randomised algorithm of T rounds that fails with a probability below
@@ -80,11 +80,11 @@ pub fn randomised_gap_law()
 {}
 
 /// So it is where nodes have identifiers too, if there are enough of them.
-pub fn named_constant_law()
-    ensures { NamedConstantLaw }
+pub fn identified_constant_law()
+    ensures { IdentifiedConstantLaw }
 {}
 
 /// A tower of T and a constant of twos is enough.
-pub fn named_gap_law()
-    ensures { NamedGapLaw }
+pub fn identified_gap_law()
+    ensures { IdentifiedGapLaw }
 {}

@@ -7,14 +7,13 @@ use Rattle.re_labels.proofs.OrdersAt.{get_or-map}
 use Rattle.re_labels.proofs.Rearranging.{Contains-Rearranged, Rearranged-map, Rearranged-sym}
 use Rattle.re_labels.specs.Orders.{multisets}
 use Rattle.re_labels.specs.Rows.{IsChoice, IsUnder, placed, set_at}
-use Rattle.re_labels.proofs.Membership.{Contains-count_from, Contains-filter, Contains-filter_cases, Contains-here, Contains-later, count_from_range, length-map'}
+use Rattle.re_labels.proofs.Membership.{Contains-count_from, Contains-filter, Contains-filter_cases, Contains-here, Contains-later, count_from_range, filter-alike, length-map'}
 use Rattle.re_labels.proofs.LabelPlaces.{get-place_of, place_of-below}
 use Rattle.re_labels.proofs.Sets.{IsWithin-within, within-IsWithin}
 use Rattle.re_labels.proofs.Tests.{same_tests}
 use Rattle.re_labels.specs.Lists.{count_from, place_of}
 use Rattle.re_labels.specs.Sets.{IsIn, IsWithin, within}
 use Rattle.re_table.proofs.Goodness.{IsAllowed-is_allowed, IsDominated-is_dominated, is_allowed-IsAllowed, is_dominated-IsDominated}
-use Rattle.re_table.proofs.Strengths.{filter-same}
 use Rattle.re_table.specs.Constraints.{Constraint}
 use Rattle.re_table.specs.GoodRows.{IsAllowed, IsDominated, allowed, is_allowed, is_dominated}
 use Rattle.re_closure_laws.proofs.Steps.{Has-topmost, Has-topmost_cases}
@@ -80,7 +79,7 @@ module _ (family : Family) (is : IsFamily family) where
   pub allowed_below : allowed (topmost family) (map (labels_around family.sets) family.sets) family.degree ≡ (below family).configs
   allowed_below =
       ap (λ m. filter (λ places. is_allowed (topmost family) (placed arounds places)) (multisets family.degree 0 m)) (length-map' (labels_around family.sets) family.sets)
-      ∙ filter-same (λ places. is_allowed (topmost family) (placed arounds places)) (λ labels. is_dominated family.lines (placed family.sets labels)) (multisets family.degree 0 (length family.sets))
+      ∙ filter-alike (λ places. is_allowed (topmost family) (placed arounds places)) (λ labels. is_dominated family.lines (placed family.sets labels)) (multisets family.degree 0 (length family.sets))
       (λ labels held. one_test labels (((multisets_law family.degree (length family.sets)).1 labels).0 held).below)
 
 pub below_is : (family : Family) → IsFamily family → (K : Constraint) (wide : List (List ℕ)) → K ≡ topmost family → wide ≡ map (labels_around family.sets) family.sets → allowed K wide family.degree ≡ (below family).configs

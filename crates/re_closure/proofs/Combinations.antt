@@ -13,8 +13,9 @@ use Rattle.re_labels.specs.Rows.{IsUnder, combined, meets, set_at}
 use Rattle.re_labels.proofs.Membership.{Contains-cases, Contains-here, Contains-later}
 use Rattle.re_labels.proofs.Sets.{IsIn-meet_cases, IsIn-union_cases}
 use Rattle.re_labels.specs.Sets.{IsWithin, meet, union}
+use Rattle.re_labels.proofs.Lists.{Contains-last, Contains-more, Contains-more_cases}
 use Rattle.re_table.specs.GoodRows.{IsDominated}
-use Rattle.re_closure.proofs.Places.{append_right, front, has_before, has_either, has_last, placed_first, read_at, removed_same, to_middle}
+use Rattle.re_closure.proofs.Places.{append_right, front, placed_first, read_at, removed_same, to_middle}
 use Rattle.re_closure.specs.Combining.{AreAllAt, AreAllBefore, AreAllOf, AreDominatedAt, AreMeetings, HasAlike, IsCombination, IsMeeting, joined}
 
 -- ---- lines of meets
@@ -25,12 +26,12 @@ pub record AreMeetingsBefore (chosen : List (List ℕ)) (first : List ℕ) (rest
 
 pub meetings_none : (chosen left : List (List ℕ)) (old new : List (List (List ℕ))) (line : List (List ℕ)) → length left ≡ 0 → line ≡ chosen → new ≡ old ++ line ∷ [] → AreMeetings chosen [] left old new
 meetings_none chosen left old new line none is pushed = subst (AreMeetings chosen [] left old) (sym pushed) (record {
-  stays = λ other held. has_before old line other held;
-  made = λ other held. elim (has_either old line other held) [
+  stays = λ other held. Contains-more old line other held;
+  made = λ other held. elim (Contains-more_cases old line other held) [
     | inl h ↦ inl h
     | inr e ↦ inr (left, Rearranged-refl left, subst (λ w. Rearranged (chosen ++ []) w) (append-nil chosen ∙ sym is ∙ sym e) (Rearranged-refl (chosen ++ [])))
   ];
-  all = λ moved p. (line, has_last old line, subst (λ w. Rearranged (chosen ++ []) w) (append-nil chosen ∙ sym is) (Rearranged-refl (chosen ++ [])));
+  all = λ moved p. (line, Contains-last old line, subst (λ w. Rearranged (chosen ++ []) w) (append-nil chosen ∙ sym is) (Rearranged-refl (chosen ++ [])));
 })
 
 module _ (chosen : List (List ℕ)) (first : List ℕ) (rest left : List (List ℕ)) (place : ℕ) (old : List (List (List ℕ))) (low : place < length left) where

@@ -10,9 +10,9 @@ use Rattle.re_labels.specs.Orders.{factorial}
 use Rattle.re_labels.specs.Rearranging.{Rearranged}
 use Rattle.re_labels.specs.Rows.{Dominates, dominates}
 use Rattle.re_labels.proofs.Membership.{Contains-cases, Contains-here, Contains-none}
+use Rattle.re_labels.proofs.Lists.{Contains-last, Contains-more}
 use Rattle.re_table.specs.GoodRows.{IsDominated}
 use Rattle.re_closure_laws.specs.Closures.{IsGenerated}
-use Rattle.re_closure.proofs.Places.{has_before, has_last}
 use Rattle.re_closure.specs.Kept.{HasManyCombinations, IsCounted, IsKept, combinations_of, pairs_of}
 use Rattle.re_closure.specs.declared.topmost.TheConstants.{MAX_COMBINATIONS}
 
@@ -93,14 +93,14 @@ module _ (d : ℕ) (starts : List (List (List ℕ))) where
 
     lines_covered : (other : List (List ℕ)) → Contains (line ∷ before.lines) other → IsDominated new other
     lines_covered other held = subst (λ l. IsDominated l other) (sym whole) (elim (Contains-cases other line before.lines held) [
-      | inl e ↦ (line, has_last left line, subst (Dominates line) (sym e) (Dominates-refl line))
+      | inl e ↦ (line, Contains-last left line, subst (Dominates line) (sym e) (Dominates-refl line))
       | inr h ↦ by_old other (before.covered other h)
     ])
       where
         by_old : (other : List (List ℕ)) → IsDominated old other → IsDominated (left ++ line ∷ []) other
         by_old other (top, at, dom) = elim (dominates line top) as (λ b. dominates line top ≡ b → IsDominated (left ++ line ∷ []) other) [
-          | true ↦ λ e. (line, has_last left line, Dominates-trans line top other (dominates-Dominates line top e) dom)
-          | false ↦ λ e. (top, has_before left line top ((of_old top).1 (at, λ over. false≢true (sym e ∙ Dominates-dominates line top over))), dom)
+          | true ↦ λ e. (line, Contains-last left line, Dominates-trans line top other (dominates-Dominates line top e) dom)
+          | false ↦ λ e. (top, Contains-more left line top ((of_old top).1 (at, λ over. false≢true (sym e ∙ Dominates-dominates line top over))), dom)
         ] refl
 
     new_count : length new ≡ length left + 1

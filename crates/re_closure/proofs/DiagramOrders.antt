@@ -4,14 +4,13 @@ use Rattle.std.specs.Prelude.{Contains, ◌&&◌, ◌||◌}
 use Rattle.std.proofs.lemmas.Bool.{false≢true}
 use Rattle.std.proofs.lemmas.List.{get_or-map}
 use Rattle.re_labels.specs.Rows.{set_at}
-use Rattle.re_labels.proofs.Membership.{Contains-cases, Contains-count_from, Contains-filter, Contains-filter_cases, Contains-here, Contains-later, Contains-none, count_from_range, get_or-count_from, length-count_from, length-map', map-alike}
+use Rattle.re_labels.proofs.Membership.{Contains-cases, Contains-count_from, Contains-filter, Contains-filter_cases, Contains-here, Contains-later, Contains-none, count_from_range, filter-alike, get_or-count_from, length-count_from, length-map', map-alike}
 use Rattle.re_labels.proofs.Numbers.{IsLabelSet-count_from, IsLabelSet-filter, IsLabelSet-union}
 use Rattle.re_labels.proofs.Sets.{IsIn-has, IsIn-union, IsIn-union_cases, has-IsIn}
 use Rattle.re_labels.proofs.Tests.{and-true, eqb-same, eqb-true, or-false, or-left, or-right, or-true, true-and}
 use Rattle.re_labels.specs.Lists.{count_from}
 use Rattle.re_labels.specs.Sets.{IsIn, IsLabelSet, has, union}
 use Rattle.re_problem.proofs.StepLaws.{map-map}
-use Rattle.re_table.proofs.Strengths.{filter-same}
 use Rattle.re_closure_laws.proofs.Generated.{same_set}
 use Rattle.re_closure.specs.Diagrams.{IsBelow, OrderLaw, all_below, is_below, labels_below, with_lower}
 use Rattle.re_closure.specs.Diagrams.IsBelow.{same, through}
@@ -129,7 +128,7 @@ module _ (edge : ℕ × ℕ) (edges : List (ℕ × ℕ)) (n : ℕ) (high : edge.
       ]))
 
   past_edge : (y : ℕ) → is_below edges edge.1 y ≡ false → labels_below edges n y ≡ labels_below (edge ∷ edges) n y
-  past_edge y h = filter-same (λ x. is_below edges x y) (λ x. is_below (edge ∷ edges) x y) (count_from 0 n) (λ x held.
+  past_edge y h = filter-alike (λ x. is_below edges x y) (λ x. is_below (edge ∷ edges) x y) (count_from 0 n) (λ x held.
       sym (ap (λ b. is_below edges x y || (is_below edges x edge.0 && b)) h ∙ ap (λ b. is_below edges x y || b) (nothing (is_below edges x edge.0)) ∙ or-false (is_below edges x y)))
     where
       nothing : (b : Bool) → (b && false) ≡ false

@@ -16,6 +16,7 @@ use Rattle.re_labels.specs.declared.TheConstants.{MAX_ROWS}
 use Rattle.re_labels.proofs.Membership.{Contains-In, Contains-cases, Contains-here, Contains-later, Contains-none, In-Contains}
 use Rattle.re_labels.proofs.Sets.{IsIn-meet, IsIn-meet_cases, IsIn-union, IsIn-union_cases}
 use Rattle.re_labels.specs.Sets.{IsWithin, meet, union}
+use Rattle.re_labels.proofs.Lists.{Contains-last, Contains-more, Contains-more_cases}
 use Rattle.re_table.proofs.Closure.{combined_along}
 use Rattle.re_table.specs.GoodRows.{IsDominated}
 use Rattle.re_closure_laws.proofs.Monotone.{generated_law}
@@ -23,27 +24,26 @@ use Rattle.re_closure_laws.specs.Closures.{AreTopmost, IsGenerated}
 use Rattle.re_closure_laws.specs.Closures.IsGenerated.{combine, move, start}
 use Rattle.re_closure_laws.specs.Lines.{AreClosed}
 use Rattle.re_boxes.proofs.BoxLaw.{same_shape}
-use Rattle.re_closure.proofs.Places.{has_before, has_either, has_last}
 use Rattle.re_closure.specs.Combining.{AreAllOf, IsCombination}
 use Rattle.re_closure.specs.declared.topmost.LinesFault.{LinesFault}
 use Rattle.re_closure.specs.Kept.{AreOfLength, AreOffered, AreSettled, AreSettledBefore, AreUnrelated, HasManyLines, IsAntichain, IsCovered, IsKept, IsTaken}
 
 -- ---- a list by its first elements
 pub in_take_more : {X : Type 0} (xs : List X) (i : ℕ) (x z : X) → i < length xs → x ≡ get_or xs i x → Contains (take (i + 1) xs) z → Contains (take i xs) z ⊎ (z ≡ x)
-in_take_more xs i x z low is held = has_either (take i xs) x z (subst (λ l. Contains l z) (take_more xs i x low ∙ ap (λ y. take i xs ++ y ∷ []) (sym is)) held)
+in_take_more xs i x z low is held = Contains-more_cases (take i xs) x z (subst (λ l. Contains l z) (take_more xs i x low ∙ ap (λ y. take i xs ++ y ∷ []) (sym is)) held)
 
 pub in_take_before : {X : Type 0} (xs : List X) (i : ℕ) (x z : X) → i < length xs → x ≡ get_or xs i x → Contains (take i xs) z → Contains (take (i + 1) xs) z
-in_take_before xs i x z low is held = subst (λ l. Contains l z) (sym (take_more xs i x low ∙ ap (λ y. take i xs ++ y ∷ []) (sym is))) (has_before (take i xs) x z held)
+in_take_before xs i x z low is held = subst (λ l. Contains l z) (sym (take_more xs i x low ∙ ap (λ y. take i xs ++ y ∷ []) (sym is))) (Contains-more (take i xs) x z held)
 
 pub in_take_last : {X : Type 0} (xs : List X) (i : ℕ) (x : X) → i < length xs → x ≡ get_or xs i x → Contains (take (i + 1) xs) x
-in_take_last xs i x low is = subst (λ l. Contains l x) (sym (take_more xs i x low ∙ ap (λ y. take i xs ++ y ∷ []) (sym is))) (has_last (take i xs) x)
+in_take_last xs i x low is = subst (λ l. Contains l x) (sym (take_more xs i x low ∙ ap (λ y. take i xs ++ y ∷ []) (sym is))) (Contains-last (take i xs) x)
 
 -- ---- antichains
 -- a line that no line of an antichain is related to may stand behind it
 pub antichain_more : (lines : List (List (List ℕ))) (x : List (List ℕ)) → IsAntichain lines → ((other : List (List ℕ)) → Contains lines other → AreUnrelated other x) → IsAntichain (lines ++ x ∷ [])
 antichain_more [] x chain apart = ((λ other h. absurd (Contains-none other h)), tt)
 antichain_more (line ∷ lines) x chain apart = (
-  (λ other h. elim (has_either lines x other h) [ inl k ↦ chain.0 other k | inr e ↦ subst (AreUnrelated line) (sym e) (apart line (Contains-here line lines)) ]),
+  (λ other h. elim (Contains-more_cases lines x other h) [ inl k ↦ chain.0 other k | inr e ↦ subst (AreUnrelated line) (sym e) (apart line (Contains-here line lines)) ]),
   antichain_more lines x chain.1 (λ other h. apart other (Contains-later other line lines h)),
 )
 
@@ -77,11 +77,11 @@ module _ (top : List (List ℕ)) (lines left : List (List (List ℕ))) (i : ℕ)
   pub left_in : (more : List (List (List ℕ))) (copy : List (List ℕ)) → (Dominates top x → ⊥) → copy ≡ x → more ≡ left ++ copy ∷ [] → (line : List (List ℕ))
       → Contains more line ↔ (Contains (take (i + 1) lines) line × (Dominates top line → ⊥))
   left_in more copy free same pushed line = subst (λ m. Contains m line ↔ (Contains (take (i + 1) lines) line × (Dominates top line → ⊥))) (sym (pushed ∙ ap (λ c. left ++ c ∷ []) same)) (
-    (λ h. elim (has_either left x line h) [
+    (λ h. elim (Contains-more_cases left x line h) [
       | inl k ↦ let two = (before line).0 k in (in_take_before lines i x line low is two.0, two.1)
       | inr e ↦ (subst (Contains (take (i + 1) lines)) (sym e) (in_take_last lines i x low is), λ dom. free (subst (Dominates top) e dom))
     ]),
-    (λ h. elim (in_take_more lines i x line low is h.0) [ inl k ↦ has_before left x line ((before line).1 (k, h.1)) | inr e ↦ subst (Contains (left ++ x ∷ [])) (sym e) (has_last left x) ]),
+    (λ h. elim (in_take_more lines i x line low is h.0) [ inl k ↦ Contains-more left x line ((before line).1 (k, h.1)) | inr e ↦ subst (Contains (left ++ x ∷ [])) (sym e) (Contains-last left x) ]),
   )
 
 pub left_antichain : (top : List (List ℕ)) (lines left : List (List (List ℕ))) (i : ℕ) (x : List (List ℕ)) → i < length lines → x ≡ get_or lines i x
@@ -105,14 +105,14 @@ module _ (kept found old mid : List (List (List ℕ))) (i : ℕ) (x : List (List
 
   pub offered_more : (new : List (List (List ℕ))) (copy : List (List ℕ)) → copy ≡ x → new ≡ mid ++ copy ∷ [] → AreOffered kept (take (i + 1) found) old new
   offered_more new copy same pushed = subst (AreOffered kept (take (i + 1) found) old) (sym (pushed ∙ ap (λ c. mid ++ c ∷ []) same)) (record {
-    stays = λ line h. has_before mid x line (before.stays line h);
-    made = λ line h. elim (has_either mid x line h) [
+    stays = λ line h. Contains-more mid x line (before.stays line h);
+    made = λ line h. elim (Contains-more_cases mid x line h) [
       | inl k ↦ elim (before.made line k) [ inl m ↦ inl m | inr m ↦ inr (in_take_before found i x line low is m) ]
       | inr e ↦ inr (subst (Contains (take (i + 1) found)) (sym e) (in_take_last found i x low is))
     ];
     all = λ line h. elim (in_take_more found i x line low is h) [
-      | inl k ↦ covered_stays kept mid (mid ++ x ∷ []) line (λ other held. has_before mid x other held) (before.all line k)
-      | inr e ↦ inr (x, has_last mid x, subst (Dominates x) (sym e) (Dominates-refl x))
+      | inl k ↦ covered_stays kept mid (mid ++ x ∷ []) line (λ other held. Contains-more mid x other held) (before.all line k)
+      | inr e ↦ inr (x, Contains-last mid x, subst (Dominates x) (sym e) (Dominates-refl x))
     ];
   })
 
@@ -220,13 +220,13 @@ module _ (d : ℕ) (starts old left new waiting more : List (List (List ℕ))) (
     (of_old : (other : List (List ℕ)) → Contains left other ↔ (Contains old other × (Dominates line other → ⊥))) (same : copy ≡ line) (pushed : new ≡ left ++ copy ∷ [])
     (settled : AreSettled new line waiting more) (before : IsKept d starts old (line ∷ waiting)) where
   in_new : (other : List (List ℕ)) → Contains new other → (Contains left other) ⊎ (other ≡ line)
-  in_new other h = has_either left line other (subst (λ l. Contains l other) (pushed ∙ ap (λ c. left ++ c ∷ []) same) h)
+  in_new other h = Contains-more_cases left line other (subst (λ l. Contains l other) (pushed ∙ ap (λ c. left ++ c ∷ []) same) h)
 
   is_new : Contains new line
-  is_new = subst (λ l. Contains l line) (sym (pushed ∙ ap (λ c. left ++ c ∷ []) same)) (has_last left line)
+  is_new = subst (λ l. Contains l line) (sym (pushed ∙ ap (λ c. left ++ c ∷ []) same)) (Contains-last left line)
 
   still : (other : List (List ℕ)) → Contains left other → Contains new other
-  still other h = subst (λ l. Contains l other) (sym (pushed ∙ ap (λ c. left ++ c ∷ []) same)) (has_before left line other h)
+  still other h = subst (λ l. Contains l other) (sym (pushed ∙ ap (λ c. left ++ c ∷ []) same)) (Contains-more left line other h)
 
   first_waits : (other : List (List ℕ)) → (other ≡ line) → Contains old other ⊎ Contains (line ∷ waiting) other
   first_waits other e = inr (subst (Contains (line ∷ waiting)) (sym e) (Contains-here line waiting))

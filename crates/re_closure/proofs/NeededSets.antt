@@ -19,9 +19,9 @@ use Rattle.re_table.specs.Strength.{up_set}
 use Rattle.re_changes.proofs.Counted.{with_label-above}
 use Rattle.re_closure.specs.Kept.{AreOfLength, HasManyCombinations, HasManyLines}
 use Rattle.re_labels.specs.Sets.{has, number, with_label}
+use Rattle.re_labels.proofs.Lists.{Contains-last, Contains-more, Contains-more_cases}
 use Rattle.re_closure_laws.specs.Closures.{AreClosure, AreTopmost, down_lines, up_lines}
 use Rattle.re_closure_laws.specs.Lines.{others, up}
-use Rattle.re_closure.proofs.Places.{has_before, has_either, has_last}
 use Rattle.re_closure.specs.ProblemFamilies.{HasManySide, HasManySideCombinations, IsNeeded}
 
 -- ---- all other labels
@@ -85,15 +85,15 @@ module _ (sets : List (List ℕ)) (place : ℕ) (once : List (List ℕ)) (order 
     rises = rises_more once set before.rises (λ s h. let m = before.most s h in let up = step_up m.0 in let e = anew m.0 in subst (λ t. number s < number t) at (less m.1 up e));
     most = λ s h. (
       omega arith,
-      subst (λ k. number s ≤ number (set_at sets k)) (sym back) (elim (has_either once set s h) [
+      subst (λ k. number s ≤ number (set_at sets k)) (sym back) (elim (Contains-more_cases once set s h) [
         | inl k ↦ let m = before.most s k in let up = step_up m.0 in omega (arith, m.1, up)
         | inr e ↦ subst (λ t. number s ≤ number t) (e ∙ sym at) (omega arith)
       ]),
     );
-    from = λ s h. elim (has_either once set s h) [ inl k ↦ before.from s k | inr e ↦ subst (Contains sets) (sym e) (place, low, sym is) ];
+    from = λ s h. elim (Contains-more_cases once set s h) [ inl k ↦ before.from s k | inr e ↦ subst (Contains sets) (sym e) (place, low, sym is) ];
     all = λ k k_low. elim (cases_lt k place) [
-      | inl k_less ↦ has_before once set (set_at sets k) (before.all k k_less)
-      | inr ge ↦ let here : k ≡ place = omega (arith, k_low, ge) in subst (Contains (once ++ set ∷ [])) (sym (ap (set_at sets) here ∙ at)) (has_last once set)
+      | inl k_less ↦ Contains-more once set (set_at sets k) (before.all k k_less)
+      | inr ge ↦ let here : k ≡ place = omega (arith, k_low, ge) in subst (Contains (once ++ set ∷ [])) (sym (ap (set_at sets) here ∙ at)) (Contains-last once set)
     ];
   })
     where

@@ -1,6 +1,5 @@
 -- Lists without the element at a place.
-use Rattle.std.proofs.Common.{◌≡◌, ℕ, zero, suc, ◌-◌, ◌<◌, ◌≤◌, List, [], ◌∷◌, ◌++◌, length, take, drop, get_or, refl, sym, ap, ◌∙◌, subst, ◌⊎◌, inl, inr, arith}
-use Rattle.std.specs.Prelude.{Contains}
+use Rattle.std.proofs.Common.{◌≡◌, ℕ, zero, suc, ◌-◌, ◌<◌, ◌≤◌, List, [], ◌∷◌, ◌++◌, length, take, drop, get_or, refl, sym, ap, ◌∙◌, subst, arith}
 use Rattle.std.specs.List.{insert, remove}
 use Rattle.std.proofs.lemmas.List.{take_all}
 use Rattle.re_labels.proofs.Placing.{Pick, picked}
@@ -8,7 +7,7 @@ use Rattle.re_labels.proofs.Placing.Pick.{here, there}
 use Rattle.re_labels.proofs.Rearranging.{Rearranged-refl, Rearranged-sym, length-Rearranged}
 use Rattle.re_labels.specs.Rearranging.{Rearranged, chained, kept, swapped, unmoved}
 use Rattle.re_labels.specs.Rows.{set_at}
-use Rattle.re_labels.proofs.Membership.{Contains-In, Contains-cases, Contains-here, Contains-none, In-Contains, In-append_cases, In-append_left, In-append_right}
+use Rattle.re_labels.proofs.Lists.{split_first}
 
 -- the element at a place stands first in another order
 pub front : {X : Type 0} (xs : List X) (i : ℕ) (d : X) → i < length xs → Rearranged xs (get_or xs i d ∷ remove xs i)
@@ -60,19 +59,6 @@ to_middle x (y ∷ xs) zs = chained swapped (kept (to_middle x xs zs))
 pub nothing : {X : Type 0} {ys : List X} → Rearranged [] ys → ys ≡ []
 nothing {ys = ys} p = elim ys as (λ ys. 0 ≡ length ys → ys ≡ []) [ [] ↦ λ e. refl | x ∷ xs ↦ λ e. absurd (omega (arith, e)) ] (length-Rearranged p)
 
--- ---- one more at the end
-pub has_last : {X : Type 0} (xs : List X) (x : X) → Contains (xs ++ x ∷ []) x
-has_last xs x = In-Contains x (xs ++ x ∷ []) (In-append_right x xs (x ∷ []) (Contains-In x (x ∷ []) (Contains-here x [])))
-
-pub has_before : {X : Type 0} (xs : List X) (x z : X) → Contains xs z → Contains (xs ++ x ∷ []) z
-has_before xs x z h = In-Contains z (xs ++ x ∷ []) (In-append_left z xs (x ∷ []) (Contains-In z xs h))
-
-pub has_either : {X : Type 0} (xs : List X) (x z : X) → Contains (xs ++ x ∷ []) z → Contains xs z ⊎ (z ≡ x)
-has_either xs x z h = elim (In-append_cases z xs (x ∷ []) (Contains-In z (xs ++ x ∷ []) h)) [
-  | inl i ↦ inl (In-Contains z xs i)
-  | inr j ↦ elim (Contains-cases z x [] (In-Contains z (x ∷ []) j)) [ inl e ↦ inr e | inr k ↦ absurd (Contains-none z k) ]
-]
-
 -- the element that is read at a place
 pub read_at : (xs : List (List ℕ)) (i : ℕ) (x : List ℕ) → i < length xs → x ≡ get_or xs i x → set_at xs i ≡ x
 read_at [] i x h e = absurd (omega arith)
@@ -87,13 +73,5 @@ pub no_elements : (xs : List (List ℕ)) → length xs < 1 → xs ≡ []
 no_elements [] h = refl
 no_elements (x ∷ xs) h = absurd (omega arith)
 
--- a list as its first element and the others
-pub parts : (xs : List (List ℕ)) (x : List ℕ) → 1 ≤ length xs → x ≡ get_or xs 0 x → xs ≡ x ∷ take (length xs - 1) (drop 1 xs)
-parts [] x some e = absurd (omega arith)
-parts (y ∷ xs) x some e =
-    let l : length (y ∷ xs) - 1 ≡ length xs = omega arith in
-    let back : xs ≡ take (length (y ∷ xs) - 1) xs = sym (ap (λ n. take n xs) l ∙ take_all (length xs) xs (omega arith)) in
-    (λ i. sym e i ∷ back i)
-
 pub parts_count : (xs : List (List ℕ)) (x : List ℕ) → 1 ≤ length xs → x ≡ get_or xs 0 x → length xs ≡ suc (length (take (length xs - 1) (drop 1 xs)))
-parts_count xs x some e = ap length (parts xs x some e)
+parts_count xs x some e = ap length (split_first xs x some e)

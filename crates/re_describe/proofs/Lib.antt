@@ -1,5 +1,4 @@
 pub mod Covering
-pub mod GraphRounds
 pub mod Grouping
 pub mod Growing
 pub mod Lines

@@ -4,7 +4,7 @@ use Rattle.std.specs.Fmt.{decimal}
 use Rattle.re_cert.specs.declared.certificate.Kind.TheVariants.{Fixed, Lower, Upper}
 use Rattle.re_check.specs.declared.verdict.Verdict.{Verdict}
 use Rattle.re_check.specs.declared.verdict.Verdict.TheVariants.{Accepted, Refused}
-use Rattle.re_describe.specs.GraphRounds.{rounds_above, rounds_below}
+use Rattle.re_evidence.specs.GraphRounds.{rounds_above, rounds_below}
 use Rattle.re_problem.specs.NamedProblems.{NamedProblem}
 use Rattle.re_table.specs.Constraints.{Constraint}
 
@@ -54,7 +54,7 @@ fewer_claim active steps =
     ++ ((codes " and each $N$ from $" ++ (decimal (active + 1)
     ++ codes " C^{T + 2}$ on (`re_forests::link_law`, `re_forests::fewer_on_forests_law`).\n\nRandomised algorithms, in which each active node of these trees also draws a private random string: "))
     ++ (up_to (steps - 1)
-    ++ codes ", each $N$ from $B^{T + 1}$ on and each $q$ from $2^{D^{T + 1}}$ on, each such algorithm of $T$ rounds has port numbers and different identifiers with which it fails at some node with a probability of at least $1/q$. The numbers $B$ and $D$ depend on the degrees and the greatest number of labels of a problem alone (`re_given_bounds::named_bound_law`).\n")))
+    ++ codes ", each $N$ from $B^{T + 1}$ on and each $q$ from $2^{D^{T + 1}}$ on, each such algorithm of $T$ rounds has port numbers and different identifiers with which it fails at some node with a probability of at least $1/q$. The numbers $B$ and $D$ depend on the degrees and the greatest number of labels of a problem alone (`re_given_bounds::identified_bound_law`).\n")))
 
 -- what a verdict says of algorithms whose nodes have unique identifiers, and of such that are randomised, where active nodes have this degree
 abbrev pub identifiers_claim : ℕ → Verdict → List ℕ
@@ -67,7 +67,7 @@ identifiers_claim active (Accepted Upper steps) =
     ++ codes " too, however many there are (`re_ordered::any_identifiers_law`), and on finite forests in ") ++ (in_all (steps + 1)
     ++ codes " (`re_forests::ports_on_forests_law`).\n"))
 identifiers_claim active (Accepted Fixed steps) =
-    codes "\nWith unique identifiers at the active nodes of these trees, one of $N$ at each and different ones wherever a node sees two, no deterministic algorithm of $T$ rounds solves problem 0, for each $T$ and each $N$ from $C^{T + 1}$ on, where $C$ depends on the degrees and the greatest number of labels of a problem alone (`re_given_bounds::logarithmic_bound_law`): it takes more than $\\log_C N - 1$ rounds. So on finite forests of $N$ nodes, whose identifiers are the numbers below $N$, it takes at least the order of $\\log N$ rounds (`re_given_bounds::above_log_law`, `re_forests::above_law`).\n\nRandomised algorithms, in which each active node of these trees also draws a private random string: for each $T$, each $N$ from $C^{T + 1}$ on and each $q$ from $2^{D^{T + 1}}$ on, each such algorithm of $T$ rounds has port numbers and different identifiers with which it fails at some node with a probability of at least $1/q$. The number $D$ depends on the degrees and the greatest number of labels of a problem alone (`re_given_bounds::named_bound_law`). So with $n$ identifiers and a probability of failure below $1/n$ at each node, problem 0 takes at least the order of $\\log \\log n$ rounds.\n"
+    codes "\nWith unique identifiers at the active nodes of these trees, one of $N$ at each and different ones wherever a node sees two, no deterministic algorithm of $T$ rounds solves problem 0, for each $T$ and each $N$ from $C^{T + 1}$ on, where $C$ depends on the degrees and the greatest number of labels of a problem alone (`re_given_bounds::logarithmic_bound_law`): it takes more than $\\log_C N - 1$ rounds. So on finite forests of $N$ nodes, whose identifiers are the numbers below $N$, it takes at least the order of $\\log N$ rounds (`re_given_bounds::above_log_law`, `re_forests::above_law`).\n\nRandomised algorithms, in which each active node of these trees also draws a private random string: for each $T$, each $N$ from $C^{T + 1}$ on and each $q$ from $2^{D^{T + 1}}$ on, each such algorithm of $T$ rounds has port numbers and different identifiers with which it fails at some node with a probability of at least $1/q$. The number $D$ depends on the degrees and the greatest number of labels of a problem alone (`re_given_bounds::identified_bound_law`). So with $n$ identifiers and a probability of failure below $1/n$ at each node, problem 0 takes at least the order of $\\log \\log n$ rounds.\n"
 identifiers_claim active (Refused step clause) = []
 
 -- ---- problems

@@ -1,5 +1,4 @@
 pub mod Blocks
-pub mod GraphRounds
 pub mod Heads
 pub mod Latex
 pub mod Meanings

@@ -168,7 +168,7 @@ fn push_fewer_claim(text: &mut Vec<u8>, active: u8, steps: u8) -> Result<(), NoM
     push_up_to(text, steps as usize - 1)?;
     push_words(
         text,
-        ", each $N$ from $B^{T + 1}$ on and each $q$ from $2^{D^{T + 1}}$ on, each such algorithm of $T$ rounds has port numbers and different identifiers with which it fails at some node with a probability of at least $1/q$. The numbers $B$ and $D$ depend on the degrees and the greatest number of labels of a problem alone (`re_given_bounds::named_bound_law`).\n",
+        ", each $N$ from $B^{T + 1}$ on and each $q$ from $2^{D^{T + 1}}$ on, each such algorithm of $T$ rounds has port numbers and different identifiers with which it fails at some node with a probability of at least $1/q$. The numbers $B$ and $D$ depend on the degrees and the greatest number of labels of a problem alone (`re_given_bounds::identified_bound_law`).\n",
     )
 }
 
@@ -226,7 +226,7 @@ fn push_identifiers_accepted(
         Kind::Upper => push_upper_identifiers(text, active, steps),
         Kind::Fixed => push_words(
             text,
-            "\nWith unique identifiers at the active nodes of these trees, one of $N$ at each and different ones wherever a node sees two, no deterministic algorithm of $T$ rounds solves problem 0, for each $T$ and each $N$ from $C^{T + 1}$ on, where $C$ depends on the degrees and the greatest number of labels of a problem alone (`re_given_bounds::logarithmic_bound_law`): it takes more than $\\log_C N - 1$ rounds. So on finite forests of $N$ nodes, whose identifiers are the numbers below $N$, it takes at least the order of $\\log N$ rounds (`re_given_bounds::above_log_law`, `re_forests::above_law`).\n\nRandomised algorithms, in which each active node of these trees also draws a private random string: for each $T$, each $N$ from $C^{T + 1}$ on and each $q$ from $2^{D^{T + 1}}$ on, each such algorithm of $T$ rounds has port numbers and different identifiers with which it fails at some node with a probability of at least $1/q$. The number $D$ depends on the degrees and the greatest number of labels of a problem alone (`re_given_bounds::named_bound_law`). So with $n$ identifiers and a probability of failure below $1/n$ at each node, problem 0 takes at least the order of $\\log \\log n$ rounds.\n",
+            "\nWith unique identifiers at the active nodes of these trees, one of $N$ at each and different ones wherever a node sees two, no deterministic algorithm of $T$ rounds solves problem 0, for each $T$ and each $N$ from $C^{T + 1}$ on, where $C$ depends on the degrees and the greatest number of labels of a problem alone (`re_given_bounds::logarithmic_bound_law`): it takes more than $\\log_C N - 1$ rounds. So on finite forests of $N$ nodes, whose identifiers are the numbers below $N$, it takes at least the order of $\\log N$ rounds (`re_given_bounds::above_log_law`, `re_forests::above_law`).\n\nRandomised algorithms, in which each active node of these trees also draws a private random string: for each $T$, each $N$ from $C^{T + 1}$ on and each $q$ from $2^{D^{T + 1}}$ on, each such algorithm of $T$ rounds has port numbers and different identifiers with which it fails at some node with a probability of at least $1/q$. The number $D$ depends on the degrees and the greatest number of labels of a problem alone (`re_given_bounds::identified_bound_law`). So with $n$ identifiers and a probability of failure below $1/n$ at each node, problem 0 takes at least the order of $\\log \\log n$ rounds.\n",
         ),
     }
 }
@@ -243,11 +243,4 @@ pub(crate) fn push_identifiers(
         Verdict::Accepted { kind, steps } => push_identifiers_accepted(text, active, kind, steps),
         Verdict::Refused { .. } => push_words(text, ""),
     }
-}
-
-/// Appends words and a number.
-pub fn push_counted(text: &mut Vec<u8>, words: &str, number: u8) -> Result<(), NoMemory>
-    ensures { OnOk result (text.new.items ≡ text.old.items ++ (words.now ++ decimal number)) }
-{
-    push_count(text, words, number as usize)
 }

@@ -19,17 +19,8 @@ mod problems;
 mod reporting;
 mod steps;
 
-ghost use Rattle.re_describe.specs.GraphRounds.{GraphLaw};
-
 pub use answering::{DescribeWord, describe_help, describe_word};
 pub use blocks::{Block, report_of};
 pub use condensing::{MOST_LISTED, condensed};
-pub use heads::push_counted;
 pub use meanings::{Meaning, meaning_of};
 pub use reporting::{markdown, report};
-
-/// What a verdict says in rounds of the graph whose edges the passive nodes are, as reports say it: two hops are one round. What isn't solvable in
-/// k or fewer hops isn't in the half of k or fewer rounds, rounded down; what is solvable in k hops is in the half of k, rounded up.
-pub fn graph_law()
-    ensures { GraphLaw }
-{}

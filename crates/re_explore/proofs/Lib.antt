@@ -1,3 +1,4 @@
+mod Pieces
 mod Refusals
 pub mod Said
 pub mod TextsWorth

@@ -36,8 +36,8 @@ use Rattle.re_given_words.specs.Settings.{GoesOnIn, IsTakenIn, IsTextIn}
 use Rattle.re_given_words.specs.declared.setting.Setting.{Setting}
 use Rattle.re_given_words.specs.declared.setting.Setting.TheVariants as settings
 use Rattle.re_io.specs.declared.read.TheConstants.{MAX_BYTES}
-use Rattle.re_relaxed.specs.Words.{MayGive as MayGiveRelaxed, looked_at}
-use Rattle.re_relaxed.specs.declared.words.RelaxedWord.{RelaxedWord}
+use Rattle.re_search_words.specs.RelaxedWords.{MayGive as MayGiveRelaxed, looked_at}
+use Rattle.re_search_words.specs.declared.relaxed_words.RelaxedWord.{RelaxedWord}
 use Rattle.re_search_words.specs.MayGive.{IsFound, MayFind, MayFindBy, MayFindElse, MayGive, MayGiveAt, MayGiveRead, MayGiveSound, word_chain}
 use Rattle.re_search_words.specs.declared.words.SearchWord.{SearchWord}
 use Rattle.re_search_words.specs.declared.words.SearchWord.TheVariants.{Cycle, Longest, Shortest}

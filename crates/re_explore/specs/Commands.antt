@@ -14,7 +14,7 @@ use Rattle.re_frame.specs.Answers.{MayAnswer}
 use Rattle.re_given_words.specs.Words.{given_help, given_word_of}
 use Rattle.re_graph_words.specs.Words.{graph_help, graph_word_of}
 use Rattle.re_inputs.specs.InputWords.{IsInputWord, input_help, input_outcome, input_word_of}
-use Rattle.re_relaxed.specs.Words.{MayGive as MayGiveRelaxed, relaxed_help, relaxed_word_of}
+use Rattle.re_search_words.specs.RelaxedWords.{MayGive as MayGiveRelaxed, relaxed_help, relaxed_word_of}
 use Rattle.re_search_words.specs.Words.{search_help, search_word_of}
 use Rattle.re_settle.specs.Words.{settle_help, settle_word_of}
 use Rattle.re_why.specs.Explaining.{explaining_outcome, names_why, why_help}
@@ -185,3 +185,8 @@ is_judging (Some (Describes word)) = false
 is_judging (Some Help) = false
 is_judging (Some HelpOn) = false
 is_judging None = false
+
+-- whether its text is written piece by piece, the claim before what is found of the class
+abbrev pub is_telling : Option Command → Bool
+is_telling (Some (Reads (Settles word))) = true
+is_telling command = false

@@ -3,6 +3,7 @@
 
 mod command;
 mod sure;
+mod telling;
 mod text_words;
 mod tool;
 

@@ -1,6 +1,7 @@
 // The tool over a source and a sink in memory, which cannot fail.
-ghost use Rattle.std.specs.Prelude.{◌≡◌, ◌≢◌, ◌≤◌, ◌++◌, [], IsFalse, IsTrue, length, map, string_bytes};
-ghost use Rattle.re_explore.specs.Expected.{IsExpected, reads_input};
+ghost use Rattle.std.specs.Prelude.{◌≡◌, ◌≢◌, ◌≤◌, ◌++◌, [], IsFalse, IsTrue, Some, length, map, string_bytes};
+ghost use Rattle.re_explore.specs.Expected.{IsExpected, reads_input, tells_ahead};
+ghost use Rattle.re_explore.specs.Telling.{KeepsOrStops};
 ghost use Rattle.re_frame.specs.Outcomes.{Outcome};
 
 use crate::{Status, run};
@@ -20,7 +21,8 @@ pub fn run_sure(
     ensures emptied { result ≢ Status.NoMemory → IsTrue (reads_input (map string_bytes words.now)) → length source.old.left ≤ MAX_BYTES →
         source.new.left ≡ [] }
     ensures not_read { IsFalse (reads_input (map string_bytes words.now)) → source.new ≡ source.old }
-    ensures no_memory { result ≡ Status.NoMemory → sink.new ≡ sink.old }
+    ensures no_memory { result ≡ Status.NoMemory → IsFalse (tells_ahead (map string_bytes words.now)) → sink.new ≡ sink.old }
+    ensures partly { result ≡ Status.NoMemory → KeepsOrStops (map string_bytes words.now) source.old.left (Some sink.old) (Some sink.new) }
     ensures no_fault { (result ≢ Status.ReadFault) × (result ≢ Status.WriteFault) }
 {
     run(alloc, words, source, sink)

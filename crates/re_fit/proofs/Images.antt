@@ -5,16 +5,17 @@ use Rattle.std.proofs.lemmas.Bool.Decides.{nat_tests}
 use Rattle.std.proofs.lemmas.List.{drop-take, length-take, take-take}
 use Rattle.re_labels.proofs.Tests.{and-true, true-and}
 use Rattle.re_table.specs.Constraints.{Constraint, has_config}
-use Rattle.re_walks.proofs.ConfigBeginnings.{begun, low-drop, low-take, not_less}
+use Rattle.re_walks.proofs.ConfigBeginnings.{begun, low-drop, low-take}
 use Rattle.re_walks.specs.Begun.{is_begun}
 use Rattle.re_fit.proofs.InOrder.{in_order-take}
 use Rattle.re_fit.specs.Fits.{are_images, begins_image, is_image, is_in_order, joined}
+use Rattle.std.proofs.lemmas.Bool.{le-ltb}
 
 -- labels of a whole image and more are an image, and more of them
 pub are_images-split : (active : Constraint) (n : ℕ) (config : List ℕ) (configs : List (List ℕ)) (labels : List ℕ) → active.degree ≤ length labels
     → are_images active n (config ∷ configs) labels ≡ (is_image active config (take active.degree labels) && are_images active n configs (drop active.degree labels))
 are_images-split active n config configs labels long =
-    ap (λ b. cond b (begins_image active n config labels) (is_image active config (take active.degree labels) && are_images active n configs (drop active.degree labels))) (not_less (length labels) active.degree long)
+    ap (λ b. cond b (begins_image active n config labels) (is_image active config (take active.degree labels) && are_images active n configs (drop active.degree labels))) (le-ltb (length labels) active.degree long)
 
 -- what begins images does
 pub images-take : (active : Constraint) (n : ℕ) (configs : List (List ℕ)) (labels : List ℕ) → length configs * active.degree ≤ length labels → AllByRecursion (λ label. label < n) labels

@@ -1,10 +1,10 @@
 -- Whether a problem is an input problem of another one.
-use Rattle.std.proofs.Common.{◌≡◌, ℕ, zero, suc, ◌<◌, ◌≤◌, Bool, true, false, cond, eqb, not, List, [], ◌∷◌, length, get_or, inl, inr, refl, sym, ap, ◌∙◌, subst, arith, true≢false, Option, None, Some}
+use Rattle.std.proofs.Common.{◌≡◌, ℕ, ◌<◌, ◌≤◌, Bool, true, false, cond, eqb, not, List, [], ◌∷◌, length, get_or, inl, inr, refl, sym, ap, ◌∙◌, subst, arith, true≢false, Option, None, Some}
 use Rattle.std.specs.Prelude.{◌&&◌, ◌||◌, Contains, find}
 use Rattle.std.proofs.lemmas.List.Elements.{Contains-get_or}
 use Rattle.re_algo.proofs.Beginning.{some_found}
 use Rattle.re_labels.proofs.Membership.{AllByRecursion-contains, Contains-count_from, Contains-here, Contains-later, any_true, count_from_range}
-use Rattle.re_labels.proofs.Tests.{and-true, eqb-same, eqb-true, true-and}
+use Rattle.re_labels.proofs.Tests.{above_zero, and-true, eqb-same, eqb-true, true-and}
 use Rattle.re_labels.specs.Lists.{count_from}
 use Rattle.re_labels.specs.Sets.{has}
 use Rattle.re_labels.specs.Configs.{IsConfig}
@@ -38,10 +38,6 @@ unlike true true e f g = cc
 unlike true false e f g = true≢false (sym (f refl))
 unlike false true e f g = true≢false (sym (g refl))
 unlike false false e f g = cc
-
-pub some_number : (n : ℕ) → eqb n 0 ≡ false → 0 < n
-some_number zero e = absurd (let same : eqb 0 0 ≡ true = eqb-same 0 in cc)
-some_number (suc n) e = omega arith
 
 module _ (problem input : NamedProblem) (is : IsNamedProblem input) where
   sided : (label : ℕ) → label < length input.names → find (is_one_sided input) (count_from 0 (length input.names)) ≡ None → is_one_sided input label ≡ false
@@ -89,7 +85,7 @@ module _ (problem input : NamedProblem) (is : IsNamedProblem input) where
         is_problem = is.problem;
         active_degree = (same_degrees degrees).0;
         passive_degree = (same_degrees degrees).1;
-        some = some_active 0 (both_sides 0 (some_number (length input.names) e) none).0;
+        some = some_active 0 (both_sides 0 (above_zero (length input.names) e) none).0;
         occurs = λ label l. both_sides label l none;
       }
   by_labels (Some label) found degrees =

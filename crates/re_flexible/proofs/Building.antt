@@ -1,20 +1,14 @@
 -- Tables that are built row by row, and changed in one row.
-use Rattle.std.proofs.Common.{◌≡◌, ◌∷◌, ◌++◌, ◌∙◌, ◌+◌, ℕ, zero, suc, ◌<◌, true, false, List, [], length, get_or, set, refl, sym, ap, subst, arith, inl, inr, ◌⊎◌, length-append, get_or-set_other, get_or-set_same}
+use Rattle.std.proofs.Common.{◌≡◌, ◌∷◌, ◌++◌, ◌∙◌, ◌+◌, ℕ, zero, suc, ◌<◌, true, false, List, [], length, get_or, set, sym, ap, subst, arith, inl, inr, ◌⊎◌, length-append, get_or-set_other, get_or-set_same}
 use Rattle.std.specs.Prelude.{◌↔◌}
 use Rattle.std.proofs.Math.ListN.{get_or-append}
 use Rattle.std.proofs.Math.Seq.{get_or-append_seam}
 use Rattle.std.proofs.lemmas.Bool.{false≢true}
 use Rattle.re_labels.proofs.Membership.{AllByRecursion-contains, Contains-none, In-Contains, not_all}
-use Rattle.re_labels.proofs.Sets.{IsIn-has, IsIn-union, IsIn-union_cases, has-IsIn, has-with_label, within-IsWithin}
-use Rattle.re_labels.proofs.Tests.{below-cases, eqb-same, eqb-true, or-left, or-right, or-true}
+use Rattle.re_labels.proofs.Sets.{has-IsIn, IsIn-has, IsIn-union, IsIn-union_cases, IsIn-with_label_cases, IsIn-with_label_new, IsIn-with_label_old, within-IsWithin}
+use Rattle.re_labels.proofs.Tests.{below-cases, same_or_not}
 use Rattle.re_labels.specs.Sets.{IsIn, IsLabelSet, has, union, with_label, within}
 use Rattle.re_flexible.specs.Relations.{Relates}
-
--- a row that is read
-pub read : (table : List (List ℕ)) (k : ℕ) (row : List ℕ) → k < length table → row ≡ get_or table k row → row ≡ get_or table k []
-read [] k row low e = absurd (omega arith)
-read (first ∷ table) zero row low e = e
-read (first ∷ table) (suc k) row low e = read table k row (omega arith) e
 
 -- only what has a row leads anywhere
 pub related_low : (table : List (List ℕ)) (x y : ℕ) → Relates table x y → x < length table
@@ -26,26 +20,10 @@ related_low (row ∷ table) (suc x) y held = let low : x < length table = relate
 pub in_low : (n : ℕ) (labels : List ℕ) (x : ℕ) → IsLabelSet n labels → IsIn x labels → x < n
 in_low n labels x sets held = AllByRecursion-contains (λ y. y < n) labels x sets.1 held
 
-pub same_or : (x k : ℕ) → (x ≡ k) ⊎ (x ≡ k → ⊥)
-same_or x k = grind arith
-
--- ---- one label more
-pub with_cases : (s : List ℕ) (y x : ℕ) → IsIn x (with_label s y) → (y ≡ x) ⊎ IsIn x s
-with_cases s y x i = elim (or-true _ (has s x) (sym (has-with_label s y x) ∙ IsIn-has (with_label s y) x i)) [ inl e ↦ inl (eqb-true y x e) | inr h ↦ inr (has-IsIn s x h) ]
-
-pub with_old : (s : List ℕ) (y x : ℕ) → IsIn x s → IsIn x (with_label s y)
-with_old s y x i = has-IsIn (with_label s y) x (has-with_label s y x ∙ or-right _ (has s x) (IsIn-has s x i))
-
-pub with_new : (s : List ℕ) (x : ℕ) → IsIn x (with_label s x)
-with_new s x = has-IsIn (with_label s x) x (has-with_label s x x ∙ or-left _ (has s x) (eqb-same x))
-
 -- ---- tables that are built
 pub record IsBuilt (R : ℕ → ℕ → Type 0) (table : List (List ℕ)) (n : ℕ) : Type 0 where
   pub count : length table ≡ n
   pub rows : (x y : ℕ) → x < n → Relates table x y ↔ R x y
-
-pub built_none : (R : ℕ → ℕ → Type 0) → IsBuilt R [] 0
-built_none R = record { count = refl; rows = λ x y low. absurd (omega arith) }
 
 pub built_more : (R : ℕ → ℕ → Type 0) (table new : List (List ℕ)) (n : ℕ) (row : List ℕ) → IsBuilt R table n → new ≡ table ++ row ∷ [] → ((y : ℕ) → IsIn y row ↔ R n y) → IsBuilt R new (n + 1)
 built_more R table new n row built e rows = record {
@@ -66,7 +44,7 @@ built_all R table n built low x y = (
 
 -- ---- another row at one place
 pub changed : (table : List (List ℕ)) (k : ℕ) (row : List ℕ) (x y : ℕ) → k < length table → Relates (set table k row) x y → ((x ≡ k) × IsIn y row) ⊎ ((x ≡ k → ⊥) × Relates table x y)
-changed table k row x y low held = elim (same_or x k) [
+changed table k row x y low held = elim (same_or_not x k) [
   | inl e ↦ inl (e, subst (IsIn y) (get_or-set_same table k row [] low) (subst (λ i. Relates (set table k row) i y) e held))
   | inr apart ↦ inr (apart, subst (IsIn y) (get_or-set_other table k x row [] apart) held)
 ]
@@ -88,7 +66,7 @@ grown table new k row more low at e x y = subst (λ t. Relates t x y ↔ (Relate
     ]
     | inr other ↦ inl other.1
   ],
-  λ either. elim (same_or x k) [
+  λ either. elim (same_or_not x k) [
     | inl same ↦ subst (λ i. Relates (set table k (union row more)) i y) (sym same) (changed_at table k (union row more) y low (IsIn-union row more y (elim either [
       | inl old ↦ inl (subst (IsIn y) (sym at) (subst (λ i. Relates table i y) same old))
       | inr added ↦ inr added.1
@@ -147,8 +125,8 @@ row_is table k row e y = (λ held. subst (IsIn y) e held, λ held. subst (IsIn y
 
 pub own_row : (N : ℕ) (table : List (List ℕ)) (k : ℕ) (row new : List ℕ) → k < N → row ≡ get_or table k [] → new ≡ with_label row k → (y : ℕ) → IsIn y new ↔ ((k < N) × ((k ≡ y) ⊎ Relates table k y))
 own_row N table k row new low at e y = (
-  λ held. (low, elim (with_cases row k y (subst (IsIn y) e held)) [ inl same ↦ inl same | inr old ↦ inr (subst (IsIn y) at old) ]),
-  λ both. subst (IsIn y) (sym e) (elim both.1 [ inl same ↦ subst (λ i. IsIn i (with_label row k)) same (with_new row k) | inr old ↦ with_old row k y (subst (IsIn y) (sym at) old) ]),
+  λ held. (low, elim (IsIn-with_label_cases row k y (subst (IsIn y) e held)) [ inl same ↦ inl same | inr old ↦ inr (subst (IsIn y) at old) ]),
+  λ both. subst (IsIn y) (sym e) (elim both.1 [ inl same ↦ subst (λ i. IsIn i (with_label row k)) same (IsIn-with_label_new row k) | inr old ↦ IsIn-with_label_old row k y (subst (IsIn y) (sym at) old) ]),
 )
 
 -- a set with another one, where it has a label

@@ -8,11 +8,11 @@ use Rattle.re_forests.specs.Trimmed.{HasTwoLevels, IsFlexibleWithin, IsTrimmed}
 use Rattle.re_forests.specs.TrimmedSets.{trimmed_set}
 use Rattle.re_labels.proofs.Membership.{Contains-here, In-Contains, count_from_range, not_all}
 use Rattle.re_labels.proofs.Sets.{IsIn-has, has-IsIn, within-IsWithin}
-use Rattle.re_labels.proofs.Tests.{eqb-apart, eqb-same}
+use Rattle.re_labels.proofs.Tests.{eqb-apart, eqb-same, same_or_not}
 use Rattle.re_labels.specs.Sets.{IsIn, IsWithin, first_of, has, within}
 use Rattle.re_problem.specs.Problems.{IsProblem, Problem}
 use Rattle.re_flexible.proofs.Ahead.{less_from, missing_from, missing_from_most}
-use Rattle.re_flexible.proofs.Building.{related_low, same_or}
+use Rattle.re_flexible.proofs.Building.{related_low}
 use Rattle.re_flexible.proofs.Parts.{flexible_joined, flexible_part, flexible_turns, own, same_set}
 use Rattle.re_flexible.proofs.Trims.{one_apart}
 use Rattle.re_flexible.proofs.Walks.{joined_within, joins_within, leads_within, turns_within}
@@ -78,10 +78,6 @@ level_some : (problem : Problem) (k : ℕ) (set : List ℕ) → IsLevel problem 
 level_some problem zero set is = is.1
 level_some problem (suc k) set is = is.1.2.1.some
 
-level_trimmed : (problem : Problem) (k : ℕ) (set : List ℕ) → IsLevel problem k set → IsTrimmed problem set
-level_trimmed problem zero set is = is.0
-level_trimmed problem (suc k) set is = is.0
-
 -- the levels below k, and a set as the k-th
 abbrev with_top : ℕ → List ℕ → (ℕ → List ℕ) → ℕ → List ℕ
 with_top k set level i = cond (eqb i k) set (level i)
@@ -126,7 +122,7 @@ levels_of problem (suc k) set is =
     )
   where
     either : (i : ℕ) → i < suc (suc k) → (i < suc k) ⊎ (i ≡ suc k)
-    either i low = elim (same_or i (suc k)) [ inl same ↦ inr same | inr apart ↦ inl (omega (arith, low, apart)) ]
+    either i low = elim (same_or_not i (suc k)) [ inl same ↦ inr same | inr apart ↦ inl (omega (arith, low, apart)) ]
 
 -- ---- all sets of a level
 pub record AreTop (problem : Problem) (sets : List (List ℕ)) (k : ℕ) : Type 0 where
@@ -328,9 +324,6 @@ flexible_told problem sets next set x rows are held = (
 -- ---- labels of flexible sets, and the one set that is found
 pub trimmed_low : (problem : Problem) → IsProblem problem → (set : List ℕ) → IsTrimmed problem set → (x : ℕ) → IsIn x set → x < problem.labels
 trimmed_low problem is set trimmed x held = let (least, most) = count_from_range 0 problem.labels x (trimmed_part problem is set trimmed 0 x held) in omega (arith, most)
-
-pub flexible_low : (problem : Problem) → IsProblem problem → (set : List ℕ) → IsFlexibleSet problem set → (x : ℕ) → IsIn x set → x < problem.labels
-flexible_low problem is set flexible = trimmed_low problem is set (flexible_trimmed problem set flexible.0 flexible.1)
 
 pub one_first : OneFirstLaw
 one_first problem set other one two = (within set other one two, within other set two one)

@@ -1,46 +1,35 @@
 -- The labels that stand together in the configurations of labels of one set.
 use Rattle.std.proofs.Common.{◌≡◌, ◌∷◌, ◌∙◌, ◌++◌, ◌+◌, ℕ, ◌<◌, ◌≤◌, Bool, true, List, [], length, get_or, take, drop, sym, ap, subst, arith, inl, inr, ◌⊎◌}
 use Rattle.std.specs.Prelude.{Contains, IsTrue, ◌↔◌}
-use Rattle.std.specs.List.{AllByRecursion, refill}
+use Rattle.std.specs.List.{AllByRecursion}
 use Rattle.std.proofs.lemmas.List.{take-append-drop, take_all, take_more}
 use Rattle.std.proofs.lemmas.List.Elements.{Contains-append_cases, Contains-append_left, Contains-append_right}
 use Rattle.re_labels.proofs.Rearranging.{Contains-Rearranged, Rearranged-sym}
-use Rattle.re_labels.proofs.Sorting.{AllByRecursion-Rearranged, Rearranged-sorted, sorted-Rearranged, sorted_again, take_front}
+use Rattle.re_labels.proofs.Sorting.{AllByRecursion-Rearranged, Rearranged-sorted, sorted-Rearranged, sorted_again}
 use Rattle.re_labels.specs.Configs.{IsConfig, sorted, support_of}
 use Rattle.re_labels.proofs.Membership.{AllByRecursion-contains, Contains-cases, Contains-here, Contains-later, Contains-none}
 use Rattle.re_forests.specs.Flexible.{Joins}
-use Rattle.re_labels.proofs.Sets.{IsIn-union, IsIn-union_cases, IsWithin-within, within-IsWithin}
+use Rattle.re_labels.proofs.Sets.{IsIn-union, IsIn-union_cases, IsIn-with_label_cases, IsWithin-within, within-IsWithin}
 use Rattle.re_labels.specs.Sets.{IsIn, IsWithin, union, within}
+use Rattle.re_labels.proofs.Replacing.{Contains-support_of}
 use Rattle.re_table.specs.Constraints.{Constraint, IsConstraint}
-use Rattle.re_flexible.proofs.Building.{with_cases, with_new, with_old}
 use Rattle.re_flexible.proofs.Standing.{Contains-Stands, Stands-Contains, Stands-rest, rest-Stands}
 use Rattle.re_flexible.specs.Families.{AreApart, AreJoins, AreOfOne, AreStanding, set_with}
 use Rattle.re_flexible.specs.Relations.{Relates, Stands}
 
--- what is written back, where the number stays
-pub refilled : {X : Type 0} (old new : List X) → length new ≡ length old → refill (length old) old new ≡ new
-refilled old new e = ap (λ n. take n (new ++ drop (length new) old)) (sym e) ∙ take_front new (drop (length new) old)
-
 -- ---- supports
 of_support : (config : List ℕ) (x : ℕ) → IsIn x (support_of config) → Contains config x
 of_support [] x held = absurd (Contains-none x held)
-of_support (z ∷ config) x held = elim (with_cases (support_of config) z x held) [
+of_support (z ∷ config) x held = elim (IsIn-with_label_cases (support_of config) z x held) [
   | inl e ↦ subst (Contains (z ∷ config)) e (Contains-here z config)
   | inr there ↦ Contains-later x z config (of_support config x there)
-]
-
-in_support : (config : List ℕ) (x : ℕ) → Contains config x → IsIn x (support_of config)
-in_support [] x held = absurd (Contains-none x held)
-in_support (z ∷ config) x held = elim (Contains-cases x z config held) [
-  | inl e ↦ subst (λ w. IsIn w (support_of (z ∷ config))) (sym e) (with_new (support_of config) z)
-  | inr there ↦ with_old (support_of config) z x (in_support config x there)
 ]
 
 -- ---- labels of one set
 set_of_first : (sets : List (List ℕ)) (first : ℕ) (config : List ℕ) → AreApart sets → Contains config first → IsWithin (support_of config) (set_with sets first) → AreOfOne sets config
 set_of_first sets first config apart own inside x y held there =
-    let one : Relates sets first x = inside x (in_support config x held) in
-    let two : Relates sets first y = inside y (in_support config y there) in
+    let one : Relates sets first x = inside x (Contains-support_of config x held) in
+    let two : Relates sets first y = inside y (Contains-support_of config y there) in
     apart.on x first y (apart.back first x one) two
 
 pub of_one_told : (sets : List (List ℕ)) (first : ℕ) (config row : List ℕ) (b : Bool) → AreApart sets → Contains config first → row ≡ set_with sets first → b ≡ within (support_of config) row → IsTrue b ↔ AreOfOne sets config
@@ -102,7 +91,7 @@ standing_more configs place config sets all new low at inside so_far e x =
       λ standing. subst (IsIn x) (sym e) (IsIn-union all (support_of config) x (elim (Contains-append_cases (take place configs) (config ∷ []) standing.0 standing.1) [
         | inl old ↦ inl ((so_far x).1 (standing.0, old, standing.2, standing.3))
         | inr last ↦ elim (Contains-cases standing.0 config [] last) [
-          | inl same ↦ inr (in_support config x (subst (λ c. Contains c x) same standing.3))
+          | inl same ↦ inr (Contains-support_of config x (subst (λ c. Contains c x) same standing.3))
           | inr none ↦ absurd (Contains-none standing.0 none)
         ]
       ])),

@@ -1,12 +1,14 @@
 -- Labels at two places of a configuration.
 use Rattle.std.proofs.Common.{◌≡◌, ◌∷◌, ◌∙◌, ◌+◌, ℕ, zero, suc, ◌<◌, ◌≤◌, List, [], length, get_or, set, refl, sym, ap, subst, arith, inl, inr, ◌⊎◌}
 use Rattle.std.specs.Prelude.{Contains, ◌↔◌}
+use Rattle.re_forests.proofs.Ports.{placed}
 use Rattle.re_labels.proofs.Rearranging.{Contains-Rearranged, Rearranged-refl}
 use Rattle.re_labels.specs.Rearranging.{Rearranged, chained, kept, swapped, unmoved}
 use Rattle.re_labels.proofs.Membership.{Contains-cases, Contains-here, Contains-later, Contains-none}
-use Rattle.re_labels.proofs.Tests.{below-cases}
+use Rattle.re_labels.proofs.Tests.{below-cases, same_or_not}
 use Rattle.re_labels.specs.Sets.{IsIn, union, with_label}
-use Rattle.re_flexible.proofs.Building.{grown, same_or, with_cases, with_new, with_old}
+use Rattle.re_labels.proofs.Sets.{IsIn-with_label_cases, IsIn-with_label_new, IsIn-with_label_old}
+use Rattle.re_flexible.proofs.Building.{grown}
 use Rattle.re_flexible.specs.Relations.{Relates, Stands}
 
 -- ---- the labels at the other places
@@ -16,13 +18,13 @@ OthersTo labels place n y = (j : ℕ) × (j < n) × (place ≡ j → ⊥) × (ge
 pub others_more : (labels : List ℕ) (place n : ℕ) (all new : List ℕ) → ((y : ℕ) → IsIn y all ↔ OthersTo labels place n y) → (place ≡ n → ⊥) → new ≡ with_label all (get_or labels n 0)
     → (y : ℕ) → IsIn y new ↔ OthersTo labels place (n + 1) y
 others_more labels place n all new so_far apart e y = (
-  λ held. elim (with_cases all (get_or labels n 0) y (subst (IsIn y) e held)) [
+  λ held. elim (IsIn-with_label_cases all (get_or labels n 0) y (subst (IsIn y) e held)) [
     | inl is ↦ (n, omega arith, apart, is)
     | inr old ↦ let (j, low, other, is) = (so_far y).0 old in (j, omega (arith, low), other, is)
   ],
   λ found. subst (IsIn y) (sym e) (elim (below-cases found.0 n found.1) [
-    | inl less ↦ with_old all (get_or labels n 0) y ((so_far y).1 (found.0, less, found.2, found.3))
-    | inr at ↦ subst (λ i. IsIn i (with_label all (get_or labels n 0))) (ap (λ k. get_or labels k 0) (sym at) ∙ found.3) (with_new all (get_or labels n 0))
+    | inl less ↦ IsIn-with_label_old all (get_or labels n 0) y ((so_far y).1 (found.0, less, found.2, found.3))
+    | inr at ↦ subst (λ i. IsIn i (with_label all (get_or labels n 0))) (ap (λ k. get_or labels k 0) (sym at) ∙ found.3) (IsIn-with_label_new all (get_or labels n 0))
   ]),
 )
 
@@ -79,19 +81,12 @@ Stands-Pairs zs x y (i, j, low, far, apart, first, second) = go zs i j low far a
     go (z ∷ zs) (suc i) zero low far apart first second = inr (inl (sym second, at_place zs i x (omega (arith, low)) first))
     go (z ∷ zs) (suc i) (suc j) low far apart first second = inr (inr (go zs i j (omega (arith, low)) (omega (arith, far)) (λ e. apart (ap suc e)) first second))
 
-place_of : (zs : List ℕ) (y : ℕ) → Contains zs y → (j : ℕ) × (j < length zs) × (get_or zs j 0 ≡ y)
-place_of [] y held = absurd (Contains-none y held)
-place_of (z ∷ zs) y held = elim (Contains-cases y z zs held) [
-  | inl e ↦ (0, omega arith, sym e)
-  | inr there ↦ let (j, low, is) = place_of zs y there in (suc j, omega (arith, low), is)
-]
-
 pub Pairs-Stands : (zs : List ℕ) (x y : ℕ) → Pairs zs x y → Stands zs x y
 Pairs-Stands [] x y pair = absurd pair
 Pairs-Stands (z ∷ zs) x y pair = elim pair [
-  | inl front ↦ let (j, low, is) = place_of zs y front.1 in (0, suc j, omega arith, omega (arith, low), (λ e. absurd (omega (arith, e))), sym front.0, is)
+  | inl front ↦ let (j, low, is) = placed zs y front.1 in (0, suc j, omega arith, omega (arith, low), (λ e. absurd (omega (arith, e))), sym front.0, is)
   | inr rest ↦ elim rest [
-    | inl front ↦ (let (j, low, is) = place_of zs x front.1 in (suc j, 0, omega (arith, low), omega arith, (λ e. absurd (omega (arith, e))), is, sym front.0))
+    | inl front ↦ (let (j, low, is) = placed zs x front.1 in (suc j, 0, omega (arith, low), omega arith, (λ e. absurd (omega (arith, e))), is, sym front.0))
     | inr deeper ↦ (let (i, j, low, far, apart, first, second) = Pairs-Stands zs x y deeper in (suc i, suc j, omega (arith, low), omega (arith, far), (λ e. apart (omega (arith, e))), first, second))
   ]
 ]
@@ -155,7 +150,7 @@ Stands-Contains zs x y (i, j, low, far, apart, first, second) = at_place zs i x 
 
 pub Contains-Stands : (zs : List ℕ) (x : ℕ) → Contains zs x → 2 ≤ length zs → (y : ℕ) × Stands zs x y
 Contains-Stands zs x held two =
-    let (i, low, is) = place_of zs x held in elim (same_or i 0) [
+    let (i, low, is) = placed zs x held in elim (same_or_not i 0) [
       | inl e ↦ (get_or zs 1 0, (i, 1, low, omega (arith, two), (λ same. absurd (omega (arith, e, same))), is, refl))
       | inr apart ↦ (get_or zs 0 0, (i, 0, low, omega (arith, two), apart, is, refl))
     ]

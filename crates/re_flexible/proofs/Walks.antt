@@ -4,9 +4,11 @@ use Rattle.std.specs.Prelude.{Contains, ◌↔◌, not}
 use Rattle.std.specs.List.{AllByRecursion}
 use Rattle.re_labels.proofs.Sorting.{sorted-Rearranged}
 use Rattle.re_labels.specs.Rearranging.{swapped}
-use Rattle.re_forests.proofs.Leads.{after, after_even, after_odd, joined, joined_even, joined_odd, lead_as_long, twice}
+use Rattle.re_forests.proofs.Leads.{after, after_even, after_odd, joined, joined_even, joined_odd, lead_as_long}
 use Rattle.re_forests.specs.Flexible.{AreJoined, Joins, Leads, Turns, side}
+use Rattle.re_forests.proofs.Rounds.{after_not}
 use Rattle.re_labels.specs.Sets.{IsIn, IsWithin}
+use Rattle.re_labels.proofs.Tests.{not_not}
 use Rattle.re_problem.specs.Problems.{Problem}
 use Rattle.re_table.specs.Constraints.{Constraint}
 use Rattle.re_flexible.specs.Families.{AreApart, AreJoins, set_with}
@@ -44,13 +46,9 @@ joins_of constraint sets table apart joins x y z there = (
 )
 
 -- ---- kinds
-after_not : (active : Bool) (m : ℕ) → after (not active) m ≡ not (after active m)
-after_not active zero = refl
-after_not active (suc m) = after_not (not active) m
-
 after_twice : (active : Bool) (m : ℕ) → after (after active m) m ≡ active
 after_twice active zero = refl
-after_twice active (suc m) = after_not (after (not active) m) m ∙ ap not (after_twice (not active) m) ∙ twice active
+after_twice active (suc m) = after_not (after (not active) m) m ∙ ap not (after_twice (not active) m) ∙ not_not active
 
 module _ (problem : Problem) (set : List ℕ) where
   -- a walk, turned round
@@ -60,17 +58,17 @@ module _ (problem : Problem) (set : List ℕ) where
       let (z, there, join, rest) = walk in
       let kind : Bool = not (after (not active) m) in
       let back : Leads problem set kind m y z = turned (not active) m z y there rest in
-      let end : after kind m ≡ active = after_not (after (not active) m) m ∙ ap not (after_twice (not active) m) ∙ twice active in
+      let end : after kind m ≡ active = after_not (after (not active) m) m ∙ ap not (after_twice (not active) m) ∙ not_not active in
       lead_as_long problem set kind (m + 1) (suc m) y x (let e : m + 1 ≡ suc m = omega arith in e)
       (joined problem set kind m 1 y z x back (x, held, subst (λ k. Joins (side problem k) set z x) (sym end) (joins_back (side problem active) set x z join), refl))
 
   pub turned_even : (active : Bool) (l x y : ℕ) → Contains set x → Leads problem set (not active) (2 * l) x y → Leads problem set active (2 * l) y x
   turned_even active l x y held walk =
-      subst (λ k. Leads problem set k (2 * l) y x) (ap not (after_even (not active) l) ∙ twice active) (turned (not active) (2 * l) x y held walk)
+      subst (λ k. Leads problem set k (2 * l) y x) (ap not (after_even (not active) l) ∙ not_not active) (turned (not active) (2 * l) x y held walk)
 
   pub turned_odd : (active : Bool) (l x y : ℕ) → Contains set x → Leads problem set active (suc (2 * l)) x y → Leads problem set active (suc (2 * l)) y x
   turned_odd active l x y held walk =
-      subst (λ k. Leads problem set k (suc (2 * l)) y x) (ap not (after_odd active l) ∙ twice active) (turned active (suc (2 * l)) x y held walk)
+      subst (λ k. Leads problem set k (suc (2 * l)) y x) (ap not (after_odd active l) ∙ not_not active) (turned active (suc (2 * l)) x y held walk)
 
   -- joined, by walks one way
   pub joined_by : (x y : ℕ) → Contains set x → Contains set y → ((active : Bool) → (l : ℕ) × Leads problem set active (suc (2 * l)) x y) → ((active : Bool) → (l : ℕ) × Leads problem set active (2 * l) x y)
@@ -108,14 +106,14 @@ module _ (problem : Problem) (set : List ℕ) where
         let a = (one x z held).0 out in
         let b = (two z w a.0).0 on in
         lead_as_long problem set active (suc (suc (2 * l))) (2 * suc l) x y (let e : suc (suc (2 * l)) ≡ 2 * suc l = omega arith in e)
-        (z, a.0, a.1, (w, b.0, b.1, subst (λ k. Leads problem set k (2 * l) w y) (sym (twice active)) (even_leads l w y b.0 more)))
+        (z, a.0, a.1, (w, b.0, b.1, subst (λ k. Leads problem set k (2 * l) w y) (sym (not_not active)) (even_leads l w y b.0 more)))
 
     pub leads_even : (l x y : ℕ) → IsIn x set → Leads problem set active (2 * l) x y → Steps table l x y
     leads_even zero x y held walk = walk
     leads_even (suc l) x y held walk =
         let long : Leads problem set active (suc (suc (2 * l))) x y = lead_as_long problem set active (2 * suc l) (suc (suc (2 * l))) x y (let e : 2 * suc l ≡ suc (suc (2 * l)) = omega arith in e) walk in
         let (z, there, join, (w, own, link, rest)) = long in
-        (w, (both x w).1 (z, (one x z held).1 (there, join), (two z w there).1 (own, link)), leads_even l w y own (subst (λ k. Leads problem set k (2 * l) w y) (twice active) rest))
+        (w, (both x w).1 (z, (one x z held).1 (there, join), (two z w there).1 (own, link)), leads_even l w y own (subst (λ k. Leads problem set k (2 * l) w y) (not_not active) rest))
 
     pub even_is : (N : ℕ) (all : List (List ℕ)) → ((x : ℕ) → IsIn x set → x < N) → ((x y : ℕ) → x < N → Relates all x y ↔ Reaches table x y) → (x y : ℕ) → IsIn x set
         → Relates all x y ↔ ((l : ℕ) × Leads problem set active (2 * l) x y)

@@ -13,7 +13,7 @@ use Rattle.re_greedy.specs.Greedy.{IsGreedy}
 use Rattle.re_labels.specs.declared.sides.Side.{Side}
 use Rattle.re_labels.specs.declared.sides.Side.TheVariants.{Active, Passive}
 use Rattle.re_laws.specs.Chains.{IsUpperChain, done, step}
-use Rattle.re_problem.proofs.DerivedProblem.{IsProblem-derived, IsUpper-derived}
+use Rattle.re_problem.proofs.DerivedProblem.{IsProblem-derived, IsProblem-derived_by, IsUpper-derived}
 use Rattle.re_problem.specs.Derived.{derived, derived_by}
 use Rattle.re_problem.specs.NamedProblems.{NamedProblem, unnamed}
 use Rattle.re_problem.specs.Problems.{IsProblem, Problem}
@@ -26,10 +26,6 @@ pub derived_first : (k : ℕ) (problem : Problem) → derived_by k (derived prob
 derived_first zero problem = refl
 derived_first (suc k) problem = ap derived (derived_first k problem)
 
-pub derived_is : (k : ℕ) (problem : Problem) → IsProblem problem → IsProblem (derived_by k problem)
-derived_is zero problem is = is
-derived_is (suc k) problem is = IsProblem-derived (derived_by k problem) (derived_is k problem is)
-
 chain_to : (k : ℕ) (problem : Problem) → IsProblem problem → IsUpperChain problem k (derived_by k problem)
 chain_to zero problem is = done
 chain_to (suc k) problem is =
@@ -37,18 +33,14 @@ chain_to (suc k) problem is =
     step next (IsUpper-derived problem) (subst (IsUpperChain (derived problem) k) (derived_first k problem) (chain_to k (derived problem) next))
 
 coloured : (problem : Problem) (k : ℕ) (side : Side) (partial : List (List ℕ)) → IsProblem problem → IsGreedy (from_side side (derived_by k problem)) partial → IsSolvableColoured problem × IsBelowLogStar problem
-coloured problem k Active partial is greedy = (greedy_coloured problem (derived_by k problem) k partial is (derived_is k problem is) (chain_to k problem is)).0 greedy
-coloured problem k Passive partial is greedy = (greedy_coloured problem (derived_by k problem) k partial is (derived_is k problem is) (chain_to k problem is)).1 greedy
+coloured problem k Active partial is greedy = (greedy_coloured problem (derived_by k problem) k partial is (IsProblem-derived_by k problem is) (chain_to k problem is)).0 greedy
+coloured problem k Passive partial is greedy = (greedy_coloured problem (derived_by k problem) k partial is (IsProblem-derived_by k problem is) (chain_to k problem is)).1 greedy
 
 pub shown : ShownLaw
 shown problem most by is is_shown =
     coloured problem by.steps by.side by.partial.items is (subst (λ p. IsGreedy p by.partial.items) is_shown.there is_shown.greedy)
 
 -- ---- one derived problem more
-pub shown_next : (problem : Problem) (more : ℕ) (steps : ℕ) (side : Side) (last : Problem) → steps ≤ more → last ≡ from_side side (derived_by steps (derived problem))
-    → (suc steps ≤ suc more) × (last ≡ from_side side (derived_by (suc steps) problem))
-shown_next problem more steps side last few e = (omega (arith, few), e ∙ ap (from_side side) (derived_first steps problem))
-
 pub nowhere_next : (problem : Problem) (more : ℕ) → IsNowhereGreedy problem 0 → IsNowhereGreedy (derived problem) more → IsNowhereGreedy problem (suc more)
 nowhere_next problem more here next zero side partial l greedy = here zero side partial (omega arith) greedy
 nowhere_next problem more here next (suc k) side partial l greedy =

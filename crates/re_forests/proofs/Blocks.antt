@@ -2,15 +2,16 @@
 use Rattle.std.proofs.Common.{◌≡◌, ℕ, zero, suc, ◌+◌, ◌-◌, ◌*◌, ◌≤◌, ◌<◌, Bool, false, not, List, [], ◌∷◌, sym, ap, ap₂, ◌∙◌, subst, arith}
 use Rattle.std.specs.Prelude.{◌==◌, slice_index}
 use Rattle.std.specs.List.{AllByRecursion, position_or_len}
+use Rattle.re_labels.proofs.Tests.{not_not}
 use Rattle.re_forests.proofs.LabelsOnPaths.{edge_active, edge_label, edge_passive}
-use Rattle.re_forests.proofs.Leads.{after, after_even, after_odd, twice}
+use Rattle.re_forests.proofs.Leads.{after, after_even, after_odd}
 use Rattle.re_forests.proofs.PathNetworks.{active_at, near_within, ordered, ordered_high, ordered_low, path_network}
 use Rattle.re_forests.specs.OnForests.{label_towards}
 use Rattle.re_layers.specs.Networks.{AreSame, IsLocal, Network}
 
 pub after_same : (active : Bool) (a b c : ℕ) → a + b ≡ 2 * c → after active a ≡ after active b
 after_same active zero b c e = sym (ap (after active) (let f : b ≡ 2 * c = omega arith in f) ∙ after_even active c)
-after_same active (suc a) b c e = after_same (not active) a (suc b) c (omega arith) ∙ ap (λ kind. after kind b) (twice active)
+after_same active (suc a) b c e = after_same (not active) a (suc b) c (omega arith) ∙ ap (λ kind. after kind b) (not_not active)
 
 -- 4 h nodes that follow on each other, also by their identifiers; the two in the middle are an active node and a passive one
 pub record Stands (h base : ℕ) (G : Network) : Type 0 where

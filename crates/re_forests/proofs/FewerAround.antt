@@ -7,8 +7,8 @@ use Rattle.std.proofs.lemmas.List.{length-map}
 use Rattle.re_forests.specs.Colours.{AreApartAround}
 use Rattle.re_layers.proofs.FreeNumbers.{free, free_most, free_other, without_less}
 use Rattle.re_layers.proofs.Locality.{local_most, local_of, same_near}
-use Rattle.re_labels.proofs.Membership.{Contains-filter, Contains-filter_cases, Contains-flat_map, Contains-flat_map_cases, Contains-map, map-alike}
-use Rattle.re_layers.proofs.Membership.{flat_map-alike, length-pieces}
+use Rattle.re_labels.proofs.Membership.{Contains-filter, Contains-filter_cases, Contains-flat_map, Contains-flat_map_cases, Contains-map, flat_map-alike, map-alike}
+use Rattle.re_layers.proofs.Membership.{length-pieces}
 use Rattle.re_layers.specs.Networks.{AreSame, IsForest, IsLocal, Network, others}
 
 -- the other neighbours of the neighbours

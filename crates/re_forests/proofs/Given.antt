@@ -8,10 +8,9 @@ use Rattle.re_forests.proofs.Filled.{length-one_given, length-two_given, one_giv
 use Rattle.re_forests.proofs.Walks.{around, around_in, beside, beside_in, between, between_in, fixed, fixed_in, turned}
 use Rattle.re_forests.proofs.Fills.{Fills}
 use Rattle.re_forests.specs.OnForests.{label_towards}
-use Rattle.re_labels.proofs.Membership.{any_found, any_true}
+use Rattle.re_labels.proofs.Membership.{any_found, any_true, filter-alike}
 use Rattle.re_labels.proofs.Tests.{eqb-same, eqb-true}
 use Rattle.re_layers.proofs.Locality.{local_most, same_ball, same_fewer, same_near}
-use Rattle.re_layers.proofs.Membership.{filter-alike}
 use Rattle.re_layers.specs.Layers.{upper}
 use Rattle.re_layers.specs.Networks.{AreSame, IsLocal, Network, ball}
 use Rattle.re_problem.specs.Problems.{Problem}

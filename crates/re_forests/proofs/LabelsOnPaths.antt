@@ -6,13 +6,13 @@ use Rattle.re_labels.proofs.Sorting.{AllByRecursion-Rearranged, Rearranged-sorte
 use Rattle.re_labels.proofs.Rearranging.{Rearranged-sym}
 use Rattle.re_labels.specs.Configs.{IsConfig, sorted}
 use Rattle.re_labels.specs.Rearranging.{swapped}
-use Rattle.re_forests.proofs.Leads.{after, twice}
+use Rattle.re_forests.proofs.Leads.{after}
 use Rattle.re_forests.proofs.PathNetworks.{active_at, near_within, ordered_is, path_network}
 use Rattle.re_forests.proofs.Rounds.{after_not}
 use Rattle.re_forests.specs.Flexible.{side}
 use Rattle.re_forests.specs.OnForests.{SolvesOn, label_towards}
 use Rattle.re_labels.proofs.Membership.{AllByRecursion-contains}
-use Rattle.re_labels.proofs.Tests.{eqb-apart, eqb-same}
+use Rattle.re_labels.proofs.Tests.{eqb-apart, eqb-same, not_not}
 use Rattle.re_layers.specs.Networks.{Network}
 use Rattle.re_problem.specs.Problems.{IsProblem, Problem}
 use Rattle.re_table.specs.Constraints.{Constraint, Has, IsConstraint}
@@ -112,7 +112,7 @@ module _ (problem : Problem) (is_problem : IsProblem problem) (degree_active : p
       kind b e = active_at id n first two different (suc p) (omega arith) ∙ e
 
       kind_before : (b : Bool) → after first (suc p) ≡ b → G.active a ≡ not b
-      kind_before b e = active_at id n first two different p (omega arith) ∙ (sym (twice (after first p)) ∙ ap not (sym (after_not first p) ∙ e))
+      kind_before b e = active_at id n first two different p (omega arith) ∙ (sym (not_not (after first p)) ∙ ap not (sym (after_not first p) ∙ e))
 
       by : (b : Bool) → after first (suc p) ≡ b → Has (side problem b) (mark p ∷ mark (suc p) ∷ [])
       by true e =

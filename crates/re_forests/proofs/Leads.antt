@@ -3,6 +3,7 @@ use Rattle.std.proofs.Common.{◌≡◌, ℕ, zero, suc, ◌+◌, ◌*◌, ◌�
 use Rattle.std.specs.Prelude.{Contains, not}
 use Rattle.re_forests.specs.Flexible.{Leads}
 use Rattle.re_labels.proofs.Membership.{Contains-cases, Contains-here, Contains-later, Contains-none}
+use Rattle.re_labels.proofs.Tests.{not_not}
 use Rattle.re_problem.specs.Problems.{Problem}
 
 -- the kind of the node behind m nodes of which the first is of this kind
@@ -10,16 +11,12 @@ abbrev pub after : Bool → ℕ → Bool
 after active zero = active
 after active (suc m) = after (not active) m
 
-pub twice : (active : Bool) → not (not active) ≡ active
-twice true = refl
-twice false = refl
-
 double : (l : ℕ) → 2 * suc l ≡ suc (suc (2 * l))
 double l = omega arith
 
 pub after_even : (active : Bool) (l : ℕ) → after active (2 * l) ≡ active
 after_even active zero = refl
-after_even active (suc l) = subst (λ m. after active m ≡ active) (sym (double l)) (after_even (not (not active)) l ∙ twice active)
+after_even active (suc l) = subst (λ m. after active m ≡ active) (sym (double l)) (after_even (not (not active)) l ∙ not_not active)
 
 pub after_odd : (active : Bool) (l : ℕ) → after active (suc (2 * l)) ≡ not active
 after_odd active l = after_even (not active) l

@@ -16,9 +16,8 @@ use Rattle.re_forests.proofs.TreeWalks.{leads_joined}
 use Rattle.re_forests.specs.Flexible.{Leads}
 use Rattle.re_forests.specs.OnForests.{SolvesOn}
 use Rattle.re_forests.specs.Trimmed.{HasTwoLevels}
-use Rattle.re_labels.proofs.Membership.{Contains-count_from, Contains-map_cases, any_found, any_true, length-count_from, Contains-filter, Contains-filter_cases, Contains-flat_map, Contains-flat_map_cases, Contains-map, Contains-none}
+use Rattle.re_labels.proofs.Membership.{Contains-count_from, Contains-filter, Contains-filter_cases, Contains-flat_map, Contains-flat_map_cases, Contains-map, Contains-map_cases, Contains-none, any_found, any_true, length-count_from, length-filter_most}
 use Rattle.re_labels.specs.Lists.{count_from}
-use Rattle.re_layers.proofs.Membership.{length-filter_most}
 use Rattle.re_layers.specs.Networks.{IsForest, IsLocal, Network}
 use Rattle.re_problem.specs.Problems.{IsProblem, Problem}
 

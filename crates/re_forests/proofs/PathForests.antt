@@ -2,9 +2,10 @@
 use Rattle.std.proofs.Common.{◌≡◌, ℕ, zero, suc, ◌≤◌, ◌<◌, Bool, true, false, not, List, [], ◌∷◌, length, sym, ap, ◌∙◌, subst, arith, inl, inr, ◌⊎◌}
 use Rattle.std.specs.Prelude.{Contains, ◌==◌, flat_map, if◌then◌else◌, nat_le}
 use Rattle.std.proofs.lemmas.Bool.Decides.{eqb_tells}
-use Rattle.re_forests.proofs.Leads.{after, twice}
+use Rattle.re_forests.proofs.Leads.{after}
 use Rattle.re_forests.proofs.Rounds.{after_not}
 use Rattle.re_labels.proofs.Membership.{Contains-cases, Contains-filter_cases, Contains-flat_map_cases, Contains-here, Contains-later, Contains-none}
+use Rattle.re_labels.proofs.Tests.{not_not}
 use Rattle.re_layers.specs.Networks.{AreDifferent, IsForest, Network, ball, branch, others}
 use Rattle.re_layers.proofs.Rooted.{Different-append, others_other}
 use Rattle.re_layers.proofs.Different.{Different-filter}
@@ -172,7 +173,7 @@ module _ (id : ℕ → ℕ) (n : ℕ) (first : Bool) (two : 2 ≤ n) (different 
 
   other_kind : (p q : ℕ) → (q ≡ suc p) ⊎ (p ≡ suc q) → after first q ≡ not (after first p)
   other_kind p q (inl e) = ap (after first) e ∙ after_not first p
-  other_kind p q (inr e) = sym (ap not (ap (after first) e ∙ after_not first q) ∙ twice (after first q))
+  other_kind p q (inr e) = sym (ap not (ap (after first) e ∙ after_not first q) ∙ not_not (after first q))
 
   pub path_forest : (N : ℕ) → ((p : ℕ) → p < n → id p < N) → IsForest 2 2 N G
   path_forest N below = record {

@@ -3,11 +3,12 @@ use Rattle.std.proofs.Common.{◌≡◌, ℕ, zero, suc, ◌+◌, ◌-◌, ◌*�
 use Rattle.std.specs.Prelude.{Contains, not, flat_map}
 use Rattle.re_labels.proofs.Sorting.{sorted-Rearranged}
 use Rattle.re_labels.specs.Rearranging.{swapped}
-use Rattle.re_forests.proofs.Leads.{after, after_even, joined, joined_odd, lead_as_long, twice}
+use Rattle.re_forests.proofs.Leads.{after, after_even, joined, joined_odd, lead_as_long}
 use Rattle.re_forests.proofs.Turning.{turning}
 use Rattle.re_forests.specs.Flexible.{AreJoined, IsFlexible, Joins, Leads, side}
 use Rattle.re_labels.proofs.Membership.{Contains-count_from, Contains-flat_map, Contains-flat_map_cases, Contains-here, Contains-later, Contains-map, Contains-map_cases, count_from_range}
 use Rattle.re_labels.specs.Lists.{count_from}
+use Rattle.re_labels.proofs.Tests.{not_not}
 use Rattle.re_problem.specs.Problems.{Problem}
 use Rattle.re_table.specs.Constraints.{Constraint, Has}
 
@@ -57,11 +58,11 @@ module _ (problem : Problem) (set : List ℕ) where
 
   reversed_odd : (active : Bool) (l x y : ℕ) → Contains set x → Leads problem set active (suc (2 * l)) x y → Leads problem set active (suc (2 * l)) y x
   reversed_odd active l x y held walk =
-      subst (λ kind. Leads problem set kind (suc (2 * l)) y x) (after_even (not (not active)) l ∙ twice active) (reversed active (suc (2 * l)) x y held walk)
+      subst (λ kind. Leads problem set kind (suc (2 * l)) y x) (after_even (not (not active)) l ∙ not_not active) (reversed active (suc (2 * l)) x y held walk)
 
   reversed_even : (active : Bool) (l x y : ℕ) → Contains set x → Leads problem set (not active) (2 * l) x y → Leads problem set active (2 * l) y x
   reversed_even active l x y held walk =
-      subst (λ kind. Leads problem set kind (2 * l) y x) (after_even (not (not active)) l ∙ twice active) (reversed (not active) (2 * l) x y held walk)
+      subst (λ kind. Leads problem set kind (2 * l) y x) (after_even (not (not active)) l ∙ not_not active) (reversed (not active) (2 * l) x y held walk)
 
   -- ---- parts of rounds
   part : (active : Bool) (len : ℕ) (mark : ℕ → ℕ) → ((i : ℕ) → i ≤ len → Contains set (mark i))
@@ -110,7 +111,7 @@ module _ (problem : Problem) (set : List ℕ) where
   )
     where
       twice_kind : (m : ℕ) → Leads problem set active m x y → Leads problem set (not (not active)) m x y
-      twice_kind m walk = subst (λ kind. Leads problem set kind m x y) (sym (twice active)) walk
+      twice_kind m walk = subst (λ kind. Leads problem set kind m x y) (sym (not_not active)) walk
 
   joined_with : (x y : ℕ) → Contains set x → Contains set y → ((active : Bool) → Both active x y) → AreJoined problem set x y
   joined_with x y own held both = record {

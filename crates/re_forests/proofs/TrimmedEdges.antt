@@ -7,9 +7,8 @@ use Rattle.re_forests.proofs.Growing.{Around, IsFull}
 use Rattle.re_forests.specs.Flexible.{Joins, side}
 use Rattle.re_forests.specs.OnForests.{SolvesOn}
 use Rattle.re_forests.specs.Trimmed.{IsTrimmed}
-use Rattle.re_labels.proofs.Membership.{any_found, any_true, Contains-map_cases, Contains-filter, Contains-filter_cases, Contains-flat_map, Contains-flat_map_cases, Contains-here, Contains-map, Contains-none}
+use Rattle.re_labels.proofs.Membership.{Contains-filter, Contains-filter_cases, Contains-flat_map, Contains-flat_map_cases, Contains-here, Contains-map, Contains-map_cases, Contains-none, any_found, any_true, length-filter_most}
 use Rattle.re_labels.proofs.Tests.{and-true, true-and}
-use Rattle.re_layers.proofs.Membership.{length-filter_most}
 use Rattle.re_layers.specs.Networks.{IsForest, Network}
 use Rattle.re_problem.specs.Problems.{IsProblem, Problem}
 use Rattle.re_table.proofs.Goodness.{Has-has_config, has_config-Has}

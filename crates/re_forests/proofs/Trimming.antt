@@ -11,12 +11,11 @@ use Rattle.re_forests.specs.Flexible.{Joins, side}
 use Rattle.re_forests.specs.Trimmed.{IsTrimmed}
 use Rattle.re_forests.specs.TrimmedSets.{TrimmedSetLaw, held, left_after, stands, stays, trimmed_set, within}
 use Rattle.re_labels.proofs.Before.{IsBefore-trans}
-use Rattle.re_labels.proofs.Membership.{Contains-In, Contains-count_from, Contains-filter, Contains-filter_cases, Contains-here, all-In, all-In_from, In-Contains, any_found, any_true, length-count_from, AllByRecursion-contains, AllByRecursion-from_contains, AllByRecursion-weaker, Contains-cases, Contains-none}
+use Rattle.re_labels.proofs.Membership.{AllByRecursion-contains, AllByRecursion-from_contains, AllByRecursion-weaker, Contains-In, Contains-cases, Contains-count_from, Contains-filter, Contains-filter_cases, Contains-here, Contains-none, In-Contains, all-In, all-In_from, any_found, any_true, length-count_from, length-filter_most}
 use Rattle.re_labels.proofs.Rising.{rising-filter}
 use Rattle.re_labels.proofs.Tests.{and-true, eqb-same, eqb-true, true-and}
 use Rattle.re_labels.specs.Lists.{IsBefore}
 use Rattle.re_layers.proofs.Filters.{filter_all}
-use Rattle.re_layers.proofs.Membership.{length-filter_most}
 use Rattle.re_problem.specs.Problems.{IsProblem, Problem}
 use Rattle.re_table.specs.Constraints.{Constraint, Has, IsConstraint}
 use Rattle.re_given.proofs.GrownInputs.{without_one}

@@ -4,7 +4,6 @@ use Rattle.std.specs.Prelude.{Contains, ◌==◌, if◌then◌else◌, nat_le, s
 use Rattle.std.specs.List.{position_or_len}
 use Rattle.std.proofs.lemmas.Bool.Decides.{eqb_tells, leb_tells}
 use Rattle.re_forests.proofs.LabelsOnPaths.{has_length, has_swapped, side_is}
-use Rattle.re_forests.proofs.Leads.{twice}
 use Rattle.re_forests.proofs.TwoColours.{not_fast, two_colours_is, two_colours_trimmed}
 use Rattle.re_forests.proofs.WholeBranches.{branch_back, branch_first, branch_on, pieces_apart, three}
 use Rattle.re_forests.specs.TwoColours.{two_colours}
@@ -13,6 +12,7 @@ use Rattle.re_forests.specs.LabelLaws.{TwoColouredPathsLaw, WholePathsLaw}
 use Rattle.re_forests.specs.OnForests.{SolvableOnForests, SolvesOn, label_towards}
 use Rattle.re_forests.specs.Trimmed.{IsTrimmed}
 use Rattle.re_labels.proofs.Membership.{Contains-cases, Contains-here, Contains-later, Contains-none, map-alike}
+use Rattle.re_labels.proofs.Tests.{not_not}
 use Rattle.re_layers.proofs.Locality.{same_active, same_branch, same_fewer, same_near}
 use Rattle.re_layers.specs.Networks.{AreSame, IsForest, IsLocal, Network, branch}
 use Rattle.re_problem.specs.Problems.{IsProblem, Problem}
@@ -67,7 +67,7 @@ module _ (problem : Problem) (set : List ℕ) (start : ℕ) (is_problem : IsProb
 
   goes : (j : ℕ) (kind : Bool) → Has (side problem kind) ((run j kind).0 ∷ (run (suc j) (not kind)).0 ∷ [])
   goes j kind =
-      subst (λ k. Has (side problem k) ((run j k).0 ∷ (run (suc j) (not kind)).0 ∷ [])) (twice kind)
+      subst (λ k. Has (side problem k) ((run j k).0 ∷ (run (suc j) (not kind)).0 ∷ [])) (not_not kind)
       (alone (not (not kind)) (run j (not (not kind))).0 (run (suc j) (not kind)).0 (trimmed (not (not kind)) (run j (not (not kind))).0 (run j (not (not kind))).1).2)
 
   -- the label on an edge, from the nodes on its two sides and the kinds of its nodes

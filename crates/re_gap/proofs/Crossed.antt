@@ -6,12 +6,12 @@ use Rattle.std.proofs.lemmas.List.{length-map}
 use Rattle.re_gap.proofs.Members.{different_map}
 use Rattle.re_gap.proofs.Trees.{IsTree}
 use Rattle.re_labels.proofs.Membership.{Contains-map_cases}
-use Rattle.re_labels.proofs.Tests.{and-true, eqb-same, eqb-true, true-and}
+use Rattle.re_labels.proofs.Tests.{and-true, eqb-same, eqb-true, not_not, true-and}
 use Rattle.re_layers.proofs.Balls.{ball_before, ball_first, ball_none, ball_own}
 use Rattle.re_layers.proofs.Filters.{either}
 use Rattle.re_labels.proofs.Tests.{eqb-apart}
 use Rattle.re_labels.proofs.Membership.{Contains-map}
-use Rattle.re_layers.proofs.NodeNumbers.{kind, kind_number, not_not, number, number_of, number_same, place, place_number}
+use Rattle.re_layers.proofs.NodeNumbers.{kind, kind_number, number, number_of, number_same, place, place_number}
 use Rattle.re_layers.specs.Networks.{Network, ball}
 
 not_own : (b : Bool) → not b ≡ b → ⊥

@@ -7,8 +7,7 @@ use Rattle.re_labels.proofs.Tests.{or-left, or-right, or-true}
 use Rattle.re_layers.proofs.Balls.{ball_back, ball_size, length-ball}
 use Rattle.re_layers.proofs.Filters.{either}
 use Rattle.re_layers.proofs.FreeNumbers.{free, free_most, free_other}
-use Rattle.re_layers.proofs.Membership.{length-filter_most}
-use Rattle.re_labels.proofs.Membership.{Contains-filter, Contains-filter_cases, Contains-map, map-alike}
+use Rattle.re_labels.proofs.Membership.{Contains-filter, Contains-filter_cases, Contains-map, length-filter_most, map-alike}
 use Rattle.re_layers.specs.Layers.{IsColoured}
 use Rattle.re_layers.specs.Networks.{Network, ball}
 

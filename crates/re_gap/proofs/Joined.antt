@@ -2,6 +2,7 @@
 use Rattle.std.proofs.Common.{◌≡◌, ℕ, suc, ◌+◌, ◌*◌, ◌≤◌, ◌<◌, Bool, true, false, List, length, refl, sym, ap, ap₂, ◌∙◌, subst, ◌⊎◌, inl, inr, arith}
 use Rattle.std.specs.Prelude.{Contains, not, if◌then◌else◌}
 use Rattle.std.proofs.lemmas.List.{length-map}
+use Rattle.re_labels.proofs.Tests.{not_not}
 use Rattle.re_forests.proofs.EdgeLabels.{label_on, label_turned}
 use Rattle.re_forests.proofs.Growing.{path_kind}
 use Rattle.re_forests.proofs.TreeWalks.{Walk, walk_as_long, walk_back, walk_edge, walk_joined, walk_kind}
@@ -19,7 +20,7 @@ use Rattle.re_gap.proofs.Rerooted.{IsRootedAt, rooted_at}
 use Rattle.re_gap.proofs.Trees.{IsTree}
 use Rattle.re_layers.proofs.Balls.{ball_join, ball_most, ball_near, ball_own, ball_size}
 use Rattle.re_layers.proofs.FreeNumbers.{Contains-holds, holds, holds-Contains}
-use Rattle.re_layers.proofs.NodeNumbers.{kind, kind_number, not_not, number, number_of, place, place_number}
+use Rattle.re_layers.proofs.NodeNumbers.{kind, kind_number, number, number_of, place, place_number}
 use Rattle.re_layers.specs.Networks.{IsForest, IsLocal, Network, ball}
 use Rattle.re_problem.specs.Problems.{IsProblem, Problem}
 

@@ -8,14 +8,13 @@ use Rattle.re_labels.proofs.Rearranging.{length-Rearranged}
 use Rattle.re_labels.specs.Rearranging.{Rearranged}
 use Rattle.re_gap.proofs.Members.{different_counted, different_map, same_members}
 use Rattle.re_gap.proofs.Trees.{IsTree}
-use Rattle.re_labels.proofs.Membership.{any_found, any_true, Contains-count_from, Contains-map_cases}
+use Rattle.re_labels.proofs.Membership.{Contains-count_from, Contains-map_cases, any_found, any_true, filter-alike, length-filter_most}
 use Rattle.re_labels.proofs.Tests.{and-true, eqb-same, eqb-true, same_tests, true-and}
 use Rattle.re_labels.specs.Lists.{count_from}
 use Rattle.re_layers.proofs.Balls.{ball_before, ball_own}
 use Rattle.re_layers.proofs.Different.{Different-filter}
 use Rattle.re_layers.proofs.Filters.{filter_all}
 use Rattle.re_layers.proofs.FreeNumbers.{Contains-holds, holds, holds-Contains}
-use Rattle.re_layers.proofs.Membership.{filter-alike, length-filter_most}
 use Rattle.re_labels.proofs.Membership.{AllByRecursion-from_contains, Contains-filter, Contains-filter_cases, Contains-here, Contains-later, Contains-map, Contains-none}
 use Rattle.re_layers.proofs.Rooted.{ball_different}
 use Rattle.re_layers.specs.Networks.{AreDifferent, AreSame, IsForest, Network, ball}

@@ -17,6 +17,7 @@ use Rattle.re_layers.specs.Networks.{IsForest, IsLocal, Network, ball}
 use Rattle.re_layers.specs.Towers.{tower}
 use Rattle.re_layers.proofs.Towers.{power_of}
 use Rattle.re_problem.specs.Problems.{IsProblem, Problem}
+use Rattle.re_layers.proofs.FarColours.{more_colours}
 
 -- ---- the run is local
 seen_here : (G H : Network) (colour tint : ℕ → ℕ) (part whole : List ℕ) → part ≡ whole
@@ -55,9 +56,6 @@ run_local N T r algorithm colour local tinted G H v same =
     ∙ ap (map (put N T algorithm H (colour H) v)) (each v (ball_own G (suc (suc T)) v)).1
 
 -- ---- so few colours
-pub more_colours : (d C D : ℕ) (G : Network) (colour : ℕ → ℕ) → C ≤ D → IsColoured d C G colour → IsColoured d D G colour
-more_colours d C D G colour l is = record { below = λ v. (let low = is.below v in omega (arith, l, low)); apart = is.apart }
-
 fewest_colours : FarColoursLaw → (a p d : ℕ) → (K : ℕ) × ((h N : ℕ) → N ≤ tower h →
     (colour : Network → ℕ → ℕ) × IsLocal (d * h + K) colour
     × ((G : Network) → IsForest a p N G → IsColoured d (suc (ball_size (a + p) d)) G (colour G)))

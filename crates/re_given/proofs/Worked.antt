@@ -15,14 +15,13 @@ use Rattle.re_given.specs.Unavoidable.{colouring}
 use Rattle.re_labels.proofs.Membership.{Contains-cases, Contains-none}
 use Rattle.re_laws.specs.Chains as chain
 use Rattle.re_laws.specs.Chains.{IsLowerChain}
-use Rattle.re_problem.proofs.DerivedProblem.{IsProblem-derived}
+use Rattle.re_laws.proofs.Worked.{two_steps}
 use Rattle.re_problem.proofs.Examples.{IsProblem-relaxed_sinkless, relaxed_sinkless_twice}
-use Rattle.re_problem.proofs.StepLaws.{IsMapped-relaxed, IsRelaxed-itself}
 use Rattle.re_problem.specs.Derived.{derived, derived_by}
 use Rattle.re_problem.specs.Examples.{orientation, relaxed_sinkless}
 use Rattle.re_problem.specs.NamedProblems.{OccursIn}
 use Rattle.re_problem.specs.Problems.{IsProblem, Problem}
-use Rattle.re_problem.specs.Steps.{IsMapped, IsRelaxed}
+use Rattle.re_problem.specs.Steps.{IsRelaxed}
 use Rattle.re_table.specs.Constraints.{Has}
 
 -- ---- an orientation
@@ -102,20 +101,6 @@ turned_relaxed = record {
 
 pub back_relaxed : IsRelaxed (derived_by 2 relaxed_sinkless) relaxed_sinkless turn
 back_relaxed = subst (λ last. IsRelaxed last relaxed_sinkless turn) (sym relaxed_sinkless_twice) turned_relaxed
-
-pub once_is : IsProblem (derived relaxed_sinkless)
-once_is = IsProblem-derived relaxed_sinkless IsProblem-relaxed_sinkless
-
-pub twice_is : IsProblem (derived_by 2 relaxed_sinkless)
-twice_is = IsProblem-derived (derived relaxed_sinkless) once_is
-
-pub itself : (problem : Problem) → IsProblem problem → IsMapped problem problem (map (λ x. x))
-itself problem is = IsMapped-relaxed problem problem (λ x. x) (IsRelaxed-itself problem is)
-
-abbrev pub two_steps : IsLowerChain relaxed_sinkless 2 (derived_by 2 relaxed_sinkless)
-two_steps =
-    chain.IsLowerChain.step once_is (itself (derived relaxed_sinkless) once_is)
-    (chain.IsLowerChain.step twice_is (itself (derived_by 2 relaxed_sinkless) twice_is) chain.IsLowerChain.done)
 
 -- the labels of both colours that name an edge can't stand around it
 coloured_not_given : (c : ℕ) → 2 ≤ c → ZeroGiven turned (colouring 3 2 c) → ⊥

@@ -6,11 +6,11 @@ use Rattle.re_check.specs.declared.verdict.Verdict.TheVariants.{Accepted, Refuse
 use Rattle.re_cert.specs.declared.certificate.Kind.TheVariants.{Fixed, Lower, Upper}
 use Rattle.re_given_bounds.proofs.LocalMeaning.{logarithmic_bound}
 use Rattle.re_given_bounds.specs.LocalBounds.{MeansLogarithmic}
-use Rattle.re_given_bounds.specs.RandomBounds.{MeansNamed, MeansRandomised, NamedBoundLaw, RandomisedBoundLaw}
+use Rattle.re_given_bounds.specs.RandomBounds.{MeansIdentified, MeansRandomised, IdentifiedBoundLaw, RandomisedBoundLaw}
 use Rattle.re_problem.specs.NamedProblems.{unnamed}
 use Rattle.re_problem.specs.Problems.{Problem}
-use Rattle.re_classes.proofs.Derandomised.{randomised, randomised_named}
-use Rattle.re_classes.specs.RandomLaws.{IsBeyondNamed, IsBeyondDoublePower, random_base}
+use Rattle.re_classes.proofs.Derandomised.{randomised, randomised_identified}
+use Rattle.re_classes.specs.RandomLaws.{IsBeyondIdentified, IsBeyondDoublePower, random_base}
 use Rattle.re_local.specs.SeparatingLaws.{IsBeyondPower, identifier_base}
 
 random_from : (verdict : Verdict) (problem : Problem) (C D : ℕ) → ((T : ℕ) → IsBeyondPower problem C T → IsBeyondDoublePower problem D T)
@@ -21,9 +21,9 @@ random_from (Accepted Upper steps) problem C D each means = tt
 random_from (Accepted Fixed steps) problem C D each means = λ T. each T (means T)
 random_from (Refused step clause) problem C D each means = tt
 
-named_from : (verdict : Verdict) (problem : Problem) (C D : ℕ) → ((T : ℕ) → IsBeyondPower problem C T → IsBeyondNamed problem C D T)
+named_from : (verdict : Verdict) (problem : Problem) (C D : ℕ) → ((T : ℕ) → IsBeyondPower problem C T → IsBeyondIdentified problem C D T)
     → MeansLogarithmic verdict problem C
-    → MeansNamed verdict problem C D
+    → MeansIdentified verdict problem C D
 named_from (Accepted Lower steps) problem C D each means = λ T l. each T (means T l)
 named_from (Accepted Upper steps) problem C D each means = tt
 named_from (Accepted Fixed steps) problem C D each means = λ T. each T (means T)
@@ -35,8 +35,8 @@ randomised_bound bound n d l fits first named few low low' bits =
     random_from (verdict_of bound) (unnamed bound.first) C (random_base d l) (λ T. randomised (unnamed bound.first) d C l T first.problem low low' bits)
     (logarithmic_bound bound n fits first named few)
 
-pub named_bound : NamedBoundLaw
-named_bound bound n d l fits first named few low low' bits =
+pub identified_bound : IdentifiedBoundLaw
+identified_bound bound n d l fits first named few low low' bits =
     let C : ℕ = identifier_base bound.first.active.degree bound.first.passive.degree n in
-    named_from (verdict_of bound) (unnamed bound.first) C (random_base d l) (λ T. randomised_named (unnamed bound.first) d C l T first.problem low low' bits)
+    named_from (verdict_of bound) (unnamed bound.first) C (random_base d l) (λ T. randomised_identified (unnamed bound.first) d C l T first.problem low low' bits)
     (logarithmic_bound bound n fits first named few)

@@ -9,7 +9,7 @@ use Rattle.re_check.specs.declared.verdict.Verdict.TheVariants.{Accepted, Refuse
 use Rattle.re_given_bounds.specs.GivenBounds.{HasFewLabels}
 use Rattle.re_problem.specs.NamedProblems.{IsNamedProblem, unnamed}
 use Rattle.re_problem.specs.Problems.{Problem}
-use Rattle.re_classes.specs.RandomLaws.{IsBeyondNamed, IsBeyondDoublePower, random_base}
+use Rattle.re_classes.specs.RandomLaws.{IsBeyondIdentified, IsBeyondDoublePower, random_base}
 use Rattle.re_local.specs.SeparatingLaws.{identifier_base}
 
 -- what a verdict says of randomised algorithms: after a fixed point, for each T, each of them of T rounds fails on the first problem at some node,
@@ -32,15 +32,15 @@ RandomisedBoundLaw = (bound : Bound) (n d l : ℕ) → is_bound bound ≡ true �
 -- what a verdict says of randomised algorithms whose nodes have N different identifiers too: after a fixed point, for each T, each of them of T
 -- rounds fails on the first problem at some node, for some port numbering and some different identifiers, with a probability of at least 1 / q,
 -- where N is C ^ (T + 1) or more, and q is 2 ^ (D ^ (T + 1)) or more; after a lower bound, for each T below its number of steps
-abbrev pub MeansNamed : Verdict → Problem → ℕ → ℕ → Type 0
-MeansNamed (Accepted Lower steps) problem C D = (T : ℕ) → T < steps → IsBeyondNamed problem C D T
-MeansNamed (Accepted Upper steps) problem C D = Unit {0}
-MeansNamed (Accepted Fixed steps) problem C D = (T : ℕ) → IsBeyondNamed problem C D T
-MeansNamed (Refused step clause) problem C D = Unit {0}
+abbrev pub MeansIdentified : Verdict → Problem → ℕ → ℕ → Type 0
+MeansIdentified (Accepted Lower steps) problem C D = (T : ℕ) → T < steps → IsBeyondIdentified problem C D T
+MeansIdentified (Accepted Upper steps) problem C D = Unit {0}
+MeansIdentified (Accepted Fixed steps) problem C D = (T : ℕ) → IsBeyondIdentified problem C D T
+MeansIdentified (Refused step clause) problem C D = Unit {0}
 
 -- so it is where no problem of the bound has more than n labels, and no node more than d ports
-abbrev pub NamedBoundLaw : Type 0
-NamedBoundLaw = (bound : Bound) (n d l : ℕ) → is_bound bound ≡ true → IsNamedProblem bound.first →
+abbrev pub IdentifiedBoundLaw : Type 0
+IdentifiedBoundLaw = (bound : Bound) (n d l : ℕ) → is_bound bound ≡ true → IsNamedProblem bound.first →
     AllByRecursion IsNamedProblem (next_problems bound.steps) → HasFewLabels n bound →
     let a : ℕ = bound.first.active.degree in let p : ℕ = bound.first.passive.degree in
-    a ≤ d → p ≤ d → identifier_base a p n ≤ 2 ^ l → MeansNamed (verdict_of bound) (unnamed bound.first) (identifier_base a p n) (random_base d l)
+    a ≤ d → p ≤ d → identifier_base a p n ≤ 2 ^ l → MeansIdentified (verdict_of bound) (unnamed bound.first) (identifier_base a p n) (random_base d l)

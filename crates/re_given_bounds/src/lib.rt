@@ -14,7 +14,7 @@ ghost use Rattle.re_given_bounds.specs.FewColoursBounds.{UpperBoundLocalLaw};
 ghost use Rattle.re_given_bounds.specs.GivenBounds.{BesideLaw, ColouredBoundLaw, EvenBoundLaw, FixedBoundLaw, OddBoundLaw, UpperBoundLaw, ValidGivenLaw};
 ghost use Rattle.re_given_bounds.specs.LocalBounds.{LocalBoundLaw, LogarithmicBoundLaw, UniqueIdentifiersLaw, WholeLowerBoundLaw};
 ghost use Rattle.re_given_bounds.specs.OnlyUnavoidable.{OnlyUnavoidableLaw};
-ghost use Rattle.re_given_bounds.specs.RandomBounds.{NamedBoundLaw, RandomisedBoundLaw};
+ghost use Rattle.re_given_bounds.specs.RandomBounds.{IdentifiedBoundLaw, RandomisedBoundLaw};
 
 pub use input_laws::{
     both_coloured_law, edge_coloured_law, edges_coloured_law, few_edge_colours_law,
@@ -91,8 +91,8 @@ pub fn randomised_bound_law()
 {}
 
 /// So it is where nodes have N different identifiers too, if N is at least C^(T + 1).
-pub fn named_bound_law()
-    ensures { NamedBoundLaw }
+pub fn identified_bound_law()
+    ensures { IdentifiedBoundLaw }
 {}
 
 /// An upper bound that is valid given a proper colouring with one colour more than a node has neighbours is one for local algorithms, with order

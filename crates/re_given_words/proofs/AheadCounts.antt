@@ -9,9 +9,9 @@ use Rattle.re_problem.specs.Zero.{Zero}
 use Rattle.re_step.specs.declared.derivation.StepLimit.{StepLimit}
 use Rattle.re_given_words.specs.Ahead.{IsTold}
 use Rattle.re_given_words.specs.declared.looking.Ahead.TheVariants as ahead
-use Rattle.re_given_words.proofs.CountingMeans.{derived_is}
 use Rattle.re_given_words.specs.Counting.{AllFew, IsCounted, MayTell}
 use Rattle.re_given_words.specs.declared.counting.Counted.TheVariants.{Exactly, MoreThan, Passed, Stopped}
+use Rattle.re_problem.proofs.DerivedProblem.{IsProblem-derived_by}
 
 -- derived k times and h times more
 derived-more : (problem : Problem) (k h : ℕ) → derived_by h (derived_by k problem) ≡ derived_by (k + h) problem
@@ -23,11 +23,11 @@ derived-more problem k (suc h) =
 module _ (problem : Problem) (is : IsProblem problem) (current : Problem) (steps rounds most : ℕ) (limit : StepLimit) (behind : steps ≤ rounds) (here : current ≡ derived_by steps problem) (counts : IsCounted problem None most (Passed rounds limit)) where
   zero-there : (more : ℕ) → Solvable current more → Zero (derived_by (steps + more) problem)
   zero-there more solvable =
-      subst Zero (derived-more problem steps more) ((Solvable-rounds (derived_by steps problem) more (derived_is problem steps is)).0 (subst (λ p. Solvable p more) here solvable))
+      subst Zero (derived-more problem steps more) ((Solvable-rounds (derived_by steps problem) more (IsProblem-derived_by steps problem is)).0 (subst (λ p. Solvable p more) here solvable))
 
   solvable-there : (more : ℕ) → Zero (derived_by (steps + more) problem) → Solvable current more
   solvable-there more holds =
-      subst (λ p. Solvable p more) (sym here) ((Solvable-rounds (derived_by steps problem) more (derived_is problem steps is)).1 (subst Zero (sym (derived-more problem steps more)) holds))
+      subst (λ p. Solvable p more) (sym here) ((Solvable-rounds (derived_by steps problem) more (IsProblem-derived_by steps problem is)).1 (subst Zero (sym (derived-more problem steps more)) holds))
 
   -- all are too few where those are that are more than what is counted
   few-there : (few : ℕ) → ((T : ℕ) → rounds < steps + T → steps + T < few → Solvable current T → ⊥) → AllFew problem None few

@@ -1,5 +1,5 @@
 -- What is counted, and what it means for algorithms.
-use Rattle.std.proofs.Common.{◌≡◌, ℕ, zero, suc, ◌+◌, ◌<◌, List, ◌⊎◌, inl, inr, sym, subst, arith, Option, None, Some}
+use Rattle.std.proofs.Common.{◌≡◌, ℕ, suc, ◌+◌, ◌<◌, List, ◌⊎◌, inl, inr, sym, subst, arith, Option, None, Some}
 use Rattle.std.specs.Prelude.{option_map}
 use Rattle.re_fit.proofs.Told.{fit_walk_law}
 use Rattle.re_fit.specs.Laws.{TellsGiven}
@@ -9,7 +9,7 @@ use Rattle.re_given.specs.Given.{ZeroGiven}
 use Rattle.re_given.specs.Inputs.{IsInput, exchanged_by}
 use Rattle.re_labels.proofs.Tests.{below-cases}
 use Rattle.re_laws.proofs.ChainRounds.{Solvable-rounds}
-use Rattle.re_problem.proofs.DerivedProblem.{IsProblem-derived}
+use Rattle.re_problem.proofs.DerivedProblem.{IsProblem-derived_by}
 use Rattle.re_problem.specs.Derived.{derived_by}
 use Rattle.re_problem.specs.NamedProblems.{NamedProblem, unnamed}
 use Rattle.re_problem.specs.Problems.{IsProblem, Problem}
@@ -21,10 +21,6 @@ use Rattle.re_given_words.specs.declared.counting.Told.TheVariants.{Enough, Few}
 use Rattle.re_given_words.specs.declared.fitting.TheConstants.{MAX_TRIES}
 
 -- ---- the problems on the way
-pub derived_is : (problem : Problem) (k : ℕ) → IsProblem problem → IsProblem (derived_by k problem)
-derived_is problem zero is = is
-derived_is problem (suc k) is = IsProblem-derived (derived_by k problem) (derived_is problem k is)
-
 -- the input problem, where it is this one
 pub beside_input : (problem : Problem) (o : Option NamedProblem) (input : NamedProblem) → o ≡ Some input → IsBeside problem (option_map unnamed o) → IsInput problem (unnamed input)
 beside_input problem o input is beside = subst (λ o. IsBeside problem (option_map unnamed o)) is beside
@@ -43,7 +39,7 @@ few_suc problem input rounds before here = let more : rounds + 1 ≡ suc rounds 
 -- ---- what it means
 module _ (problem : Problem) (is : IsProblem problem) where
   tells_given : (input : Problem) (rounds : ℕ) → IsInput problem input → TellsGiven (derived_by rounds problem) (exchanged_by rounds input) (walk_after problem input rounds)
-  tells_given input rounds is_input = fit_walk_law (derived_by rounds problem) (exchanged_by rounds input) MAX_TRIES (derived_is problem rounds is) (IsInput-derived_by rounds problem input is_input)
+  tells_given input rounds is_input = fit_walk_law (derived_by rounds problem) (exchanged_by rounds input) MAX_TRIES (IsProblem-derived_by rounds problem is) (IsInput-derived_by rounds problem input is_input)
 
   zero_found : (input : Problem) (rounds : ℕ) → IsInput problem input → (labels : List ℕ) → walk_after problem input rounds ≡ found labels → ZeroGiven (derived_by rounds problem) (exchanged_by rounds input)
   zero_found input rounds is_input labels e = (_, (subst (TellsGiven (derived_by rounds problem) (exchanged_by rounds input)) e (tells_given input rounds is_input)).upper)

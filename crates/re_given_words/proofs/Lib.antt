@@ -18,5 +18,5 @@ pub mod Serving
 pub mod SetsAdded
 pub mod SettingSays
 mod TakenAlone
-mod TextsThatFit
+pub mod TextsThatFit
 pub mod TwoRounds

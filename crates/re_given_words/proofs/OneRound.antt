@@ -1,15 +1,15 @@
 -- One round: a row of the problem, and the problem of its places.
-use Rattle.std.proofs.Common.{◌≡◌, ℕ, zero, suc, ◌<◌, ◌≤◌, List, [], ◌∷◌, length, map, get_or, refl, sym, ap, ◌∙◌, subst, arith, inl, inr}
+use Rattle.std.proofs.Common.{◌≡◌, ℕ, ◌<◌, ◌≤◌, List, [], ◌∷◌, length, map, get_or, refl, sym, ap, ◌∙◌, subst, arith, inl, inr}
 use Rattle.std.specs.Prelude.{Contains, ◌⊎◌}
 use Rattle.std.specs.List.{AllByRecursion}
 use Rattle.std.proofs.lemmas.List.{get_or-map, length-map}
 use Rattle.std.proofs.lemmas.List.Elements.{Contains-get_or}
 use Rattle.re_labels.proofs.Membership.{AllByRecursion-contains, AllByRecursion-from_contains, Contains-cases, Contains-here, Contains-none, count_from_range, length-count_from}
-use Rattle.re_labels.specs.Lists.{IsRising, count_from}
+use Rattle.re_labels.specs.Lists.{count_from}
 use Rattle.re_labels.proofs.LawsOfRows.{multisets_law}
 use Rattle.re_labels.proofs.Placing.{placed_whole}
 use Rattle.re_labels.proofs.Rearranging.{Rearranged-map, Rearranged-sym}
-use Rattle.re_labels.proofs.Sorting.{IsConfig-sorted, Rearranged-sorted}
+use Rattle.re_labels.proofs.Sorting.{IsConfig-sorted, Rearranged-sorted, count_from_rises}
 use Rattle.re_labels.specs.Configs.{IsConfig, sorted}
 use Rattle.re_labels.specs.Orders.{multisets}
 use Rattle.re_labels.specs.Rows.{placed, set_at}
@@ -78,16 +78,11 @@ places_problem p a = record {
   passive = record { degree = a; configs = multisets a 0 p };
 }
 
-ascending : (i n : ℕ) → IsRising (λ x y. x ≤ y) (count_from i n)
-ascending i zero = tt
-ascending i (suc zero) = tt
-ascending i (suc (suc n)) = (omega arith, ascending (suc i) (suc n))
-
 all-places : (p : ℕ) → IsConfig p p (count_from 0 p)
 all-places p = record {
   count = length-count_from 0 p;
   below = AllByRecursion-from_contains (λ x. x < p) (count_from 0 p) (λ x held. let (low, high) = count_from_range 0 p x held in omega (arith, high));
-  ascends = ascending 0 p;
+  ascends = count_from_rises 0 p;
 }
 
 only : (config x : List ℕ) → Contains (config ∷ []) x → x ≡ config

@@ -6,7 +6,7 @@ use Rattle.std.proofs.lemmas.List.{append_assoc}
 use Rattle.std.proofs.lemmas.List.Elements.{Contains-append_cases, Contains-append_left, Contains-append_right, Contains-get_or}
 use Rattle.std.proofs.Math.Seq.{take-length, take-suc}
 use Rattle.re_labels.proofs.Membership.{Contains-cases, Contains-here, Contains-none}
-use Rattle.re_labels.proofs.Tests.{eqb-apart, eqb-same, eqb-true}
+use Rattle.re_labels.proofs.Tests.{eqb-apart, same_or_not}
 use Rattle.re_labels.specs.Lists.{count_from}
 use Rattle.re_table.proofs.Goodness.{IsAllowed-is_allowed, is_allowed-IsAllowed}
 use Rattle.re_table.specs.Constraints.{Constraint}
@@ -15,13 +15,6 @@ use Rattle.re_given_words.proofs.TwoRounds.{stand}
 use Rattle.re_given_words.specs.Ahead.{HaveChoices, StandsAt}
 use Rattle.re_given_words.specs.Searching.{AreAllowed, AreDrawn, IsAdded, IsDrawn, IsMissed, IsPart, IsRefused}
 use Rattle.re_given_words.specs.declared.standing.Standing.{Standing}
-
-pub same_or_not : (x y : ℕ) → (x ≡ y) ⊎ (x ≡ y → ⊥)
-same_or_not x y = go (eqb x y) refl
-  where
-    go : (b : Bool) → b ≡ eqb x y → (x ≡ y) ⊎ (x ≡ y → ⊥)
-    go true e = inl (eqb-true x y (sym e))
-    go false e = inr (λ same. true≢false (sym (eqb-same x) ∙ ap (eqb x) same ∙ sym e))
 
 -- ---- what is looked at so far
 pub seen-more : {X : Type 0} (xs : List X) (i : ℕ) (x : X) → i < length xs → x ≡ get_or xs i x → take (i + 1) xs ≡ take i xs ++ x ∷ []

@@ -13,12 +13,12 @@ use Rattle.re_given_words.specs.declared.setting.Setting.{Setting}
 use Rattle.re_given_words.specs.declared.setting.Setting.TheVariants as settings
 
 -- what is Done is the text
-text_done : (over : Bool) (text : List ℕ) (outcome : Outcome) → outcome ≡ (if over then too_long else done text) → outcome.status ≡ status.Done → outcome.text ≡ text
+pub text_done : (over : Bool) (text : List ℕ) (outcome : Outcome) → outcome ≡ (if over then too_long else done text) → outcome.status ≡ status.Done → outcome.text ≡ text
 text_done true text outcome is finished = absurd (let wrong : status.Limit ≡ status.Done = sym (ap (λ (o : Outcome). o.status) is) ∙ finished in cc)
 text_done false text outcome is finished = ap (λ (o : Outcome). o.text) is
 
 -- what is no longer is Done
-not_over : (over : Bool) (text : List ℕ) (outcome : Outcome) → (over ≡ true → ⊥) → outcome ≡ (if over then too_long else done text) → outcome.status ≡ status.Done
+pub not_over : (over : Bool) (text : List ℕ) (outcome : Outcome) → (over ≡ true → ⊥) → outcome ≡ (if over then too_long else done text) → outcome.status ≡ status.Done
 not_over true text outcome short is = absurd (short refl)
 not_over false text outcome short is = ap (λ (o : Outcome). o.status) is
 

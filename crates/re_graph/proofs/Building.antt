@@ -2,8 +2,8 @@
 use Rattle.std.proofs.Common.{◌≡◌, ℕ, zero, suc, pred, ◌<◌, ◌≤◌, ◌+◌, true, eqb, ltb, leb, ◌&&◌, ◌⊎◌, inl, inr, List, [], ◌∷◌, length, get_or, sym, ap, ◌∙◌, subst, arith}
 use Rattle.std.specs.Prelude.{Contains}
 use Rattle.std.specs.List.{AllByRecursion, list_all, list_any}
-use Rattle.std.proofs.lemmas.Bool.Decides.{nat_tests}
 use Rattle.std.proofs.lemmas.List.{get_or_default}
+use Rattle.std.proofs.lemmas.Bool.{leb-true}
 use Rattle.re_cover.specs.declared.ends.GraphEnd.{GraphEnd}
 use Rattle.re_cover.specs.Graphs.{IsEndOf, IsGraph, IsPassiveEnd, PortGraph, active_end, no_end, passive_end, place_among, same_end, standing_from}
 use Rattle.re_cover.proofs.Standing.{place_among-is, same_end-same}
@@ -11,14 +11,11 @@ use Rattle.re_graph.specs.Building.{are_ends, ends_once, is_end_of, is_graph, no
 use Rattle.re_labels.proofs.Membership.{any_found}
 use Rattle.re_labels.proofs.Tests.{and-true, below-true, eqb-true}
 
-at-most : (x z : ℕ) → leb x z ≡ true → x ≤ z
-at-most x z e = grind (arith, nat_tests)
-
 end-is : (nodes degree : ℕ) (here : GraphEnd) → is_end_of nodes degree here ≡ true → IsEndOf nodes degree here
 end-is nodes degree here test =
     let (first, most) = and-true (ltb here.node nodes && leb 1 here.port) (leb here.port degree) test in
     let (node, least) = and-true (ltb here.node nodes) (leb 1 here.port) first in
-    record { node = below-true here.node nodes node; least = at-most 1 here.port least; most = at-most here.port degree most }
+    record { node = below-true here.node nodes node; least = leb-true 1 here.port least; most = leb-true here.port degree most }
 
 ends-are : (nodes degree : ℕ) (ends : List GraphEnd) → list_all (is_end_of nodes degree) ends ≡ true → AllByRecursion (IsEndOf nodes degree) ends
 ends-are nodes degree [] test = tt

@@ -7,8 +7,9 @@ use Rattle.re_cover.specs.declared.ends.GraphEnd.{GraphEnd}
 use Rattle.re_graph.specs.Solving.{are_active, are_kept, have_labels, is_kept, labels_at, place_of}
 use Rattle.re_labels.proofs.Tests.{and-true, below-true, true-and, true-below}
 use Rattle.re_table.specs.Constraints.{Constraint, has_config}
-use Rattle.re_walks.proofs.ConfigBeginnings.{begun, low-drop, low-take, not_less}
+use Rattle.re_walks.proofs.ConfigBeginnings.{begun, low-drop, low-take}
 use Rattle.re_walks.specs.Begun.{is_begun}
+use Rattle.std.proofs.lemmas.Bool.{le-ltb}
 
 pub not-less : (x z : ℕ) → false ≡ ltb x z → z ≤ x
 not-less x z e = grind (arith, nat_tests)
@@ -17,7 +18,7 @@ not-less x z e = grind (arith, nat_tests)
 pub long-parts : (active : Constraint) (n nodes : ℕ) (labels : List ℕ) → active.degree ≤ length labels → are_active active n (suc nodes) labels ≡ true → (has_config active (take active.degree labels) ≡ true) × (are_active active n nodes (drop active.degree labels) ≡ true)
 long-parts active n nodes labels long test =
     and-true (has_config active (take active.degree labels)) (are_active active n nodes (drop active.degree labels))
-    (subst (λ b. cond b (is_begun active n labels) (has_config active (take active.degree labels) && are_active active n nodes (drop active.degree labels)) ≡ true) (not_less (length labels) active.degree long) test)
+    (subst (λ b. cond b (is_begun active n labels) (has_config active (take active.degree labels) && are_active active n nodes (drop active.degree labels)) ≡ true) (le-ltb (length labels) active.degree long) test)
 
 pub active-front : (active : Constraint) (n nodes : ℕ) (labels : List ℕ) (k : ℕ) → length labels ≡ nodes * active.degree → AllByRecursion (λ label. label < n) labels → are_active active n nodes labels ≡ true → are_active active n nodes (take k labels) ≡ true
 active-front active n zero labels k count low test = refl

@@ -7,7 +7,6 @@ use Rattle.re_cover.specs.Graphs.{IsSolution, PortGraph, label_at}
 use Rattle.re_cover.specs.declared.ends.GraphEnd.{GraphEnd}
 use Rattle.re_problem.proofs.FedLines.{unnot}
 use Rattle.re_algo.proofs.JudgeCode.{all-below}
-use Rattle.re_graph.proofs.Meaning.{config-of}
 use Rattle.re_graph.specs.Judging.{IsJudged, fault_in, first_active, first_passive, labels_fault}
 use Rattle.re_labels.proofs.Tests.{eqb-same}
 use Rattle.std.specs.Prelude.{◌==◌}
@@ -17,6 +16,7 @@ use Rattle.std.proofs.lemmas.List.Quantifiers.{position-Some}
 use Rattle.re_problem.specs.Problems.{Problem}
 use Rattle.re_table.proofs.Goodness.{Has-has_config, has_config-Has}
 use Rattle.re_table.specs.Constraints.{Constraint, Has, IsConstraint, has_config}
+use Rattle.re_table.proofs.ConstraintImages.{held_labels}
 
 -- ---- what is no configuration
 no-config : (constraint : Constraint) (labels : List ℕ) → (Has constraint labels → ⊥) → false ≡ has_config constraint labels
@@ -28,11 +28,11 @@ no-config constraint labels none = by (has_config constraint labels) refl
 
 pub other-count : (n : ℕ) (constraint : Constraint) (labels : List ℕ) → IsConstraint n constraint → false ≡ (length labels == constraint.degree) → false ≡ has_config constraint labels
 other-count n constraint labels is other =
-    no-config constraint labels (λ has. false≢true (other ∙ ap (λ d. d == constraint.degree) (config-of n constraint labels is has).0 ∙ eqb-same constraint.degree))
+    no-config constraint labels (λ has. false≢true (other ∙ ap (λ d. d == constraint.degree) (held_labels n constraint labels is has).0 ∙ eqb-same constraint.degree))
 
 pub too-great : (constraint : Constraint) (labels : List ℕ) → IsConstraint MAX_LABELS constraint → false ≡ list_all (λ label. nat_lt label MAX_LABELS) labels → false ≡ has_config constraint labels
 too-great constraint labels is great =
-    no-config constraint labels (λ has. absurd (false≢true (great ∙ all-below MAX_LABELS labels (config-of MAX_LABELS constraint labels is has).1)))
+    no-config constraint labels (λ has. absurd (false≢true (great ∙ all-below MAX_LABELS labels (held_labels MAX_LABELS constraint labels is has).1)))
 
 -- ---- what is a solution
 module _ (problem : Problem) (graph : PortGraph) (labels : List (List ℕ)) where

@@ -4,18 +4,16 @@ use Rattle.std.specs.List.{AllByRecursion}
 use Rattle.std.proofs.Math.Nat.{mul-le-mul_left}
 use Rattle.re_cover.specs.declared.ends.GraphEnd.{GraphEnd}
 use Rattle.re_cover.specs.Graphs.{IsEndOf, IsSolution, label_at}
-use Rattle.re_labels.proofs.Rearranging.{Rearranged-sym}
-use Rattle.re_labels.proofs.Sorting.{AllByRecursion-Rearranged, Rearranged-sorted, length-sorted}
-use Rattle.re_labels.specs.Configs.{IsConfig, sorted}
-use Rattle.re_walks.proofs.ConfigBeginnings.{not_less}
 use Rattle.re_graph.proofs.Fronts.{active-front, all-kept-front, kept-has, long-parts}
 use Rattle.re_graph.specs.Solving.{SolutionWalkLaw, are_active, are_kept, have_labels, is_kept, labels_at, labels_of, passes_on, place_of}
-use Rattle.re_labels.proofs.Membership.{AllByRecursion-contains, AllByRecursion-weaker}
+use Rattle.re_labels.proofs.Membership.{AllByRecursion-weaker}
 use Rattle.re_labels.proofs.Tests.{and-true, or-right, true-and, true-below}
 use Rattle.re_table.proofs.Goodness.{Has-has_config, has_config-Has}
-use Rattle.re_table.specs.Constraints.{Constraint, Has, IsConstraint, has_config}
+use Rattle.re_table.specs.Constraints.{Constraint, Has, has_config}
+use Rattle.re_table.proofs.ConstraintImages.{held_labels}
 use Rattle.re_walks.specs.Begun.{is_begun}
 use Rattle.re_walks.specs.Walking.{IsAssignment}
+use Rattle.std.proofs.lemmas.Bool.{le-ltb}
 
 -- ---- the labels of a node among those of all nodes
 length-labels_of : (d m : ℕ) (labels : List ℕ) → length (labels_of d m labels) ≡ m
@@ -100,7 +98,7 @@ active-joined active n (labels ∷ lists) all has =
     let here : take active.degree (labels ++ joined lists) ≡ labels = take_at labels (joined lists) active.degree all.0 in
     let behind : drop active.degree (labels ++ joined lists) ≡ joined lists = drop_at labels (joined lists) active.degree all.0 in
     let long : active.degree ≤ length (labels ++ joined lists) = omega (arith, length-append labels (joined lists), all.0) in
-    ap (λ b. cond b (is_begun active n (labels ++ joined lists)) (has_config active (take active.degree (labels ++ joined lists)) && are_active active n (length lists) (drop active.degree (labels ++ joined lists)))) (not_less (length (labels ++ joined lists)) active.degree long)
+    ap (λ b. cond b (is_begun active n (labels ++ joined lists)) (has_config active (take active.degree (labels ++ joined lists)) && are_active active n (length lists) (drop active.degree (labels ++ joined lists)))) (le-ltb (length (labels ++ joined lists)) active.degree long)
     ∙ true-and (has_config active (take active.degree (labels ++ joined lists))) (are_active active n (length lists) (drop active.degree (labels ++ joined lists)))
     (ap (has_config active) here ∙ Has-has_config active labels has.0) (ap (are_active active n (length lists)) behind ∙ active-joined active n lists all.1 has.1)
 
@@ -112,12 +110,6 @@ kept-joined passive d m flat lists (ends ∷ nodes) same all has =
     true-and (is_kept passive d flat ends) (are_kept passive d flat nodes)
     (or-right (not (have_labels d (length flat) ends)) (has_config passive (labels_at d flat ends)) (Has-has_config passive (labels_at d flat ends) (subst (Has passive) labels has.0)))
     (kept-joined passive d m flat lists nodes same all.1 has.1)
-
--- the labels of a configuration are as many as its degree, and below n
-pub config-of : (n : ℕ) (constraint : Constraint) (labels : List ℕ) → IsConstraint n constraint → Has constraint labels → (length labels ≡ constraint.degree) × AllByRecursion (λ label. label < n) labels
-config-of n constraint labels is has =
-    let config : IsConfig constraint.degree n (sorted labels) = AllByRecursion-contains (IsConfig constraint.degree n) constraint.configs (sorted labels) is.configs has in
-    (sym (length-sorted labels) ∙ config.count, AllByRecursion-Rearranged (λ label. label < n) (Rearranged-sym (Rearranged-sorted labels)) config.below)
 
 pub passes_law : SolutionWalkLaw
 passes_law problem graph is of = record { beginnings = beginnings; solutions = solutions; all = all }
@@ -145,7 +137,7 @@ passes_law problem graph is of = record { beginnings = beginnings; solutions = s
 
     all : (lists : List (List ℕ)) → IsSolution problem graph lists → (flat : List ℕ) × IsAssignment problem.labels (graph.nodes * problem.active.degree) flat × (passes_on problem graph flat ≡ true) × (labels_of problem.active.degree graph.nodes flat ≡ lists)
     all lists solution =
-        let both = AllByRecursion-weaker (Has problem.active) (λ labels. (length labels ≡ problem.active.degree) × AllByRecursion (λ label. label < problem.labels) labels) (λ labels has. config-of problem.labels problem.active labels is.active has) lists solution.active in
+        let both = AllByRecursion-weaker (Has problem.active) (λ labels. (length labels ≡ problem.active.degree) × AllByRecursion (λ label. label < problem.labels) labels) (λ labels has. held_labels problem.labels problem.active labels is.active has) lists solution.active in
         let counts : AllByRecursion (λ labels. length labels ≡ problem.active.degree) lists = AllByRecursion-weaker (λ labels. (length labels ≡ problem.active.degree) × AllByRecursion (λ label. label < problem.labels) labels) (λ labels. length labels ≡ problem.active.degree) (λ labels h. h.0) lists both in
         let low : AllByRecursion (AllByRecursion (λ label. label < problem.labels)) lists = AllByRecursion-weaker (λ labels. (length labels ≡ problem.active.degree) × AllByRecursion (λ label. label < problem.labels) labels) (AllByRecursion (λ label. label < problem.labels)) (λ labels h. h.1) lists both in
         let same : labels_of problem.active.degree graph.nodes (joined lists) ≡ lists = ap (λ m. labels_of problem.active.degree m (joined lists)) (sym solution.count) ∙ labels_of-joined problem.active.degree lists counts in

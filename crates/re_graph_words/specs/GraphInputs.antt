@@ -1,7 +1,6 @@
 -- Texts of a problem and a graph: a problem text, a line `== graph`, and the lines of the graph.
 use Rattle.std.specs.Prelude.{ℕ, ◌+◌, List, [], codes, length, if◌then◌else◌, Option, None, Some, Result, Ok, Err}
-use Rattle.re_labels.specs.declared.sides.Degrees.{Degrees}
-use Rattle.re_problem.specs.NamedProblems.{NamedProblem}
+use Rattle.re_problem.specs.NamedProblems.{NamedProblem, degrees_of}
 use Rattle.re_problem.specs.ProblemTexts.{lines_of, problem_of}
 use Rattle.re_problem.specs.declared.fault.InputFault.{InputFault}
 use Rattle.re_problem.specs.declared.fault.InputFault.TheVariants.{EarlyEnd}
@@ -15,10 +14,6 @@ use Rattle.re_graph_words.specs.declared.texts.GraphText.{GraphText}
 abbrev pub or_text_fault : {X : Type 0} → Option InputFault → Result X GraphFault → Result X GraphFault
 or_text_fault (Some fault) result = Err (Text fault)
 or_text_fault None result = result
-
--- the degrees are those of the problem
-abbrev pub degrees_of : NamedProblem → Degrees
-degrees_of problem = record { active = problem.active.degree; passive = problem.passive.degree }
 
 -- the problem with the graph of these lines, of which the first has this number
 abbrev pub graph_for : NamedProblem → ℕ → List (List ℕ) → Result GraphText GraphFault

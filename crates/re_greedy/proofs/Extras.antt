@@ -1,19 +1,19 @@
 -- Multisets with one label more, and the labels that may join.
-use Rattle.std.proofs.Common.{◌≡◌, ◌⊎◌, ℕ, zero, suc, ◌≤◌, ◌<◌, List, [], ◌∷◌, ◌++◌, ◌+◌, ◌-◌, Bool, true, false, eqb, ltb, length, drop, take, get_or, Option, Some, None, refl, sym, ◌∙◌, ap, subst, arith, inl, inr}
+use Rattle.std.proofs.Common.{◌≡◌, ◌⊎◌, ℕ, zero, suc, ◌≤◌, ◌<◌, List, [], ◌∷◌, ◌++◌, ◌+◌, ◌-◌, Bool, true, false, eqb, length, drop, take, get_or, Option, Some, None, refl, sym, ◌∙◌, ap, subst, arith, inl, inr}
 use Rattle.std.specs.Prelude.{Contains}
 use Rattle.std.specs.List.{remove}
-use Rattle.std.proofs.lemmas.Bool.{ltb-false}
 use Rattle.std.proofs.lemmas.List.{take_all, take_more}
 use Rattle.re_greedy.specs.Partials.{AreJoining, IsExtra}
-use Rattle.re_labels.proofs.Membership.{AllByRecursion-contains, Contains-cases, Contains-here, Contains-none, Contains-In, In-Contains, In-append_cases, In-append_left, In-append_right}
+use Rattle.re_labels.proofs.Membership.{AllByRecursion-contains, Contains-cases, Contains-here, Contains-none}
 use Rattle.re_labels.proofs.Rearranging.{Contains-Rearranged}
-use Rattle.re_labels.proofs.Sets.{has-IsIn, has-with_label, IsIn-has}
-use Rattle.re_labels.proofs.Sorting.{Rearranged-sorted, inserted_high, inserted_low, length-sorted, sorted_again, take_all as take_whole}
+use Rattle.re_labels.proofs.Sets.{IsIn-has, IsIn-with_label_cases, has-IsIn, has-with_label}
+use Rattle.re_labels.proofs.Sorting.{Rearranged-sorted, inserted_high, inserted_low, length-sorted, or_lower, sorted_again, take_all as take_whole}
 use Rattle.std.specs.Cmp.Lexicographic.{pointwise}
-use Rattle.re_labels.proofs.Tests.{and-true, below-true, eqb-same, eqb-true, true-and, or-left, or-right, or-true}
+use Rattle.re_labels.proofs.Tests.{and-true, eqb-same, eqb-true, true-and, or-left, or-right}
 use Rattle.re_labels.specs.Configs.{IsConfig, inserted, sorted}
 use Rattle.re_labels.specs.Lists.{IsRising}
 use Rattle.re_labels.specs.Sets.{IsIn, has, with_label}
+use Rattle.re_labels.proofs.Lists.{Contains-last, Contains-more, Contains-more_cases}
 
 abbrev pub Rises : List ℕ → Type 0
 Rises xs = IsRising (λ x y. x ≤ y) xs
@@ -29,13 +29,6 @@ joined_in x seen = Contains-Rearranged x (Rearranged-sorted (x ∷ seen)) (Conta
 pub joined_one : (x : ℕ) (seen : List ℕ) → Rises seen → sorted (x ∷ seen) ≡ inserted x seen
 joined_one x seen h = ap (inserted x) (sorted_again seen h)
 
-order : (x y : ℕ) → (x ≤ y) ⊎ (y < x)
-order x y = at (ltb y x) refl
-  where
-    at : (b : Bool) → ltb y x ≡ b → (x ≤ y) ⊎ (y < x)
-    at true e = inr (below-true y x e)
-    at false e = inl (ltb-false y x e)
-
 -- ---- one step of the comparison
 module _ (label : ℕ) (labels : List ℕ) (first : ℕ) (others : List ℕ) (whole : Rises (label ∷ labels)) (seen : Rises (first ∷ others)) where
   abbrev rest : sorted others ≡ others
@@ -49,7 +42,7 @@ module _ (label : ℕ) (labels : List ℕ) (first : ℕ) (others : List ℕ) (wh
 
   -- where the first labels are the same
   pub same_some : label ≡ first → (x : ℕ) → sorted (x ∷ others) ≡ labels → sorted (x ∷ first ∷ others) ≡ label ∷ labels
-  same_some same x e = elim (order x first) [
+  same_some same x e = elim (or_lower x first) [
     | inl l ↦ (
         let one : x ≡ first = at_least l in
         low x l ∙ ap (λ y. y ∷ first ∷ others) one ∙ ap (λ y. y ∷ first ∷ others) (sym same) ∙ ap (λ xs. label ∷ xs) (sym (moved one) ∙ e)
@@ -75,7 +68,7 @@ module _ (label : ℕ) (labels : List ℕ) (first : ℕ) (others : List ℕ) (wh
       moved one = ap (λ y. sorted (y ∷ others)) one ∙ sorted_again (first ∷ others) seen
 
   pub same_none : label ≡ first → (x : ℕ) → sorted (x ∷ first ∷ others) ≡ label ∷ labels → sorted (x ∷ others) ≡ labels
-  same_none same x e = elim (order x first) [
+  same_none same x e = elim (or_lower x first) [
     | inl l ↦ (
         let both : x ∷ first ∷ others ≡ label ∷ labels = sym (low x l) ∙ e in
         let head : x ≡ label = cc in
@@ -94,7 +87,7 @@ module _ (label : ℕ) (labels : List ℕ) (first : ℕ) (others : List ℕ) (wh
   other_some e = ap (λ xs. sorted (label ∷ xs)) (sym e) ∙ sorted_again (label ∷ labels) whole
 
   pub other_none : (label ≡ first → ⊥) → (labels ≡ first ∷ others → ⊥) → (x : ℕ) → sorted (x ∷ first ∷ others) ≡ label ∷ labels → ⊥
-  other_none apart none x e = elim (order x first) [
+  other_none apart none x e = elim (or_lower x first) [
     | inl l ↦ (let both : x ∷ first ∷ others ≡ label ∷ labels = sym (low x l) ∙ e in let tail : labels ≡ first ∷ others = cc in none tail)
     | inr l ↦ (let both : first ∷ sorted (x ∷ others) ≡ label ∷ labels = sym (high x l) ∙ e in let head : label ≡ first = cc in apart head)
   ]
@@ -104,16 +97,6 @@ pub joined_some : (x : ℕ) (seen whole : List ℕ) → sorted (x ∷ seen) ≡ 
 joined_some x seen whole e none = let l : length (sorted (x ∷ seen)) ≡ suc (length seen) = length-sorted (x ∷ seen) in let z : length (sorted (x ∷ seen)) ≡ length whole = ap length e in omega arith
 
 -- what the comparison gives
-pub extra_alone : (whole seen : List ℕ) → 1 ≤ length whole → length seen < 1 → length (drop 1 whole) ≡ 0 → sorted (get_or whole 0 0 ∷ seen) ≡ whole
-extra_alone [] seen some none rest = absurd (omega arith)
-extra_alone (y ∷ []) [] some none rest = refl
-extra_alone (y ∷ []) (z ∷ seen) some none rest = absurd (omega arith)
-extra_alone (y ∷ w ∷ whole) seen some none rest = absurd (omega arith)
-
-pub extra_long : (whole seen : List ℕ) → length seen < 1 → (length (drop 1 whole) ≡ 0 → ⊥) → (x : ℕ) → sorted (x ∷ seen) ≡ whole → ⊥
-extra_long whole [] none rest x e = rest (subst (λ w. length (drop 1 w) ≡ 0) e refl)
-extra_long whole (z ∷ seen) none rest x e = absurd (omega arith)
-
 pub extra_same : (whole seen : List ℕ) (answer : Option ℕ) → 1 ≤ length whole → 1 ≤ length seen → Rises whole → Rises seen → get_or whole 0 0 ≡ get_or seen 0 0
     → IsExtra (drop 1 whole) (drop 1 seen) answer → IsExtra whole seen answer
 extra_same [] seen answer some more whole_rises seen_rises same is = absurd (omega arith)
@@ -164,10 +147,6 @@ extra_nowhere whole seen b some more whole_rises seen_rises apart is no_b = extr
         let self : pointwise eqb (take (length whole - 1) (drop 1 whole)) seen ≡ true = subst (λ s. pointwise eqb (take (length whole - 1) (drop 1 whole)) s ≡ true) e (labels_self (take (length whole - 1) (drop 1 whole))) in
         absurd (cc)
 
-pub rises_drop : (xs : List ℕ) → 1 ≤ length xs → Rises xs → Rises (drop 1 xs)
-rises_drop [] some h = absurd (omega arith)
-rises_drop (x ∷ xs) some h = rises_rest x xs h
-
 -- the label that joins is as low as the labels of the multiset
 pub joined_below : (x n m : ℕ) (seen whole member : List ℕ) → sorted (x ∷ seen) ≡ whole → whole ≡ member → IsConfig n m member → x < m
 joined_below x n m seen whole member e same config =
@@ -176,7 +155,7 @@ joined_below x n m seen whole member e same config =
 -- ---- a label is taken away again
 pub taken_back : (x : ℕ) (seen : List ℕ) → (i : ℕ) × (i < length (inserted x seen)) × (remove (inserted x seen) i ≡ seen)
 taken_back x [] = (0, omega arith, refl)
-taken_back x (y ∷ seen) = elim (order x y) [
+taken_back x (y ∷ seen) = elim (or_lower x y) [
   | inl l ↦ subst (λ xs. (i : ℕ) × (i < length xs) × (remove xs i ≡ y ∷ seen)) (sym (inserted_low x y seen l)) (0, omega arith, refl)
   | inr l ↦ (
       let (i, inside, e) = taken_back x seen in
@@ -185,29 +164,11 @@ taken_back x (y ∷ seen) = elim (order x y) [
 ]
 
 -- ---- the labels that may join
-pub Contains-more : {X : Type 0} (xs : List X) (y x : X) → Contains xs x → Contains (xs ++ y ∷ []) x
-Contains-more xs y x at = In-Contains x (xs ++ y ∷ []) (In-append_left x xs (y ∷ []) (Contains-In x xs at))
-
-pub Contains-last : {X : Type 0} (xs : List X) (y : X) → Contains (xs ++ y ∷ []) y
-Contains-last xs y = In-Contains y (xs ++ y ∷ []) (In-append_right y xs (y ∷ []) (Contains-In y (y ∷ []) (Contains-here y [])))
-
-pub Contains-more_cases : {X : Type 0} (xs : List X) (y x : X) → Contains (xs ++ y ∷ []) x → Contains xs x ⊎ (x ≡ y)
-Contains-more_cases xs y x at = elim (In-append_cases x xs (y ∷ []) (Contains-In x (xs ++ y ∷ []) at)) [
-  | inl i ↦ inl (In-Contains x xs i)
-  | inr i ↦ elim (Contains-cases x y [] (In-Contains x (y ∷ []) i)) [ inl e ↦ inr e | inr j ↦ absurd (Contains-none x j) ]
-]
-
 pub IsIn-with : (set : List ℕ) (y x : ℕ) → (IsIn x set ⊎ (x ≡ y)) → IsIn x (with_label set y)
 IsIn-with set y x (inl i) = has-IsIn (with_label set y) x (has-with_label set y x ∙ or-right (eqb y x) (has set x) (IsIn-has set x i))
 IsIn-with set y x (inr e) =
     let same : eqb y x ≡ true = subst (λ z. eqb y z ≡ true) (sym e) (eqb-same y) in
     has-IsIn (with_label set y) x (has-with_label set y x ∙ or-left (eqb y x) (has set x) same)
-
-pub IsIn-with_cases : (set : List ℕ) (y x : ℕ) → IsIn x (with_label set y) → IsIn x set ⊎ (x ≡ y)
-IsIn-with_cases set y x i = elim (or-true (eqb y x) (has set x) (sym (has-with_label set y x) ∙ IsIn-has (with_label set y) x i)) [
-  | inl e ↦ inr (sym (eqb-true y x e))
-  | inr h ↦ inl (has-IsIn set x h)
-]
 
 -- numbers by which multisets are told apart
 abbrev total : List ℕ → ℕ
@@ -216,7 +177,7 @@ total (x ∷ xs) = x + total xs
 
 total-inserted : (x : ℕ) (xs : List ℕ) → total (inserted x xs) ≡ x + total xs
 total-inserted x [] = refl
-total-inserted x (y ∷ xs) = elim (order x y) [
+total-inserted x (y ∷ xs) = elim (or_lower x y) [
   | inl l ↦ ap total (inserted_low x y xs l)
   | inr l ↦ (
       let e : total (inserted x (y ∷ xs)) ≡ y + total (inserted x xs) = ap total (inserted_high x y xs l) in
@@ -235,9 +196,9 @@ one_label x y seen e =
 
 pub joining_more : (members : List (List ℕ)) (member seen set : List ℕ) (x : ℕ) → AreJoining members seen set → sorted (x ∷ seen) ≡ member → AreJoining (members ++ member ∷ []) seen (with_label set x)
 joining_more members member seen set x are e y = (
-  λ i. elim (IsIn-with_cases set x y i) [
-    | inl j ↦ Contains-more members member (sorted (y ∷ seen)) ((are y).0 j)
-    | inr same ↦ subst (λ z. Contains (members ++ member ∷ []) (sorted (z ∷ seen))) (sym same) (subst (Contains (members ++ member ∷ [])) (sym e) (Contains-last members member))
+  λ i. elim (IsIn-with_label_cases set x y i) [
+    | inl same ↦ subst (λ z. Contains (members ++ member ∷ []) (sorted (z ∷ seen))) same (subst (Contains (members ++ member ∷ [])) (sym e) (Contains-last members member))
+    | inr j ↦ Contains-more members member (sorted (y ∷ seen)) ((are y).0 j)
   ],
   λ at. elim (Contains-more_cases members member (sorted (y ∷ seen)) at) [
     | inl there ↦ IsIn-with set x y (inl ((are y).1 there))
@@ -292,10 +253,6 @@ labels_apart xs ys item other b is none one two e =
     let same : xs ≡ ys = one ∙ e ∙ sym two in
     let self : pointwise eqb xs ys ≡ true = subst (λ zs. pointwise eqb xs zs ≡ true) same (labels_self xs) in
     absurd (cc)
-
-pub split_first : (lists : List (List ℕ)) (first : List ℕ) → 1 ≤ length lists → first ≡ get_or lists 0 first → lists ≡ first ∷ take (length lists - 1) (drop 1 lists)
-split_first [] first some e = absurd (omega arith)
-split_first (x ∷ lists) first some e = ap (λ y. y ∷ lists) (sym e) ∙ ap (λ rest. first ∷ rest) (sym (take_whole lists (suc (length lists) - 1) (omega arith)))
 
 pub split_count : (lists : List (List ℕ)) → 1 ≤ length lists → length (take (length lists - 1) (drop 1 lists)) + 1 ≡ length lists
 split_count [] some = absurd (omega arith)

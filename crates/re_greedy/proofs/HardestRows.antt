@@ -3,10 +3,9 @@ use Rattle.std.proofs.Common.{◌≡◌, ◌⊎◌, ℕ, suc, ◌≤◌, ◌<◌
 use Rattle.std.specs.Prelude.{Contains}
 use Rattle.std.specs.List.{AllByRecursion, AllZip}
 use Rattle.std.proofs.lemmas.List.{length-append, length-map}
-use Rattle.re_greedy.proofs.Extras.{Contains-more_cases, get_same, take_item}
+use Rattle.re_greedy.proofs.Extras.{get_same, take_item}
 use Rattle.re_greedy.specs.Partials.{AreHardest, AreJoining, IsAnswered, IsCovered, IsStuck}
 use Rattle.re_labels.proofs.LawsOfRows.{multisets_law}
-use Rattle.re_labels.proofs.Membership.{Contains-none}
 use Rattle.re_labels.proofs.Rearranging.{Rearranged-map, Rearranged-sym}
 use Rattle.re_labels.proofs.Sorting.{IsConfig-sorted, Rearranged-sorted}
 use Rattle.re_labels.proofs.Sets.{within-IsWithin, IsWithin-within}
@@ -15,6 +14,7 @@ use Rattle.re_labels.specs.Configs.{IsConfig, sorted}
 use Rattle.re_labels.specs.Orders.{multisets}
 use Rattle.re_labels.specs.Rows.{IsChoice, placed, set_at}
 use Rattle.re_labels.specs.Sets.{IsIn, IsWithin, within}
+use Rattle.re_labels.proofs.Lists.{Contains-more_cases}
 use Rattle.re_problem.specs.Problems.{Problem}
 use Rattle.re_table.proofs.Goodness.{IsAllowed-Rearranged, IsAllowed-is_allowed, is_allowed-IsAllowed}
 use Rattle.re_greedy.specs.Findings.{IsTried}
@@ -88,13 +88,6 @@ module _ (degree : ℕ) (partial part chosen joining : List (List ℕ)) (member 
           × AreJoining partial (get_or (chosen ++ member ∷ []) i []) (get_or (joining ++ set ∷ []) i [])) (sym e)
           (subst (λ seen. Contains partial seen × (length seen < degree) × AreJoining partial seen (get_or (joining ++ set ∷ []) (length chosen) [])) (sym (get_or-append_seam chosen member [] []))
           (subst (λ labels. Contains partial member × (length member < degree) × AreJoining partial member labels) (sym new_set) (there, fewer, joins)))
-
-pub hardest_none : (degree : ℕ) (partial : List (List ℕ)) → AreHardest degree partial [] [] []
-hardest_none degree partial = record {
-  alike = refl;
-  each = λ i inside. absurd (omega arith);
-  hardest = λ seen at fewer. absurd (Contains-none seen at);
-}
 
 -- ---- what they say of all that may be seen
 module _ (problem : Problem) (partial chosen joining : List (List ℕ)) (are : AreHardest problem.passive.degree partial partial chosen joining) where

@@ -6,7 +6,7 @@ use Rattle.std.proofs.lemmas.List.{length-map}
 use Rattle.std.proofs.lemmas.Nat.{div-mul-add, mul-le}
 use Rattle.re_labels.proofs.LawsOfRows.{multisets_law}
 use Rattle.re_labels.proofs.Rearranging.{Rearranged-map, length-AllZip}
-use Rattle.re_labels.proofs.Sorting.{IsConfig-sorted, Rearranged-sorted, sorted_again}
+use Rattle.re_labels.proofs.Sorting.{IsConfig-sorted, Rearranged-sorted, count_from_rises, sorted_again}
 use Rattle.re_labels.specs.Configs.{IsConfig, sorted}
 use Rattle.re_labels.specs.Orders.{multisets}
 use Rattle.re_labels.specs.Rows.{IsChoice}
@@ -20,16 +20,11 @@ use Rattle.re_greedy.proofs.Colours.{colour_around, colours_around}
 use Rattle.re_greedy.proofs.Parts.{Distinct-is_distinct, is_distinct, is_distinct-Distinct}
 use Rattle.re_labels.proofs.Before.{same_list-refl, same_list-same}
 use Rattle.re_labels.proofs.Membership.{AllByRecursion-from_contains, Contains-count_from, Contains-filter, Contains-filter_cases, Contains-here, Contains-later, Contains-map_cases, Distinct, any_found, any_true, count_from_range, length-count_from}
-use Rattle.re_labels.specs.Lists.{IsRising, count_from, same_list}
+use Rattle.re_labels.specs.Lists.{count_from, same_list}
 use Rattle.re_labels.specs.Sets.{IsIn}
 use Rattle.re_problem.specs.Problems.{IsProblem, Problem}
 use Rattle.re_problem.specs.Steps.{IsUpper}
 use Rattle.re_table.specs.Constraints.{Has}
-
-pub rise_from : (i k : ℕ) → IsRising (λ x y. x ≤ y) (count_from i k)
-rise_from i zero = tt
-rise_from i (suc zero) = tt
-rise_from i (suc (suc k)) = (omega arith, rise_from (suc i) (suc k))
 
 -- an active node has the a numbers from its colour times a on, one for each edge, and those of a passive node are of different colours
 abbrev pub ported : ℕ → ℕ → ℕ → Problem
@@ -75,7 +70,7 @@ module _ (a p N : ℕ) (a_low : 2 ≤ a) (a_high : a ≤ 6) (p_low : 2 ≤ p) (p
 
   pub ported_active_there : (x : ℕ) → x < N → Has (ported a p N).active (count_from (x * a) a)
   ported_active_there x low =
-      let same : sorted (count_from (x * a) a) ≡ count_from (x * a) a = sorted_again (count_from (x * a) a) (rise_from (x * a) a) in
+      let same : sorted (count_from (x * a) a) ≡ count_from (x * a) a = sorted_again (count_from (x * a) a) (count_from_rises (x * a) a) in
       Contains-filter (λ zs. list_any (λ x. same_list zs (count_from (x * a) a)) (count_from 0 N)) (multisets a 0 (N * a)) (sorted (count_from (x * a) a))
       (((multisets_law a (N * a)).1 (sorted (count_from (x * a) a))).1
       (IsConfig-sorted a (N * a) (count_from (x * a) a) (length-count_from (x * a) a) (AllByRecursion-from_contains (λ z. z < N * a) (count_from (x * a) a) (λ z at. number_below x z low at))))

@@ -1,16 +1,17 @@
 -- Rows of sets at places.
-use Rattle.std.proofs.Common.{◌≡◌, ℕ, ◌≤◌, ◌<◌, Bool, true, false, List, [], ◌∷◌, length, map, take, Some, None, refl, sym, ◌∙◌, ap, subst, arith, rules}
+use Rattle.std.proofs.Common.{◌≡◌, ℕ, ◌≤◌, ◌<◌, Bool, true, false, List, [], ◌∷◌, length, map, take, Some, None, refl, sym, ◌∙◌, ap, subst, rules}
 use Rattle.std.specs.Prelude.{IsSome}
 use Rattle.std.specs.List.{AllByRecursion}
 use Rattle.re_labels.proofs.RowCalls.{row_of-some}
 use Rattle.re_labels.proofs.Sorting.{take_all}
-use Rattle.re_labels.specs.Rows.{IsChoice, in_order, is_full, placed, row_of, set_at}
+use Rattle.re_labels.specs.Rows.{in_order, is_full, placed, row_of, set_at}
 use Rattle.re_labels.specs.Sets.{IsLabelSet}
 use Rattle.re_labels.specs.declared.TheConstants.{MAX_LABELS}
 use Rattle.re_table.proofs.Goodness.{filled-is_full, is_allowed-IsAllowed, is_full-filled}
 use Rattle.re_table.proofs.SetsInOrder.{AreSets, row_is}
 use Rattle.re_table.specs.Constraints.{Constraint}
 use Rattle.re_table.specs.GoodRows.{is_allowed}
+use Rattle.re_labels.proofs.ChoicesOfRows.{IsChoice-filled}
 
 pub placed_all : (joining sets given : List (List ℕ)) (places : List ℕ) (i : ℕ) → given ≡ sets → sets ≡ map (set_at joining) (take i places) → length places ≤ i → given ≡ placed joining places
 placed_all joining sets given places i e f over = e ∙ f ∙ ap (map (set_at joining)) (take_all places i over)
@@ -18,12 +19,6 @@ placed_all joining sets given places i e f over = e ∙ f ∙ ap (map (set_at jo
 both : (sets : List (List ℕ)) → AllByRecursion (IsLabelSet MAX_LABELS) sets → AllByRecursion (λ s. 0 < length s) sets → AreSets sets
 both [] are filled = tt
 both (s ∷ sets) are filled = ((are.0, filled.0), both sets are.1 filled.1)
-
-choice_full : (labels : List ℕ) (sets : List (List ℕ)) → IsChoice labels sets → AllByRecursion (λ s. 0 < length s) sets
-choice_full [] [] choice = tt
-choice_full [] (s ∷ sets) choice = absurd choice
-choice_full (x ∷ labels) [] choice = absurd choice
-choice_full (x ∷ labels) (s ∷ sets) choice = (let (k, l, e) = choice.0 in omega (arith, l), choice_full labels sets choice.1)
 
 is_some_some : (row : List (List ℕ)) → IsSome (Some row)
 is_some_some row = search rules
@@ -52,7 +47,7 @@ module _ (sets : List (List ℕ)) (two : 2 ≤ length sets) (six : length sets �
       at false none = none
       at true some =
           let (labels, choice, has) = is_allowed-IsAllowed K sets some in
-          let full : is_full sets ≡ true = filled-is_full sets (choice_full labels sets choice) in
+          let full : is_full sets ≡ true = filled-is_full sets (IsChoice-filled labels sets choice) in
           let found : row_of MAX_LABELS sets ≡ Some (in_order MAX_LABELS sets) = row_is sets two six (filled_row full) in
           let wrong : None ≡ Some (in_order MAX_LABELS sets) = sym e ∙ found in
           absurd (cc)

@@ -2,7 +2,7 @@
 use Rattle.std.proofs.Common.{◌≡◌, ◌⊎◌, ℕ, zero, suc, ◌+◌, ◌-◌, ◌≤◌, ◌<◌, Bool, true, false, List, [], ◌∷◌, ◌++◌, filter, length, replicate, refl, sym, ◌∙◌, ap, subst, arith, inl, inr}
 use Rattle.std.specs.Prelude.{Contains, ◌↔◌}
 use Rattle.std.specs.List.{AllByRecursion, AllZip, list_any, remove}
-use Rattle.re_greedy.proofs.Extras.{Contains-last, Contains-more, Contains-more_cases, Rises, get_same, take_item, joined_one, taken_back}
+use Rattle.re_greedy.proofs.Extras.{Rises, get_same, take_item, joined_one, taken_back}
 use Rattle.re_greedy.proofs.GreedyTest.{listed}
 use Rattle.re_greedy.specs.Findings.{IsFinding, IsNoneBetween, IsRefused, IsSearched, IsWhole, RefusedListLaw}
 use Rattle.re_greedy.specs.declared.judging.ListVerdict.TheVariants.{Greedy as GreedyList, Limit as LimitList, NoEmpty, NotPassive, Stuck as StuckList}
@@ -10,15 +10,15 @@ use Rattle.re_greedy.specs.declared.finding.Greediness.{Greediness}
 use Rattle.re_greedy.specs.declared.finding.Greediness.TheVariants.{Greedy, NotGreedy, Unknown}
 use Rattle.re_greedy.specs.Greedy.{IsGreedy}
 use Rattle.re_greedy.specs.Partials.{AreAdded, IsAnswered, IsPart, IsRight, IsStuck, IsUniverse, IsUniverseTo}
-use Rattle.re_labels.proofs.Membership.{AllByRecursion-from_contains, AllByRecursion-contains, Contains-cases, Contains-filter, Contains-filter_cases, Contains-here, Contains-In, Contains-later, Contains-none, In-Contains, In-append_cases, In-append_left}
+use Rattle.re_labels.proofs.Membership.{AllByRecursion-from_contains, AllByRecursion-contains, Contains-cases, Contains-filter, Contains-filter_cases, Contains-In, Contains-later, Contains-none, In-Contains, In-append_cases, In-append_left}
 use Rattle.re_labels.proofs.Sorting.{length-sorted, sorted_again, sorted_rises}
 use Rattle.re_labels.specs.Configs.{inserted, sorted}
 use Rattle.re_labels.specs.Lists.{same_list}
 use Rattle.re_problem.proofs.HeldLabels.{is_held}
 use Rattle.re_problem.specs.Problems.{IsProblem, Problem}
-use Rattle.re_labels.specs.Configs.{IsConfig}
 use Rattle.re_labels.proofs.Tests.{below-cases}
-use Rattle.re_table.specs.Constraints.{Constraint, IsConstraint}
+use Rattle.re_labels.proofs.Lists.{Contains-last, Contains-more, Contains-more_cases}
+use Rattle.re_table.specs.Constraints.{Constraint}
 use Rattle.std.proofs.Common.{append_assoc, get_or, take}
 use Rattle.std.proofs.lemmas.List.{get_or_append_left, take_all}
 use Rattle.std.proofs.lemmas.List.Edits.{length-remove}
@@ -241,17 +241,6 @@ universe_done passive all k universe over = record {
         let is : get_or all j [] ≡ labels = get_same all j labels there (sym e) in
         subst (λ w. Contains all (sorted (remove w i))) is (universe.closed j i (omega (arith, there, over)) there (subst (λ w. i < length w) (sym is) inside))
 
-pub universe_begun : (passive : Constraint) (all : List (List ℕ)) (n : ℕ) → IsConstraint n passive → all ≡ passive.configs → IsUniverseTo passive all 0
-universe_begun passive all n is e = record {
-  whole = λ config at. subst (λ xs. Contains xs config) (sym e) at;
-  closed = λ j i low there short. absurd (omega arith);
-  few = λ labels at. (let count : length labels ≡ passive.degree = count_of labels at in omega arith);
-  full = λ labels at count. subst (λ xs. Contains xs labels) e at;
-}
-  where
-    count_of : (labels : List ℕ) → Contains all labels → length labels ≡ passive.degree
-    count_of labels at = (AllByRecursion-contains (IsConfig passive.degree n) passive.configs labels is.configs (subst (λ xs. Contains xs labels) e at)).count
-
 -- ---- a list without one of its members, as it grows
 module _ (members left : List (List ℕ)) (gone item : List ℕ) (i : ℕ) (inside : i < length members) (at : item ≡ get_or members i item)
     (are : (labels : List ℕ) → Contains left labels ↔ (Contains (take i members) labels × (labels ≡ gone → ⊥))) where
@@ -303,13 +292,6 @@ pub found_of : (problem : Problem) (all : List (List ℕ)) (answer : Greediness)
 found_of problem all (Greedy found) is universe searched = searched
 found_of problem all NotGreedy is universe searched = none_at_all problem all is universe searched
 found_of problem all Unknown is universe searched = tt
-
-pub whole_all : (problem : Problem) (all : List (List ℕ)) → IsUniverse problem.passive all → Contains all [] → IsWhole problem all ([] ∷ [])
-whole_all problem all universe at = record {
-  full = universe.full;
-  held = λ labels there. elim (Contains-cases labels [] [] there) [ inl e ↦ subst (Contains all) (sym e) at | inr later ↦ absurd (Contains-none labels later) ];
-  none = Contains-here [] [];
-}
 
 pub left_all : (members left : List (List ℕ)) (gone : List ℕ) (i : ℕ) → length members ≤ i
     → ((labels : List ℕ) → Contains left labels ↔ (Contains (take i members) labels × (labels ≡ gone → ⊥))) → (labels : List ℕ) → Contains left labels ↔ (Contains members labels × (labels ≡ gone → ⊥))

@@ -214,7 +214,7 @@ length-combined place (s ∷ r) [] e = absurd (omega arith)
 length-combined zero (s ∷ r) (t ∷ u) e = ap suc (length-meets r u (omega arith))
 length-combined (suc place) (s ∷ r) (t ∷ u) e = ap suc (length-combined place r u (omega arith))
 
-read_at : (xs : List (List ℕ)) (i : ℕ) (x : List ℕ) → i < length xs → x ≡ get_or xs i x → x ≡ get_or xs i []
+pub read_at : (xs : List (List ℕ)) (i : ℕ) (x : List ℕ) → i < length xs → x ≡ get_or xs i x → x ≡ get_or xs i []
 read_at [] i x h e = absurd (omega arith)
 read_at (y ∷ xs) zero x h e = e
 read_at (y ∷ xs) (suc i) x h e = read_at xs i x (omega arith) e

@@ -1,7 +1,7 @@
 -- A label in place of another one, the images of labels, and the set of them.
-use Rattle.std.proofs.Common.{◌≡◌, ℕ, zero, suc, ◌<◌, ◌+◌, Bool, true, false, cond, eqb, ltb, ◌||◌, List, [], ◌∷◌, ◌++◌, length, map, refl, sym, ap, ◌∙◌, arith, Some, None, not}
+use Rattle.std.proofs.Common.{◌≡◌, ℕ, zero, suc, ◌<◌, ◌≤◌, ◌+◌, Bool, true, false, cond, eqb, ltb, ◌||◌, List, [], ◌∷◌, ◌++◌, length, map, refl, sym, ap, ◌∙◌, arith, Some, None, not}
 use Rattle.std.specs.List.{AllByRecursion, position, position_or_len}
-use Rattle.std.specs.Prelude.{slice_set}
+use Rattle.std.specs.Prelude.{Contains, slice_set}
 use Rattle.std.proofs.lemmas.Bool.Decides.{nat_tests}
 use Rattle.std.proofs.lemmas.List.Folds.{list_any-append}
 use Rattle.re_labels.specs.ConfigurationLaws.{SupportLaw}
@@ -59,9 +59,25 @@ pub IsLabelSet-support_of : (n : ℕ) (config : List ℕ) → AllByRecursion (λ
 IsLabelSet-support_of n [] h = (tt, tt)
 IsLabelSet-support_of n (x ∷ config) h = IsLabelSet-with_label n (support_of config) x h.0 (IsLabelSet-support_of n config h.1)
 
-rising-support_of : (config : List ℕ) → IsRising (λ x y. x < y) (support_of config)
+pub rising-support_of : (config : List ℕ) → IsRising (λ x y. x < y) (support_of config)
 rising-support_of [] = tt
 rising-support_of (x ∷ config) = rising-with_label (support_of config) x (rising-support_of config)
+
+pub Contains-support_of : (config : List ℕ) (x : ℕ) → Contains config x → Contains (support_of config) x
+Contains-support_of config x held = has-IsIn (support_of config) x (has-support_of config x ∙ IsIn-has config x held)
+
+pub length-with_label_most : (s : List ℕ) (x : ℕ) → length (with_label s x) ≤ suc (length s)
+length-with_label_most [] x = omega arith
+length-with_label_most (y ∷ s) x = at (ltb x y) (eqb x y) (length-with_label_most s x)
+  where
+    at : (b c : Bool) → length (with_label s x) ≤ suc (length s) → length (cond b (x ∷ y ∷ s) (cond c (y ∷ s) (y ∷ with_label s x))) ≤ suc (suc (length s))
+    at true c rest = omega arith
+    at false true rest = omega arith
+    at false false rest = omega (arith, rest)
+
+pub length-support_of_most : (config : List ℕ) → length (support_of config) ≤ length config
+length-support_of_most [] = omega arith
+length-support_of_most (x ∷ config) = omega (arith, length-with_label_most (support_of config) x, length-support_of_most config)
 
 -- one label more at the end
 pub support_of-push : (config : List ℕ) (x : ℕ) → support_of (config ++ x ∷ []) ≡ with_label (support_of config) x

@@ -10,7 +10,7 @@ use Rattle.std.proofs.lemmas.Bool.Decides.{leb_tells, eqb_tells}
 use Rattle.re_labels.proofs.Rearranging.{Rearranged-map, Rearranged-refl, length-Rearranged}
 use Rattle.re_labels.specs.Configs.{IsConfig, inserted, sorted}
 use Rattle.re_labels.specs.Rearranging.{Rearranged, chained, kept, swapped, unmoved}
-use Rattle.re_labels.specs.Lists.{IsRising}
+use Rattle.re_labels.specs.Lists.{IsRising, count_from}
 use Rattle.re_labels.specs.declared.TheConstants.{MAX_LABELS}
 
 pub inserted_low : (x y : ℕ) (xs : List ℕ) → x ≤ y → inserted x (y ∷ xs) ≡ x ∷ y ∷ xs
@@ -19,7 +19,7 @@ inserted_low x y xs h = elim (leb_tells x y) [ inl t ↦ rw t.0 | inr t ↦ absu
 pub inserted_high : (x y : ℕ) (xs : List ℕ) → y < x → inserted x (y ∷ xs) ≡ y ∷ inserted x xs
 inserted_high x y xs h = elim (leb_tells x y) [ inl t ↦ absurd (omega (arith, t.1)) | inr t ↦ rw t.0 ]
 
-or_lower : (x y : ℕ) → (x ≤ y) ⊎ (y < x)
+pub or_lower : (x y : ℕ) → (x ≤ y) ⊎ (y < x)
 or_lower x y = elim (leb_tells x y) [ inl t ↦ inl t.1 | inr t ↦ inr t.1 ]
 
 same_number : (x y : ℕ) → x ≤ y → y ≤ x → x ≡ y
@@ -138,9 +138,15 @@ none_below x y ys h r = elim (eqb_tells y x) [
   | inr t ↦ ap (λ b. cond b 1 0 + times x ys) t.0 ∙ ap (λ m. 0 + m) (all_below x y ys h r)
 ]
 
-tail_rises : (x : ℕ) (xs : List ℕ) → IsRising (λ x y. x ≤ y) (x ∷ xs) → IsRising (λ x y. x ≤ y) xs
+pub tail_rises : (x : ℕ) (xs : List ℕ) → IsRising (λ x y. x ≤ y) (x ∷ xs) → IsRising (λ x y. x ≤ y) xs
 tail_rises x [] h = tt
 tail_rises x (y ∷ xs) h = h.1
+
+-- the numbers from the first one on
+pub count_from_rises : (i n : ℕ) → IsRising (λ x y. x ≤ y) (count_from i n)
+count_from_rises i zero = tt
+count_from_rises i (suc zero) = tt
+count_from_rises i (suc (suc n)) = (omega arith, count_from_rises (suc i) (suc n))
 
 -- two lists in order, with each number as often, are one
 same_times : (xs ys : List ℕ) → IsRising (λ x y. x ≤ y) xs → IsRising (λ x y. x ≤ y) ys → ((x : ℕ) → times x xs ≡ times x ys) → xs ≡ ys

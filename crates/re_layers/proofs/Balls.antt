@@ -3,8 +3,8 @@ use Rattle.std.proofs.Common.{◌≡◌, ℕ, zero, suc, ◌+◌, ◌*◌, ◌�
 use Rattle.std.specs.Prelude.{Contains, ◌==◌, flat_map, if◌then◌else◌}
 use Rattle.std.proofs.Math.Nat.{mul-le-mul_right}
 use Rattle.std.proofs.lemmas.Bool.{eqb-true}
-use Rattle.re_labels.proofs.Membership.{Contains-cases, Contains-filter, Contains-filter_cases, Contains-flat_map, Contains-flat_map_cases, Contains-here, Contains-later, Contains-none}
-use Rattle.re_layers.proofs.Membership.{length-filter_most, length-pieces}
+use Rattle.re_labels.proofs.Membership.{Contains-cases, Contains-filter, Contains-filter_cases, Contains-flat_map, Contains-flat_map_cases, Contains-here, Contains-later, Contains-none, length-filter_most}
+use Rattle.re_layers.proofs.Membership.{length-pieces}
 use Rattle.re_layers.specs.Networks.{IsForest, Network, ball, branch, others}
 
 -- ---- the neighbours but one

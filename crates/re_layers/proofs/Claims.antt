@@ -8,22 +8,23 @@ use Rattle.re_layers.proofs.Trails.{length-trail}
 use Rattle.re_labels.proofs.Membership.{Contains-cases, Contains-filter, Contains-filter_cases, Contains-flat_map, Contains-flat_map_cases, Contains-here, Contains-none}
 use Rattle.re_labels.proofs.Tests.{and-true, eqb-same, eqb-true, true-and}
 
-pub any_true : (test : ℕ → Bool) (n i : ℕ) → i < n → test i ≡ true → any_below test n ≡ true
-any_true test zero i l h = absurd (omega arith)
-any_true test (suc n) i l h = at (test n) refl (λ l'. any_true test n i l' h)
+pub any_true : (b : ℕ → Bool) (n x : ℕ) → x < n → b x ≡ true → any_below b n ≡ true
+any_true b zero x l passes = absurd (omega arith)
+any_true b (suc n) zero l passes = ap (λ t. t || any_below (λ x. b (suc x)) n) passes
+any_true b (suc n) (suc x) l passes = after (b 0) (any_true (λ x. b (suc x)) n x (omega arith) passes)
   where
-    at : (b : Bool) → test n ≡ b → (i < n → any_below test n ≡ true) → (b || any_below test n) ≡ true
-    at true e rest = refl
-    at false e rest = rest (let other : i ≡ n → ⊥ = λ same. (let wrong : test n ≡ true = subst (λ j. test j ≡ true) same h in false≢true (sym e ∙ wrong)) in omega (arith, l, other))
+    after : (t : Bool) → any_below (λ x. b (suc x)) n ≡ true → (t || any_below (λ x. b (suc x)) n) ≡ true
+    after true e = refl
+    after false e = e
 
-pub any_cases : (test : ℕ → Bool) (n : ℕ) → any_below test n ≡ true → (i : ℕ) × (i < n) × (test i ≡ true)
-any_cases test zero h = absurd (false≢true h)
-any_cases test (suc n) h = at (test n) refl h (any_cases test n)
+pub any_found : (b : ℕ → Bool) (n : ℕ) → any_below b n ≡ true → (x : ℕ) × (x < n) × (b x ≡ true)
+any_found b zero e = absurd (false≢true e)
+any_found b (suc n) e = go (b 0) refl e (any_found (λ x. b (suc x)) n)
   where
-    at : (b : Bool) → test n ≡ b → (b || any_below test n) ≡ true → (any_below test n ≡ true → (i : ℕ) × (i < n) × (test i ≡ true))
-        → (i : ℕ) × (i < suc n) × (test i ≡ true)
-    at true e h rest = (n, omega arith, e)
-    at false e h rest = let (i, l, passes) = rest h in (i, omega (arith, l), passes)
+    go : (t : Bool) → b 0 ≡ t → (t || any_below (λ x. b (suc x)) n) ≡ true
+        → (any_below (λ x. b (suc x)) n ≡ true → (x : ℕ) × (x < n) × (b (suc x) ≡ true)) → (x : ℕ) × (x < suc n) × (b x ≡ true)
+    go true here e further = (0, omega arith, here)
+    go false here e further = let (x, l, passes) = further e in (suc x, omega arith, passes)
 
 leading_held : (xs : List (List ℕ)) (own : List ℕ) → Contains xs own → Contains xs (leading xs)
 leading_held [] own held = absurd (Contains-none own held)
@@ -109,7 +110,7 @@ module _ (G : Network) (alive chosen : ℕ → Bool) (k : ℕ) where
   gathered_cases v own held =
       let (u, near, there) = Contains-flat_map_cases (claim_on G alive chosen k v) (ball G k v) own held in
       let (claimed, passes) = Contains-filter_cases (on_it v) (claim G alive chosen k u) own there in
-      let (i, l, e) = any_cases (λ i. eqb (get_or own (suc i) 0) v) k passes in
+      let (i, l, e) = any_found (λ i. eqb (get_or own (suc i) 0) v) k passes in
       record { claimer = u; near = near; claimed = claimed; place = i; within = l; here = eqb-true (get_or own (suc i) 0) v e }
 
   pub owned_cases : (v : ℕ) → (owned G alive chosen k v ≡ []) ⊎ IsOwned v (owned G alive chosen k v)

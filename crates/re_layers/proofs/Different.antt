@@ -5,8 +5,7 @@ use Rattle.std.proofs.lemmas.Bool.Decides.{eqb_tells}
 use Rattle.std.proofs.lemmas.List.Elements.{Contains-append_left, Contains-append_right}
 use Rattle.re_layers.specs.Networks.{AreDifferent, IsForest, Network, branch, others}
 use Rattle.re_labels.proofs.Membership.{Contains-cases, Contains-filter_cases, Contains-flat_map, Contains-flat_map_cases, Contains-here, Contains-later, Contains-none}
-use Rattle.re_labels.proofs.Tests.{eqb-true}
-use Rattle.re_layers.proofs.Filters.{not-true}
+use Rattle.re_labels.proofs.Tests.{eqb-true, not-true}
 use Rattle.re_layers.proofs.Balls.{others_near}
 
 -- ---- lists in which nothing stands twice

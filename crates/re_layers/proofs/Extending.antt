@@ -8,8 +8,7 @@ use Rattle.std.proofs.lemmas.List.{length-map}
 use Rattle.std.proofs.lemmas.List.Elements.{Contains-append_cases, Contains-append_left, Contains-append_right}
 use Rattle.std.proofs.lemmas.Nat.{div-mul-add, mod-mul-add}
 use Rattle.re_layers.proofs.Different.{Different-filter}
-use Rattle.re_labels.proofs.Membership.{Contains-cases, Contains-filter, Contains-filter_cases, Contains-map, Contains-none}
-use Rattle.re_layers.proofs.Membership.{length-filter_most}
+use Rattle.re_labels.proofs.Membership.{Contains-cases, Contains-filter, Contains-filter_cases, Contains-map, Contains-none, length-filter_most}
 use Rattle.re_layers.proofs.NodeNumbers.{kind, place}
 use Rattle.re_layers.proofs.RegularTrees.{first_places, whole, whole_apart, whole_both, whole_full, whole_turns, whole_ups}
 use Rattle.re_layers.proofs.Rooted.{Different-append}

@@ -57,7 +57,7 @@ hashed_coloured {a} {p} d b colour G is coloured = record {
         let one : digit v i ≡ digit w i = same i (omega (arith, l, few)) in
         false≢true (sym fails ∙ (ap (λ t. passes t (colour G w)) one ∙ holds))
 
-more_colours : (d C D : ℕ) (G : Network) (colour : ℕ → ℕ) → C ≤ D → IsColoured d C G colour → IsColoured d D G colour
+pub more_colours : (d C D : ℕ) (G : Network) (colour : ℕ → ℕ) → C ≤ D → IsColoured d C G colour → IsColoured d D G colour
 more_colours d C D G colour l is = record { below = λ v. (let low = is.below v in omega (arith, l, low)); apart = is.apart }
 
 -- ---- all steps

@@ -1,6 +1,6 @@
 -- Filters of lists, and tests.
 use Rattle.std.proofs.Common.{◌≡◌, ℕ, zero, suc, ◌≤◌, Bool, true, false, cond, List, [], ◌∷◌, length, get_or, refl, sym, ap, ◌∙◌, arith, ◌⊎◌, inl, inr}
-use Rattle.std.specs.Prelude.{Contains, filter, not}
+use Rattle.std.specs.Prelude.{Contains, filter}
 use Rattle.std.proofs.lemmas.Bool.{false≢true}
 use Rattle.re_labels.proofs.Membership.{Contains-here, Contains-later}
 
@@ -46,10 +46,6 @@ single (x ∷ []) d e = refl
 single (x ∷ y ∷ xs) d e = absurd (omega (arith, e))
 
 -- ---- tests
-pub not-true : (a : Bool) → not a ≡ true → a ≡ false
-not-true true e = absurd (false≢true e)
-not-true false e = refl
-
 pub either : (a : Bool) → (a ≡ true) ⊎ (a ≡ false)
 either true = inl refl
 either false = inr refl

@@ -3,8 +3,7 @@ use Rattle.std.proofs.Common.{◌≡◌, ℕ, zero, suc, ◌≤◌, ◌<◌, Boo
 use Rattle.std.specs.Prelude.{Contains, ◌==◌, filter}
 use Rattle.std.specs.List.{list_any}
 use Rattle.std.proofs.lemmas.Bool.{eq-eqb, eqb-true, ne_eqb, or_cases, or_left, or_right}
-use Rattle.re_labels.proofs.Membership.{Contains-cases, Contains-filter, Contains-here, Contains-later, Contains-none}
-use Rattle.re_layers.proofs.Membership.{length-filter_most}
+use Rattle.re_labels.proofs.Membership.{Contains-cases, Contains-filter, Contains-here, Contains-later, Contains-none, length-filter_most}
 
 -- ---- whether a list holds a number
 abbrev pub holds : List ℕ → ℕ → Bool

@@ -4,8 +4,7 @@ use Rattle.std.specs.Prelude.{Contains, filter}
 use Rattle.std.proofs.lemmas.Bool.{cond-true, leb-true, le-leb}
 use Rattle.re_layers.proofs.Different.{Different-filter}
 use Rattle.re_layers.proofs.Filters.{filter_all}
-use Rattle.re_labels.proofs.Membership.{Contains-filter, Contains-filter_cases, Contains-none}
-use Rattle.re_layers.proofs.Membership.{length-filter_most}
+use Rattle.re_labels.proofs.Membership.{Contains-filter, Contains-filter_cases, Contains-none, length-filter_most}
 use Rattle.re_layers.specs.Full.{IsFull}
 use Rattle.re_layers.specs.Networks.{AreDifferent, Network}
 

@@ -6,8 +6,7 @@ use Rattle.re_layers.specs.Networks.{AreDifferent, IsForest, Network, branch, ot
 use Rattle.re_layers.proofs.Different.{Different-filter, branch_longer, branch_short, branch_some, left_most, length-piece, length-two_pieces, near_different}
 use Rattle.re_layers.proofs.Peeling.{clear, living, next, onward}
 use Rattle.re_layers.proofs.Ways.{clear_alive, clear_here, clear_next, clear_on, onward_cases, onward_kept, onward_later, onward_lost, onward_whole}
-use Rattle.re_labels.proofs.Membership.{Contains-here, Contains-later}
-use Rattle.re_layers.proofs.Membership.{length-filter_most}
+use Rattle.re_labels.proofs.Membership.{Contains-here, Contains-later, length-filter_most}
 use Rattle.re_layers.proofs.Filters.{either, le_cases}
 
 -- which nodes are alive at each time, and when rounds begin: fewer and fewer are; in a round leaves die, and so does the first of k inner nodes of a

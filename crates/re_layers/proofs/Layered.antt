@@ -10,8 +10,7 @@ use Rattle.re_layers.proofs.Peeling.{claim, clear, nonempty, living, onward, tra
 use Rattle.re_layers.proofs.Rounds.{Plan, alive, chosen, dies, path_at, period, raked, removed_cases, removed_path, turn, turn_low}
 use Rattle.re_layers.proofs.Trails.{length-trail, node, node_first, node_second, trail_alive, trail_apart, trail_near, trail_onward}
 use Rattle.re_layers.proofs.Ways.{onward_cases}
-use Rattle.re_labels.proofs.Membership.{AllByRecursion-from_contains, Contains-cases, Contains-filter, Contains-filter_cases, Contains-here, Contains-none}
-use Rattle.re_layers.proofs.Membership.{filter-alike}
+use Rattle.re_labels.proofs.Membership.{AllByRecursion-from_contains, Contains-cases, Contains-filter, Contains-filter_cases, Contains-here, Contains-none, filter-alike}
 use Rattle.re_labels.proofs.Tests.{eqb-true}
 use Rattle.re_layers.proofs.Filters.{either}
 use Rattle.re_layers.proofs.Balls.{ball_back, ball_join, ball_most, ball_near}

@@ -5,8 +5,7 @@ use Rattle.std.proofs.Math.Nat.{mul-le-mul_right}
 use Rattle.re_layers.specs.Networks.{AreSame, IsLocal, Network, ball}
 use Rattle.re_layers.proofs.LastSteps.{layer, layer_upto, path}
 use Rattle.re_layers.proofs.Locality.{same_active, same_ball, same_fewer, same_near}
-use Rattle.re_labels.proofs.Membership.{Contains-filter_cases, Contains-here}
-use Rattle.re_layers.proofs.Membership.{filter-alike, flat_map-alike}
+use Rattle.re_labels.proofs.Membership.{Contains-filter_cases, Contains-here, filter-alike, flat_map-alike}
 use Rattle.re_layers.proofs.Peeling.{any_below, claim, claim_on, clear, leading, living, next, onward, owned, removed, trail, walk_from}
 use Rattle.re_layers.proofs.Rounds.{Plan, alive, chosen, path_at, period, raked, removed_at}
 

@@ -2,8 +2,7 @@
 use Rattle.std.proofs.Common.{◌≡◌, ℕ, zero, suc, ◌+◌, ◌≤◌, Bool, not, List, [], ◌∷◌, map, refl, sym, ap, ap₂, ◌∙◌, subst, arith, inl, inr, suc-add}
 use Rattle.std.specs.Prelude.{Contains, ◌==◌, filter, flat_map}
 use Rattle.re_layers.proofs.Balls.{others_near}
-use Rattle.re_labels.proofs.Membership.{AllByRecursion-contains, AllByRecursion-weaker, Contains-cases, Contains-filter_cases, Contains-flat_map_cases, Contains-none, map-alike}
-use Rattle.re_layers.proofs.Membership.{flat_map-alike}
+use Rattle.re_labels.proofs.Membership.{AllByRecursion-contains, AllByRecursion-weaker, Contains-cases, Contains-filter_cases, Contains-flat_map_cases, Contains-none, flat_map-alike, map-alike}
 use Rattle.re_layers.specs.Networks.{AreSame, IsLocal, Network, ball, branch, others}
 
 -- ---- fewer hops show less
@@ -65,24 +64,10 @@ same_ball G H (suc k) r v same =
 pub local_most : {X : Type 0} (r T : ℕ) (f : Network → ℕ → X) → r ≤ T → IsLocal r f → IsLocal T f
 local_most r T f l is G H v same = is G H v (same_fewer G H r T v l same)
 
-pub local_active : (T : ℕ) → IsLocal T (λ G v. G.active v)
-local_active T G H v same = same_active G H T v same
-
-pub local_ports : (T : ℕ) → IsLocal (suc T) (λ G v. G.near v)
-local_ports T G H v same = same.1
-
-pub local_ball : (k r : ℕ) → IsLocal (k + r) (λ G v. ball G k v)
-local_ball k r G H v same = (same_ball G H k r v same).0
-
 -- what is made of two local things
 pub local_of : {X Y Z : Type 0} (T : ℕ) (h : X → Y → Z) (f : Network → ℕ → X) (g : Network → ℕ → Y)
     → IsLocal T f → IsLocal T g → IsLocal T (λ G v. h (f G v) (g G v))
 local_of T h f g is also G H v same = ap₂ h (is G H v same) (also G H v same)
-
--- what the neighbours have
-pub local_near : {X : Type 0} (T : ℕ) (f : Network → ℕ → X) → IsLocal T f → IsLocal (suc T) (λ G v. map (λ w. f G w) (G.near v))
-local_near T f is G H v same =
-    map-alike (λ w. f G w) (λ w. f H w) (G.near v) (λ w held. is G H w (same_near G H T v w same held)) ∙ ap (λ near. map (λ w. f H w) near) same.1
 
 -- what those nodes of a ball have that pass a test
 pub local_among : {X : Type 0} (k r : ℕ) (test : ℕ → ℕ → Bool) (f : Network → ℕ → X) → IsLocal r f

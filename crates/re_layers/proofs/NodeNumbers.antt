@@ -1,5 +1,5 @@
 -- Numbers of active and passive nodes: even ones and odd ones.
-use Rattle.std.proofs.Common.{◌≡◌, ℕ, suc, ◌+◌, ◌*◌, ◌/◌, ◌%◌, ◌≤◌, ◌<◌, Bool, true, false, eqb, refl, ap, ◌∙◌, inl, inr, arith}
+use Rattle.std.proofs.Common.{◌≡◌, ℕ, suc, ◌+◌, ◌*◌, ◌/◌, ◌%◌, ◌≤◌, ◌<◌, Bool, true, false, eqb, ap, ◌∙◌, inl, inr, arith}
 use Rattle.std.specs.Prelude.{not}
 use Rattle.std.proofs.lemmas.Bool.Decides.{eqb_tells}
 
@@ -32,10 +32,6 @@ kind_number false i = let e : suc (2 * i) % 2 ≡ 1 = omega arith in ap (λ r. e
 pub place_number : (k : Bool) (i : ℕ) → place (number k i) ≡ i
 place_number true i = omega arith
 place_number false i = omega arith
-
-pub not_not : (k : Bool) → not (not k) ≡ k
-not_not true = refl
-not_not false = refl
 
 pub number_later : (k : Bool) (i j : ℕ) → j ≤ i → number (not k) j < number k (suc i)
 number_later true i j l = omega arith

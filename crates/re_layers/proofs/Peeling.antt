@@ -6,7 +6,7 @@ use Rattle.re_layers.specs.Networks.{Network, ball}
 -- some number below n passes the test
 abbrev pub any_below : (ℕ → Bool) → ℕ → Bool
 any_below test zero = false
-any_below test (suc n) = test n || any_below test n
+any_below test (suc n) = test 0 || any_below (λ i. test (suc i)) n
 
 -- the first list, or the empty one
 abbrev pub leading : List (List ℕ) → List ℕ

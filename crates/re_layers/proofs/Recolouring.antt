@@ -6,8 +6,7 @@ use Rattle.std.proofs.lemmas.List.{length-map}
 use Rattle.re_layers.proofs.Balls.{ball_back, ball_size, length-ball_forest}
 use Rattle.re_layers.proofs.FreeNumbers.{free, free_most, free_other}
 use Rattle.re_layers.proofs.Locality.{local_among, local_most, local_of}
-use Rattle.re_labels.proofs.Membership.{Contains-filter, Contains-map}
-use Rattle.re_layers.proofs.Membership.{length-filter_most}
+use Rattle.re_labels.proofs.Membership.{Contains-filter, Contains-map, length-filter_most}
 use Rattle.re_layers.specs.Layers.{IsColoured}
 use Rattle.re_layers.specs.Networks.{IsForest, IsLocal, Network, ball}
 

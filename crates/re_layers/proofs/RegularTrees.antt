@@ -7,7 +7,8 @@ use Rattle.std.proofs.lemmas.Bool.Decides.{eqb_tells}
 use Rattle.std.proofs.lemmas.Nat.{div-add-mod', div-mul-add}
 use Rattle.re_layers.proofs.Full.{cut, cut_cases, cut_different, cut_fewer, cut_held}
 use Rattle.re_labels.proofs.Membership.{Contains-cases, Contains-here, Contains-later, Contains-none}
-use Rattle.re_layers.proofs.NodeNumbers.{kind, kind_number, not_not, number, number_later, number_least, number_most, number_of, number_same, place, place_number}
+use Rattle.re_labels.proofs.Tests.{not_not}
+use Rattle.re_layers.proofs.NodeNumbers.{kind, kind_number, number, number_later, number_least, number_most, number_of, number_same, place, place_number}
 use Rattle.re_layers.proofs.Rooted.{ball_different}
 use Rattle.re_layers.specs.Networks.{AreDifferent, IsForest, Network}
 

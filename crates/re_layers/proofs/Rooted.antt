@@ -4,8 +4,7 @@ use Rattle.std.specs.Prelude.{Contains, flat_map, not}
 use Rattle.std.proofs.lemmas.List.Elements.{Contains-append_cases}
 use Rattle.re_layers.proofs.Balls.{others_near}
 use Rattle.re_layers.proofs.Different.{Different-filter}
-use Rattle.re_labels.proofs.Tests.{eqb-same}
-use Rattle.re_layers.proofs.Filters.{not-true}
+use Rattle.re_labels.proofs.Tests.{eqb-same, not-true}
 use Rattle.re_labels.proofs.Membership.{Contains-cases, Contains-filter_cases, Contains-flat_map_cases, Contains-here, Contains-later, Contains-none}
 use Rattle.re_layers.specs.Networks.{AreDifferent, Network, ball, branch, others}
 use Rattle.std.proofs.lemmas.Bool.{false≢true}

@@ -9,8 +9,8 @@ use Rattle.re_layers.proofs.Growth.{Shrinking}
 use Rattle.re_layers.proofs.Peeling.{clear, nonempty, living, owned, removed}
 use Rattle.re_layers.proofs.Trails.{node, node_second}
 use Rattle.re_labels.proofs.Membership.{Contains-filter}
-use Rattle.re_labels.proofs.Tests.{and-true, eqb-same, true-and}
-use Rattle.re_layers.proofs.Filters.{either, le_cases, length-filter_le, not-true}
+use Rattle.re_labels.proofs.Tests.{and-true, eqb-same, not-true, true-and}
+use Rattle.re_layers.proofs.Filters.{either, le_cases, length-filter_le}
 use Rattle.re_layers.proofs.Balls.{ball_own}
 
 -- a colouring, the number of its colours, and how many inner nodes a path has

@@ -3,22 +3,10 @@ use Rattle.std.proofs.Common.{◌≡◌, ℕ, zero, suc, ◌+◌, ◌*◌, ◌^�
 use Rattle.std.proofs.Math.Nat.{mul-le-mul_right, mul_assoc, one-le-pow, pow-succ', pow-zero}
 use Rattle.std.proofs.lemmas.Bool.{and_from, or_left, or_right}
 use Rattle.std.proofs.lemmas.Bool.Decides.{eqb_tells}
+use Rattle.re_layers.proofs.Claims.{any_true}
+use Rattle.re_layers.proofs.Peeling.{any_below}
 use Rattle.re_labels.proofs.Tests.{eqb-same}
-use Rattle.re_local.proofs.Counting.{
-  any_below,
-  any_true,
-  count,
-  count-any,
-  count-or,
-  count_large,
-  count_one,
-  one_if,
-  total,
-  total-const,
-  total-le,
-  total-swap,
-  total_within,
-}
+use Rattle.re_local.proofs.Counting.{count, count-any, count-or, count_large, count_one, one_if, total, total-const, total-le, total-swap, total_within}
 use Rattle.re_local.specs.Hypergraphs.{Hyper, On, Walk, one, step}
 
 -- a point stands at one of the first r places

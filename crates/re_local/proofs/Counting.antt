@@ -3,6 +3,7 @@ use Rattle.std.proofs.Common.{◌≡◌, ℕ, zero, suc, ◌+◌, ◌*◌, ◌�
 use Rattle.std.proofs.Math.Nat.{mul-le-mul_left}
 use Rattle.std.proofs.lemmas.Bool.{false≢true}
 use Rattle.std.proofs.lemmas.Bool.Decides.{eqb_tells, leb_tells}
+use Rattle.re_layers.proofs.Peeling.{any_below}
 
 -- the sum of f over the numbers below n
 abbrev pub total : (ℕ → ℕ) → ℕ → ℕ
@@ -16,11 +17,6 @@ one_if t = cond t 1 0
 -- how many numbers below n pass the test
 abbrev pub count : (ℕ → Bool) → ℕ → ℕ
 count b n = total (λ x. cond (b x) 1 0) n
-
--- some number below n passes the test
-abbrev pub any_below : (ℕ → Bool) → ℕ → Bool
-any_below b zero = false
-any_below b (suc n) = b 0 || any_below (λ x. b (suc x)) n
 
 -- all numbers below n pass the test
 abbrev pub all_below : (ℕ → Bool) → ℕ → Bool
@@ -189,24 +185,6 @@ count_large f c n = total_beyond (λ x. leb c (f x)) f c n (λ x l. elim (leb_te
 ])
 
 -- ---- some and all
-pub any_true : (b : ℕ → Bool) (n x : ℕ) → x < n → b x ≡ true → any_below b n ≡ true
-any_true b zero x l passes = absurd (omega arith)
-any_true b (suc n) zero l passes = ap (λ t. t || any_below (λ x. b (suc x)) n) passes
-any_true b (suc n) (suc x) l passes = after (b 0) (any_true (λ x. b (suc x)) n x (omega arith) passes)
-  where
-    after : (t : Bool) → any_below (λ x. b (suc x)) n ≡ true → (t || any_below (λ x. b (suc x)) n) ≡ true
-    after true e = refl
-    after false e = e
-
-pub any_found : (b : ℕ → Bool) (n : ℕ) → any_below b n ≡ true → (x : ℕ) × (x < n) × (b x ≡ true)
-any_found b zero e = absurd (false≢true e)
-any_found b (suc n) e = go (b 0) refl e (any_found (λ x. b (suc x)) n)
-  where
-    go : (t : Bool) → b 0 ≡ t → (t || any_below (λ x. b (suc x)) n) ≡ true
-        → (any_below (λ x. b (suc x)) n ≡ true → (x : ℕ) × (x < n) × (b (suc x) ≡ true)) → (x : ℕ) × (x < suc n) × (b x ≡ true)
-    go true here e further = (0, omega arith, here)
-    go false here e further = let (x, l, passes) = further e in (suc x, omega arith, passes)
-
 pub all_at : (b : ℕ → Bool) (n x : ℕ) → x < n → all_below b n ≡ true → b x ≡ true
 all_at b zero x l e = absurd (omega arith)
 all_at b (suc n) x l e = go (b 0) refl e x l (all_at (λ x. b (suc x)) n)

@@ -3,10 +3,10 @@ use Rattle.std.proofs.Common.{◌<◌, ℕ, ◌∷◌, refl, sym, subst, arith, 
 use Rattle.std.specs.List.{AllByRecursion}
 use Rattle.re_labels.specs.Orders.{placements}
 use Rattle.re_labels.specs.Sets.{set_of}
-use Rattle.re_given.proofs.Worked.{back_relaxed, turn, twice_is, two_steps}
+use Rattle.re_given.proofs.Worked.{back_relaxed, turn}
 use Rattle.re_given.specs.Unavoidable.{reached}
 use Rattle.re_laws.proofs.SlowRounds.{Solvable-from_derived}
-use Rattle.re_laws.proofs.Worked.{relaxed_sinkless_not_solvable}
+use Rattle.re_laws.proofs.Worked.{relaxed_sinkless_not_solvable, twice_is, two_steps}
 use Rattle.re_laws.proofs.ZeroRounds.{Solvable-zero}
 use Rattle.re_laws.specs.Chains as chain
 use Rattle.re_laws.specs.Chains.{IsLowerChain}

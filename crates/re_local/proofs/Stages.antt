@@ -3,9 +3,10 @@ use Rattle.std.proofs.Common.{◌≡◌, ℕ, suc, ◌+◌, ◌*◌, ◌^◌, �
 use Rattle.std.proofs.Math.Nat.{mul-le-mul_right, mul_comm, pow-succ', pow-zero}
 use Rattle.std.proofs.lemmas.Bool.{and_cases, and_parts, cases_order, eqb-true, false≢true, leb-false, not-false}
 use Rattle.std.proofs.lemmas.Bool.Decides.{leb_tells}
+use Rattle.re_layers.proofs.Claims.{any_found}
 use Rattle.re_local.proofs.Balls.{Near, ball, ball_holds, ball_small, edges_at, near_turned, stands, stay}
 use Rattle.re_local.proofs.Choosing.{Chosen, choose, holding_all, holds, spread_below, spread_far, spread_free}
-use Rattle.re_local.proofs.Counting.{any_found, count, count-split, count_below}
+use Rattle.re_local.proofs.Counting.{count, count-split, count_below}
 use Rattle.re_local.proofs.Extended.{IsHyper-extended, extended, extended_sparse}
 use Rattle.re_local.proofs.Sets.{set}
 use Rattle.re_local.specs.Hypergraphs.{Hyper, IsHyper, IsSparse, Walk, one, step}

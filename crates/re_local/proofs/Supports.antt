@@ -1,24 +1,14 @@
 -- The set of labels of a list, which is as long as the list where nothing stands twice.
 use Rattle.std.proofs.Common.{◌≡◌, ℕ, suc, ◌≤◌, ◌<◌, Bool, true, false, cond, eqb, ltb, List, [], ◌∷◌, length, refl, sym, ◌∙◌, subst, arith, inl, inr}
 use Rattle.std.specs.Prelude.{Contains}
-use Rattle.re_labels.proofs.Replacing.{has-support_of}
+use Rattle.re_labels.proofs.Replacing.{Contains-support_of, length-support_of_most, length-with_label_most, rising-support_of}
 use Rattle.re_labels.specs.Configs.{support_of}
 use Rattle.re_given.proofs.Colourings.{first_below}
 use Rattle.re_labels.proofs.Membership.{Contains-cases, Contains-none, Distinct}
-use Rattle.re_labels.proofs.Numbers.{rising-with_label, rising_tail}
-use Rattle.re_labels.proofs.Sets.{IsIn-has, has-IsIn}
+use Rattle.re_labels.proofs.Numbers.{rising_tail}
 use Rattle.re_labels.proofs.Tests.{below-true, eqb-same}
 use Rattle.re_labels.specs.Lists.{IsRising}
 use Rattle.re_labels.specs.Sets.{with_label}
-
-with_label-most : (s : List ℕ) (x : ℕ) → length (with_label s x) ≤ suc (length s)
-with_label-most [] x = omega arith
-with_label-most (y ∷ s) x = at (ltb x y) (eqb x y) (with_label-most s x)
-  where
-    at : (b c : Bool) → length (with_label s x) ≤ suc (length s) → length (cond b (x ∷ y ∷ s) (cond c (y ∷ s) (y ∷ with_label s x))) ≤ suc (suc (length s))
-    at true c rest = omega arith
-    at false true rest = omega arith
-    at false false rest = omega (arith, rest)
 
 with_label-again : (s : List ℕ) (x : ℕ) → IsRising (λ x y. x < y) s → Contains s x → length (with_label s x) ≤ length s
 with_label-again [] x rises held = absurd (Contains-none x held)
@@ -36,30 +26,19 @@ with_label-again (y ∷ s) x rises held = at (ltb x y) (eqb x y) refl refl (λ l
       | inr later ↦ (let fewer = rest later in omega (arith, fewer))
     ]
 
-support_rises : (xs : List ℕ) → IsRising (λ x y. x < y) (support_of xs)
-support_rises [] = tt
-support_rises (x ∷ xs) = rising-with_label (support_of xs) x (support_rises xs)
-
-support-most : (xs : List ℕ) → length (support_of xs) ≤ length xs
-support-most [] = omega arith
-support-most (x ∷ xs) = let rest = support-most xs in let one = with_label-most (support_of xs) x in omega (arith, rest, one)
-
-pub in_support : (xs : List ℕ) (x : ℕ) → Contains xs x → Contains (support_of xs) x
-in_support xs x held = has-IsIn (support_of xs) x (has-support_of xs x ∙ IsIn-has xs x held)
-
 -- as many labels as places: none stands twice
 pub Distinct-support : (xs : List ℕ) → length (support_of xs) ≡ length xs → Distinct xs
 Distinct-support [] e = tt
 Distinct-support (x ∷ xs) e =
-    let most = support-most xs in
-    let one = with_label-most (support_of xs) x in (
-      λ held. (let again = with_label-again (support_of xs) x (support_rises xs) (in_support xs x held) in absurd (omega (arith, again, most, e))),
+    let most = length-support_of_most xs in
+    let one = length-with_label_most (support_of xs) x in (
+      λ held. (let again = with_label-again (support_of xs) x (rising-support_of xs) (Contains-support_of xs x held) in absurd (omega (arith, again, most, e))),
       Distinct-support xs (omega (arith, most, one, e)),
     )
 
 -- one label: all are it
 pub alike_support : (xs : List ℕ) (y z : ℕ) → length (support_of xs) ≡ 1 → Contains xs y → Contains xs z → y ≡ z
-alike_support xs y z e held held' = one (support_of xs) e (in_support xs y held) (in_support xs z held')
+alike_support xs y z e held held' = one (support_of xs) e (Contains-support_of xs y held) (Contains-support_of xs z held')
   where
     one : (s : List ℕ) → length s ≡ 1 → Contains s y → Contains s z → y ≡ z
     one [] f at at' = absurd (omega (arith, f))

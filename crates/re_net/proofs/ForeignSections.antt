@@ -10,12 +10,14 @@ use Rattle.re_problem.specs.ProblemTexts.{end_fault, fault_or}
 use Rattle.re_problem.specs.declared.fault.InputFault.{InputFault}
 use Rattle.re_problem.specs.declared.fault.InputFault.TheVariants.{BadSection}
 use Rattle.re_cert.specs.CertificateTexts.{Brought, State as CertificateState, has_ended, judged as judged_certificate, judged_in}
-use Rattle.re_cert.specs.SectionLines.{heading_in, heading_of, section_by, section_of}
+use Rattle.re_cert.specs.SectionLines.{heading_in, heading_of, section_named, section_of}
 use Rattle.re_cert.specs.declared.cert_reader.Phase.{Phase}
 use Rattle.re_cert.specs.declared.cert_reader.Phase.TheVariants as phase
 use Rattle.re_cert.specs.declared.sections.Section.TheVariants as section
 use Rattle.re_problem.specs.SectionLines.{is_section, name_in, words_of}
 use Rattle.re_net.specs.RunLines.{is_deliveries}
+use Rattle.re_cert.specs.declared.sections.Section.TheVariants.{Other}
+use Rattle.std.specs.Option.{option_map_or}
 
 -- what it brings in each phase
 abbrev foreign : Phase → CertificateState → Result Brought InputFault
@@ -85,7 +87,7 @@ unfolding section_of heading_of
 marked_foreign tail all = record {
   marked = refl;
   filled = refl;
-  section = ap section_by (ap name_in (two_words tail all));
+  section = ap (λ name. option_map_or section_named name Other) (ap name_in (two_words tail all));
   heading = ap heading_in (two_words tail all);
 }
 

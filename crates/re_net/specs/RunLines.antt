@@ -9,6 +9,7 @@ use Rattle.re_labels.specs.declared.sides.Side.TheVariants.{Active, Passive}
 use Rattle.re_problem.specs.SectionLines.{is_section, section_name, words_of}
 use Rattle.re_net.specs.declared.lines.Section.{Section}
 use Rattle.re_net.specs.declared.lines.Section.TheVariants.{Tree, Deliveries, Other}
+use Rattle.std.specs.Option.{option_map_or}
 
 -- ---- section lines
 abbrev pub section_named : List ℕ → Section
@@ -17,13 +18,9 @@ section_named name =
     else if bytes_eq name (codes "deliveries") then Deliveries
     else Other
 
-abbrev pub section_by : Option (List ℕ) → Section
-section_by None = Other
-section_by (Some name) = section_named name
-
 -- the section that the line begins: `== tree` or `== deliveries`
 unfoldable pub section_of : List ℕ → Section
-section_of line = if is_section line then section_by (section_name line) else Other
+section_of line = if is_section line then option_map_or section_named (section_name line) Other else Other
 
 -- whether the line is `== deliveries` with optional blanks behind it
 abbrev pub is_deliveries : List ℕ → Bool

@@ -12,12 +12,13 @@ use Rattle.re_cert.specs.CertificateTexts.{State as CertificateState, certificat
 use Rattle.re_cert.specs.declared.cert_reader.CertReader.{CertReader}
 use Rattle.re_net.specs.FiniteTrees.{FiniteTree, IsNumbered}
 use Rattle.re_net.specs.Rounds.{IsMessage}
-use Rattle.re_net.specs.RunTexts.{RunText, State, behind, degrees_of, ended, run_text}
+use Rattle.re_net.specs.RunTexts.{RunText, State, behind, ended, run_text}
 use Rattle.re_net.specs.RunTexts.State.{BehindEnd, AtRoot, InTree, InDeliveries}
 use Rattle.re_net.specs.declared.reading.Delivery.{Delivery}
 use Rattle.re_net.specs.declared.reading.Place.{Place}
 use Rattle.re_net.specs.declared.reading.Place.TheVariants as place
 use Rattle.re_net.specs.declared.run_texts.RunInput.{RunInput}
+use Rattle.re_problem.specs.NamedProblems.{degrees_of}
 
 -- the state that is held behind the certificate of this bound
 abbrev pub state_of : Bound → Place → State

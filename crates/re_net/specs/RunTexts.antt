@@ -2,9 +2,8 @@
 use Rattle.std.specs.Prelude.{ℕ, ◌+◌, ◌==◌, Bool, true, false, ◌||◌, List, [], ◌∷◌, ◌++◌, length, if◌then◌else◌, Option, None, Some, Result, Ok, Err}
 use Rattle.re_io.specs.LineReading.{LineText, line_bytes}
 use Rattle.re_problem.specs.Bytes.{is_empty_line}
-use Rattle.re_labels.specs.declared.sides.Degrees.{Degrees}
 use Rattle.re_labels.specs.declared.sides.Side.{Side}
-use Rattle.re_problem.specs.NamedProblems.{NamedProblem}
+use Rattle.re_problem.specs.NamedProblems.{degrees_of}
 use Rattle.re_problem.specs.ProblemTexts.{byte_fault, fault_or}
 use Rattle.re_problem.specs.declared.fault.InputFault.{InputFault}
 use Rattle.re_problem.specs.declared.fault.InputFault.TheVariants.{BadEntry, BadItem, BadSection, EarlyEnd, TooManyNodes}
@@ -48,10 +47,6 @@ tree_begins bound number Tree = Ok (AtRoot bound)
 tree_begins bound number section = Err (BadSection number)
 
 -- ---- the tree
--- the degrees are those of the first problem
-abbrev pub degrees_of : NamedProblem → Degrees
-degrees_of problem = record { active = problem.active.degree; passive = problem.passive.degree }
-
 -- the side of node 0
 abbrev pub takes_root : Bound → ℕ → Option Side → Result State InputFault
 takes_root bound number None = Err (BadItem number)

@@ -3,12 +3,13 @@ ghost use Rattle.re_cert.specs.declared.certificate.TheConstants.{MAX_STEPS};
 ghost use Rattle.re_io.specs.declared.read.TheConstants.{MAX_BYTES};
 ghost use Rattle.re_net.specs.FiniteTrees.{IsNumbered};
 ghost use Rattle.re_net.specs.RunReading.{AreMessages, Fits, Holds, state_of};
-ghost use Rattle.re_net.specs.RunTexts.{degrees_of, delivers, in_deliveries, joins, judged, judged_in, tree_ends};
+ghost use Rattle.re_net.specs.RunTexts.{delivers, in_deliveries, joins, judged, judged_in, tree_ends};
 ghost use Rattle.re_net.specs.RunTexts.State.{AtRoot, BehindEnd, InDeliveries, InTree};
 ghost use Rattle.re_net.specs.RunLines.{is_deliveries};
 ghost use Rattle.re_net.specs.TreeTests.{can_send as can_be_sent};
 ghost use Rattle.re_cert.specs.Bounds.{Bound};
 ghost use Rattle.std.specs.Prelude.{◌≡◌, ◌≤◌, ◌+◌, ◌||◌, length, true, ℕ};
+ghost use Rattle.re_problem.specs.NamedProblems.{degrees_of};
 
 use crate::lines::{
     Section, first_strange_byte, is_deliveries_line, read_root, read_section, read_three,

@@ -3,8 +3,9 @@ ghost use Rattle.re_cert.specs.CertificateTexts.{text_lines};
 ghost use Rattle.re_io.specs.declared.read.TheConstants.{MAX_BYTES};
 ghost use Rattle.re_net.specs.FiniteTrees.{IsNumbered};
 ghost use Rattle.re_net.specs.RunReading.{AreMessages, Fits, Holds, RestGives, RunGives, state_of};
-ghost use Rattle.re_net.specs.RunTexts.{behind, degrees_of};
+ghost use Rattle.re_net.specs.RunTexts.{behind};
 ghost use Rattle.std.specs.Prelude.{◌≡◌, ◌≤◌, ◌+◌, ◌-◌, IfOk, length};
+ghost use Rattle.re_problem.specs.NamedProblems.{degrees_of};
 
 use crate::certificate_part::certificate_end;
 use crate::reading::{Delivery, Place, judge};

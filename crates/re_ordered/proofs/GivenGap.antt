@@ -18,13 +18,9 @@ use Rattle.re_given.specs.Unavoidable.{IsUnavoidable, colouring}
 use Rattle.re_laws.proofs.ChainRounds.{Solvable-rounds}
 use Rattle.re_laws.proofs.MoreRounds.{Solvable-more}
 use Rattle.re_laws.specs.Algorithms.{Solvable}
-use Rattle.re_problem.proofs.DerivedProblem.{IsProblem-derived}
+use Rattle.re_problem.proofs.DerivedProblem.{IsProblem-derived_by}
 use Rattle.re_problem.specs.Derived.{derived_by}
-use Rattle.re_problem.specs.Problems.{IsProblem, Problem}
-
-IsProblem-derived_by : (k : ℕ) (problem : Problem) → IsProblem problem → IsProblem (derived_by k problem)
-IsProblem-derived_by zero problem is = is
-IsProblem-derived_by (suc k) problem is = IsProblem-derived (derived_by k problem) (IsProblem-derived_by k problem is)
+use Rattle.re_problem.specs.Problems.{Problem}
 
 -- what is unavoidable for lists below a tower is so for those below a lower one
 pub unavoidable_lower : (input : Problem) (h k : ℕ) → h ≤ k → IsUnavoidable input (tower k) → IsUnavoidable input (tower h)

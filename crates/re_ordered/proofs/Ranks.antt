@@ -6,7 +6,7 @@ use Rattle.std.proofs.lemmas.List.{get_or-map, get_or_default, length-map}
 use Rattle.std.proofs.lemmas.List.Elements.{Contains-get_or}
 use Rattle.std.proofs.lemmas.Bool.{le-ltb}
 use Rattle.re_labels.proofs.Rearranging.{Contains-Rearranged}
-use Rattle.re_labels.proofs.Sorting.{Rearranged-sorted, sorted_rises}
+use Rattle.re_labels.proofs.Sorting.{Rearranged-sorted, sorted_rises, tail_rises}
 use Rattle.re_labels.specs.Configs.{sorted}
 use Rattle.re_labels.specs.Rearranging.{Rearranged, chained, kept, swapped, unmoved}
 use Rattle.re_labels.proofs.Membership.{Contains-cases, Contains-here, Contains-later, Contains-map, Contains-map_cases, Contains-none, count_from_range, get_or-count_from, length-count_from}
@@ -128,13 +128,9 @@ above_first x (z ∷ xs) h y at = elim (Contains-cases y z xs at) [
   | inr there ↦ (let l = h.0 in let m = above_first z xs h.1 y there in omega (arith, l, m))
 ]
 
-rising_rest : (x : ℕ) (xs : List ℕ) → IsRising (λ x y. x ≤ y) (x ∷ xs) → IsRising (λ x y. x ≤ y) xs
-rising_rest x [] h = tt
-rising_rest x (y ∷ xs) h = h.1
-
 different_rising : (xs : List ℕ) → IsRising (λ x y. x ≤ y) xs → AreDifferent xs → Pairwise (λ x y. x < y) xs
 different_rising [] h d = tt
-different_rising (x ∷ xs) h d = ((λ y at. strictly y at (above_first x xs h y at)), different_rising xs (rising_rest x xs h) d.1)
+different_rising (x ∷ xs) h d = ((λ y at. strictly y at (above_first x xs h y at)), different_rising xs (tail_rises x xs h) d.1)
   where
     strictly : (y : ℕ) → Contains xs y → x ≤ y → x < y
     strictly y at l = elim (three x y l) [ inl e ↦ absurd (d.0 (subst (Contains xs) (sym e) at)) | inr m ↦ m ]

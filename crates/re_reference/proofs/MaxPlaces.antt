@@ -1,12 +1,11 @@
 -- The sets of the maximal rows, and their places.
-use Rattle.std.proofs.Common.{◌≡◌, ℕ, ◌<◌, ◌≤◌, ◌-◌, ◌^◌, Bool, true, false, cond, List, [], ◌∷◌, length, map, filter, refl, sym, ap, ◌∙◌, subst, arith, suc}
-use Rattle.std.specs.Prelude.{Contains}
+use Rattle.std.proofs.Common.{◌≡◌, ℕ, ◌<◌, ◌≤◌, ◌-◌, ◌^◌, true, false, cond, List, [], ◌∷◌, length, map, sym, ap, ◌∙◌, subst, arith, suc}
 use Rattle.std.specs.List.{AllByRecursion, list_any}
 use Rattle.std.proofs.Math.Pow.{pow_mono}
 use Rattle.re_labels.proofs.Sorting.{sorted_again}
 use Rattle.re_labels.specs.Configs.{sorted}
 use Rattle.re_labels.specs.Rows.{all_sets}
-use Rattle.re_labels.proofs.Membership.{AllByRecursion-contains, AllByRecursion-from_contains, AllByRecursion-weaker, Contains-here, Contains-later, length-count_from, length-map', map-alike}
+use Rattle.re_labels.proofs.Membership.{AllByRecursion-contains, AllByRecursion-from_contains, AllByRecursion-weaker, length-count_from, length-filter_most, length-map', map-alike}
 use Rattle.re_labels.specs.Lists.{count_from, place_of, same_list}
 use Rattle.re_labels.specs.Sets.{IsLabelSet, set_of}
 use Rattle.re_problem.proofs.DerivedProblem.{max_row_ascends}
@@ -17,16 +16,12 @@ use Rattle.re_table.specs.GoodRows.{max_rows, max_sets}
 use Rattle.re_reference.specs.Reading.{AreSets, occurring}
 use Rattle.re_labels.specs.declared.TheConstants.{MAX_LABELS}
 
-filter_shorter : {X : Type 0} (p : X → Bool) (xs : List X) → length (filter p xs) ≤ length xs
-filter_shorter p [] = omega arith
-filter_shorter p (x ∷ xs) = let more = filter_shorter p xs in elim (p x) as (λ b. length (cond b (x ∷ filter p xs) (filter p xs)) ≤ suc (length xs)) [ true ↦ omega (arith, more) | false ↦ omega (arith, more) ]
-
 few_powers : (n : ℕ) → n ≤ 6 → 2 ^ n - 1 < 128
 few_powers n h = let p : 2 ^ n ≤ 2 ^ 6 = pow_mono h in omega (arith, p)
 
 pub sets_few : (K : Constraint) (n : ℕ) (sets : List (List ℕ)) → n ≤ 6 → sets ≡ max_sets K n → length sets < MAX_LABELS
 sets_few K n sets h e =
-    let shorter : length (max_sets K n) ≤ length (all_sets n) = filter_shorter (λ set. list_any (list_any (same_list set)) (max_rows K n)) (all_sets n) in
+    let shorter : length (max_sets K n) ≤ length (all_sets n) = length-filter_most (λ set. list_any (list_any (same_list set)) (max_rows K n)) (all_sets n) in
     let all : length (all_sets n) ≡ 2 ^ n - 1 = length-map' (set_of n) (count_from 1 (2 ^ n - 1)) ∙ length-count_from 1 (2 ^ n - 1) in
     let few = few_powers n h in
     subst (λ sets. length sets < MAX_LABELS) (sym e) (omega (arith, shorter, all, few))

@@ -1,3 +1,7 @@
+mod Accepted
+mod Behind
+mod RelaxedSaying
+mod RelaxedWordCounts
 pub mod Saying
 mod ShorterTexts
 mod WordCounts

@@ -1,3 +1,6 @@
+pub mod Answers
+pub mod Library
 pub mod Lines
 pub mod MayGive
+pub mod RelaxedWords
 pub mod Words

@@ -13,9 +13,10 @@ use Rattle.re_problem.specs.NamedProblems.{NamedProblem, unnamed}
 use Rattle.re_problem.specs.Problems.{IsProblem, Problem}
 use Rattle.re_problem.specs.Zero.{Zero}
 use Rattle.re_search.specs.Laws.{NonePassed}
-use Rattle.re_settle.specs.Claims.{Holds, claim_of, within}
+use Rattle.re_evidence.specs.Claims.{Holds, within}
+use Rattle.re_settle.specs.Claims.{claim_of}
 use Rattle.re_settle.specs.Ways.{AnswersCount}
-use Rattle.re_settle.specs.declared.types.Claim.TheVariants.{Between, Exactly, Never}
+use Rattle.re_evidence.specs.declared.types.Claim.TheVariants.{Between, Exactly, Never}
 use Rattle.re_settle.specs.declared.types.Settled.{Settled}
 use Rattle.re_settle.specs.declared.types.Settled.TheVariants as settled
 use Rattle.re_step.specs.Derivations.{step_limit}

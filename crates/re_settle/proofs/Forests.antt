@@ -1,90 +1,43 @@
 -- What is known of a problem on finite forests, and what its levels of labels tell.
-use Rattle.std.proofs.Common.{◌≡◌, ℕ, zero, suc, ◌+◌, ◌*◌, ◌<◌, ◌≤◌, Bool, true, false, List, Contains, refl, sym, ap, subst, arith, eq-eqb, Option, None, Some}
-use Rattle.std.specs.Prelude.{IfSome, ◌==◌, ◌&&◌, if◌then◌else◌}
-use Rattle.std.proofs.lemmas.Bool.{eqb-true}
-use Rattle.re_classes.proofs.Decided.{above_log_star, constant}
+use Rattle.std.proofs.Common.{◌≡◌, ℕ, Bool, List, refl, sym, ap, subst, eq-eqb, Option, None, Some}
+use Rattle.std.specs.Prelude.{IfSome, IsSome, ◌==◌, if◌then◌else◌}
+use Rattle.re_classes.proofs.Decided.{above_log_star}
 use Rattle.re_classes.specs.Classes.{IsAboveLogStar, IsMoreThanConstant}
-use Rattle.re_flexible.specs.Lengths.{HasLevels, IsFlexibility, IsFlexibleSet}
+use Rattle.re_flexible.specs.Lengths.{IsFlexibility}
+use Rattle.re_flexible.specs.declared.levels.Flexibility.{Flexibility}
 use Rattle.re_flexible.specs.declared.levels.Flexibility.TheVariants.{Length, NoSolution}
 use Rattle.re_flexible.specs.declared.levels.Flexibility.TheVariants as flexibility
-use Rattle.re_forests.proofs.ApartForests.{apart}
-use Rattle.re_forests.proofs.BoundsAbove.{below as below_forests, below_linear, below_log, never as no_solution, on_paths}
-use Rattle.re_forests.proofs.BoundsBelow.{above as above_forests, above_linear, constant_forests}
-use Rattle.re_forests.proofs.Consequences.{fewer_on_forests, link}
+use Rattle.re_forests.proofs.BoundsAbove.{below as below_forests, never as no_solution}
+use Rattle.re_forests.proofs.BoundsBelow.{above as above_forests}
 use Rattle.re_forests.proofs.InViews.{never as nothing_left}
-use Rattle.re_forests.proofs.PortsOnForests.{ports_on_forests}
-use Rattle.re_forests.proofs.WeakerForests.{weaker}
-use Rattle.re_forests.specs.Classes.{IsAboveLinear, IsBelowLinear, IsConstantOnForests}
-use Rattle.re_forests.specs.ToViews.{IsBeyondForests}
 use Rattle.re_gap.specs.Laws.{AboveLogOnViewsLaw, NotFlexibleLaw}
-use Rattle.re_forests.specs.Trimmed.{HasTwoLevels, IsFlexibleWithin, IsTrimmed}
 use Rattle.re_labels.proofs.Tests.{eqb-apart}
-use Rattle.re_laws.specs.Algorithms.{Solvable}
-use Rattle.re_local.specs.SeparatingLaws.{IsBeyondLocal}
 use Rattle.re_problem.specs.NamedProblems.{NamedProblem, unnamed}
 use Rattle.re_problem.specs.Problems.{IsProblem, Problem}
 use Rattle.re_settle.proofs.Counts.{never_counts, zero_claimed}
 use Rattle.re_settle.proofs.Known.{flexible_known}
-use Rattle.re_settle.proofs.Local.{claim_local, fixed_found, nothing_further}
-use Rattle.re_settle.specs.Claims.{Holds, within}
-use Rattle.re_settle.specs.Classes.{ClassHolds, HoldsLocal, LeastHolds, bounded_class, class_of, least_of, never_class}
-use Rattle.re_settle.specs.OnForests.{ClassOnForests, HoldsOnForests, LeastOnForests, MayBeBelow, MostOnForests, SolvableOnAny, length_of, most_of}
+use Rattle.re_evidence.proofs.Forests.{bounded, claim_on_forests, constant_on_forests, flexible_below, least_on_forests, linear}
+use Rattle.re_evidence.proofs.Local.{claim_local}
+use Rattle.re_settle.proofs.Local.{fixed_found, nothing_further}
+use Rattle.re_evidence.specs.Claims.{Holds, within}
+use Rattle.re_evidence.specs.Classes.{ClassHolds, LeastHolds, bounded_class}
+use Rattle.re_settle.specs.Classes.{class_of, least_of, never_class}
+use Rattle.re_evidence.specs.OnForests.{ClassOnForests, MayBeBelow, MostOnForests, most_of}
+use Rattle.re_settle.specs.Levels.{above_of, further_ahead, length_of}
 use Rattle.re_settle.specs.Ways.{IsFound, IsFoundFurther, IsSettled}
+use Rattle.re_settle.specs.declared.types.Classified.{Classified}
 use Rattle.re_settle.specs.declared.types.Further.{Further}
 use Rattle.re_settle.specs.declared.types.Further.TheVariants as further
-use Rattle.re_settle.specs.declared.types.Claim.{Claim}
-use Rattle.re_settle.specs.declared.types.Claim.TheVariants.{AtMost, Between, Exactly, MoreThan, Never}
-use Rattle.re_settle.specs.declared.types.Class.TheVariants as class
-use Rattle.re_settle.specs.declared.types.Least.{Least}
-use Rattle.re_settle.specs.declared.types.Least.TheVariants as least
-use Rattle.re_settle.specs.declared.types.Most.{Most}
-use Rattle.re_settle.specs.declared.types.Most.TheVariants as most
+use Rattle.re_evidence.specs.declared.types.Claim.TheVariants.{Exactly, MoreThan, Never}
+use Rattle.re_evidence.specs.declared.types.Class.TheVariants as class
+use Rattle.re_evidence.specs.declared.types.Least.{Least}
+use Rattle.re_evidence.specs.declared.types.Least.TheVariants as least
+use Rattle.re_evidence.specs.declared.types.Most.{Most}
+use Rattle.re_evidence.specs.declared.types.Most.TheVariants as most
 use Rattle.re_settle.specs.declared.types.Settled.{Settled}
 use Rattle.re_settle.specs.declared.types.Settled.TheVariants as settled
 use Rattle.re_settle.specs.declared.types.Way.{Way}
-use Rattle.re_settle.specs.declared.types.Way.TheVariants.{Closure, Cover, Cycle, Fixed, Flexible, Longest, Lower, Merge, Raised, Relaxed, Rounds, Shortest, Through, Upper, Zero}
-
--- ---- claims and classes
-module _ (problem : Problem) (is : IsProblem problem) where
-  beyond : (T : ℕ) → IsBeyondLocal problem (T + 1) → IsBeyondForests problem T
-  beyond T (N, none) = (
-    (1 + problem.active.degree) * N,
-    λ more many solvable. none N (omega arith) (link problem N T is (fewer_on_forests problem ((1 + problem.active.degree) * N) more T many solvable)),
-  )
-
-  on_any : (k : ℕ) → Solvable problem k → SolvableOnAny problem (k + 1)
-  on_any k solvable = λ N. ports_on_forests problem is k N solvable
-
-  -- a claim says so on forests
-  claim_on_forests : (claim : Claim) → Holds claim problem → HoldsLocal claim problem → HoldsOnForests claim problem
-  claim_on_forests (Exactly k) (solvable, fewer) (any, none) = (on_any k solvable, λ T few. beyond T (none (T + 1) few))
-  claim_on_forests Never holds none = λ T. beyond T (none (T + 1))
-  claim_on_forests (MoreThan k) holds none = λ T few. beyond T (none (T + 1) few)
-  claim_on_forests (AtMost m) solvable local = on_any m solvable
-  claim_on_forests (Between k m) (never, solvable) (none, any) = ((λ T few. beyond T (none (T + 1) few)), on_any m solvable)
-
-  constant_on_forests : (claim : Claim) → Holds claim problem → ClassHolds (class.Constant claim) problem → ClassOnForests (class.Constant claim) problem
-  constant_on_forests claim holds (local, holds_local) = ((constant_forests problem is).1 ((constant problem is).0 local), claim_on_forests claim holds holds_local)
-
-  -- two bounds say what their class says
-  bounded : (least : Least) (above : Option Most) → LeastOnForests least problem → MayBeBelow above problem → ClassOnForests (bounded_class least above) problem
-  bounded (least.MoreThan k) above low high = (low, high)
-  bounded least.LogStar None low high = (low, high)
-  bounded least.LogStar (Some most.LogStar) low high = (low, high)
-  bounded least.LogStar (Some most.Log) low high = (low, high)
-  bounded least.Log None low high = (low, high)
-  bounded least.Log (Some most.LogStar) low high = (low, (weaker problem).1 high)
-  bounded least.Log (Some most.Log) low high = (low, high)
-
-  -- what a flexible set shows
-  flexible_below : (set : List ℕ) → IsFlexibleSet problem set → MostOnForests (most_of problem) problem
-  flexible_below set (l, flexible) = go (problem.active.degree == 2) refl (problem.passive.degree == 2) refl
-    where
-      go : (x : Bool) → (problem.active.degree == 2) ≡ x → (y : Bool) → (problem.passive.degree == 2) ≡ y → MostOnForests (if x && y then most.LogStar else most.Log) problem
-      go true two true two' = (on_paths problem is (eqb-true problem.active.degree 2 two) (eqb-true problem.passive.degree 2 two')).0 set l flexible
-      go true two false none = below_log problem set l is flexible
-      go false none true two = below_log problem set l is flexible
-      go false none false none' = below_log problem set l is flexible
+use Rattle.re_settle.specs.declared.types.Way.TheVariants.{Flexible}
 
 -- what levels tell besides
 abbrev linear_ahead : Further
@@ -92,34 +45,6 @@ linear_ahead = further.Linear
 
 abbrev nothing_ahead : Further
 nothing_ahead = further.Nothing
-
--- ---- one level of labels
--- the first of two levels, and the second
-abbrev level_of : List ℕ → List ℕ → ℕ → List ℕ
-level_of lower upper zero = lower
-level_of lower upper (suc i) = upper
-
-two_levels : (problem : Problem) → HasTwoLevels problem → HasLevels problem 2
-two_levels problem two = (level_of two.lower two.upper, record { some = some; trimmed = trimmed; flexible = flexible })
-  where
-    some : (i : ℕ) → i < 2 → (x : ℕ) × Contains (level_of two.lower two.upper i) x
-    some zero few = (two.flexible.some.0, two.flexible.part two.flexible.some.0 two.flexible.some.1)
-    some (suc i) few = two.flexible.some
-
-    trimmed : (i : ℕ) → i < 2 → IsTrimmed problem (level_of two.lower two.upper i)
-    trimmed zero few = two.lower_trimmed
-    trimmed (suc i) few = two.upper_trimmed
-
-    flexible : (i : ℕ) → suc i < 2 → (l : ℕ) × IsFlexibleWithin problem (level_of two.lower two.upper (suc i)) (level_of two.lower two.upper i) l
-    flexible zero few = (two.l, two.flexible)
-    flexible (suc i) few = absurd (omega (arith, few))
-
--- it takes the order of N
-linear : (problem : Problem) → IsProblem problem → IsFlexibility problem (Length 1) → IsAboveLinear problem × IsBelowLinear problem
-linear problem is (least, length, none) =
-    let (level, levels) = length.levels in
-    let (x, first) = levels.some 0 (omega arith) in
-    (above_linear problem is (λ two. length.greatest (two_levels problem two)), below_linear problem (level 0) x is (levels.trimmed 0 (omega arith)) first)
 
 -- ---- what is found
 -- what no number of rounds solves with port numbers alone
@@ -129,30 +54,19 @@ never_local problem is never = (above_log_star (unnamed problem) is never, claim
 unsolvable_found : (times : ℕ) (problem : NamedProblem) → IsProblem (unnamed problem) → IsFlexibility (unnamed problem) NoSolution → IsFound times problem settled.Unsolvable
 unsolvable_found times problem is none =
     let never : Holds Never (unnamed problem) = λ T. nothing_left (unnamed problem) T is none in
-    record { shown = none; holds = never; class = never_local problem is never; counted = never_counts problem is never }
+    record {
+      shown = none;
+      holds = never;
+      class = never_local problem is never;
+      counted = never_counts problem is never;
+      fixed = λ shows. refl;
+      closed = λ steps few within shows. refl;
+    }
 
 -- one level alone
 linear_further : (times : ℕ) (problem : NamedProblem) → IsProblem (unnamed problem) → IsFound times problem (settled.Never Flexible) → IsFlexibility (unnamed problem) (Length 1)
     → IsFoundFurther times problem (settled.Never Flexible) further.Linear
 linear_further times problem is found one = record { shown = one; class = never_local problem is found.holds }
-
--- a bound below of local algorithms is one on forests, but for a number of rounds
-never_on_forests : (problem : Problem) (way : Way) → IsProblem problem → LeastHolds (least_of way) problem → LeastOnForests (least_of way) problem
-never_on_forests problem (Cover nodes) is low = (above_forests problem is).0 low
-never_on_forests problem Zero is low = (above_forests problem is).1 low
-never_on_forests problem Flexible is low = (above_forests problem is).1 low
-never_on_forests problem (Lower steps merges) is low = (above_forests problem is).1 low
-never_on_forests problem (Upper steps drops) is low = (above_forests problem is).1 low
-never_on_forests problem (Fixed steps merges) is low = (above_forests problem is).1 low
-never_on_forests problem (Closure steps) is low = (above_forests problem is).1 low
-never_on_forests problem (Raised first second) is low = (above_forests problem is).1 low
-never_on_forests problem (Merge from to) is low = (above_forests problem is).1 low
-never_on_forests problem (Cycle steps merges nodes) is low = (above_forests problem is).1 low
-never_on_forests problem (Relaxed nodes) is low = (above_forests problem is).1 low
-never_on_forests problem Through is low = (above_forests problem is).1 low
-never_on_forests problem (Rounds most) is low = (above_forests problem is).1 low
-never_on_forests problem (Longest steps labels) is low = (above_forests problem is).1 low
-never_on_forests problem (Shortest steps labels) is low = (above_forests problem is).1 low
 
 -- two bounds without one above say what the one below says
 least_back : (problem : Problem) (least : Least) → ClassHolds (bounded_class least None) problem → LeastHolds least problem
@@ -164,7 +78,7 @@ least_back problem least.Log holds = holds
 never_class_on_forests : (times : ℕ) (problem : NamedProblem) (way : Way) (further : Further) (above : Option Most) → IsProblem (unnamed problem)
     → IsFoundFurther times problem (settled.Never way) further → MayBeBelow above (unnamed problem) → ClassOnForests (never_class way further above) (unnamed problem)
 never_class_on_forests times problem way further.Nothing above is found high =
-    bounded (unnamed problem) is (least_of way) above (never_on_forests (unnamed problem) way is (least_back (unnamed problem) (least_of way) found.class)) high
+    bounded (unnamed problem) is (least_of way) above (least_on_forests (unnamed problem) is (least_of way) (least_back (unnamed problem) (least_of way) found.class)) high
 never_class_on_forests times problem way further.Linear above is found high = linear (unnamed problem) is found.shown
 never_class_on_forests times problem way (further.FewColours coloured) above is found high =
     ((above_forests (unnamed problem) is).0 found.class.0, below_forests (unnamed problem) is found.class.1)
@@ -251,4 +165,40 @@ flexible_settled times problem settled further most set is flexible found beside
       above = ap Some most_is;
       length = refl;
       at_once = zero_claimed problem settled found.holds;
+    }
+
+-- ---- more of the class
+abbrev none_above : Option Most
+none_above = None
+
+-- a bound above is that of a flexible set
+above_holds : (problem : Problem) (above : Option Most) (decided : Flexibility) → IsProblem problem → IsFlexibility problem decided → above ≡ above_of problem decided → MayBeBelow above problem
+above_holds problem above (flexibility.Flexible set) is flexible e = subst (λ (a : Option Most). MayBeBelow a problem) (sym e) (flexible_below problem is set flexible.flexible)
+above_holds problem above (Length count) is levels e = subst (λ (a : Option Most). MayBeBelow a problem) (sym e) tt
+above_holds problem above NoSolution is none e = subst (λ (a : Option Most). MayBeBelow a problem) (sym e) tt
+
+-- where there is one, levels tell nothing more of the class
+open_ahead : (problem : Problem) (above : Option Most) (decided : Flexibility) (more : Further) → IsSome above → above ≡ above_of problem decided
+    → IfSome (further_ahead decided) (λ ahead. more ≡ ahead)
+open_ahead problem above (flexibility.Flexible set) more some e = tt
+open_ahead problem above (Length count) more some e = absurd (let wrong : IsSome none_above = subst IsSome e some in cc)
+open_ahead problem above NoSolution more some e = absurd (let wrong : IsSome none_above = subst IsSome e some in cc)
+
+-- more of the class of a problem with a flexible set
+pub further_settled : (times : ℕ) (problem : NamedProblem) (classified : Classified) (more : Further) → IsProblem (unnamed problem) → IsSettled times problem classified → IsSome classified.above
+    → IsFoundFurther times problem classified.settled more
+    → IsSettled times problem (record { settled = classified.settled; further = more; above = classified.above; length = classified.length })
+further_settled times problem classified more is known some besides =
+    let high : MayBeBelow classified.above (unnamed problem) = above_holds (unnamed problem) classified.above known.flexibility is known.decided known.above in
+    record {
+      found = known.found;
+      besides = besides;
+      forests = class_on_forests times problem classified.settled more classified.above is known.found besides high;
+      flexibility = known.flexibility;
+      decided = known.decided;
+      ahead = known.ahead;
+      further_ahead = open_ahead (unnamed problem) classified.above known.flexibility more some known.above;
+      above = known.above;
+      length = known.length;
+      at_once = known.at_once;
     }

@@ -24,13 +24,13 @@ use Rattle.re_labels.specs.declared.TheConstants.{MAX_LABELS}
 use Rattle.re_problem.specs.NamedProblems.{IsNamedProblem, NamedProblem, unnamed}
 use Rattle.re_problem.specs.Problems.{IsProblem, Problem}
 use Rattle.re_settle.specs.Ways.{HasText, IsTried, SaysCounted}
-use Rattle.re_settle.specs.declared.types.Claim.{Claim}
-use Rattle.re_settle.specs.declared.types.Claim.TheVariants.{AtMost, MoreThan, Never}
+use Rattle.re_evidence.specs.declared.types.Claim.{Claim}
+use Rattle.re_evidence.specs.declared.types.Claim.TheVariants.{AtMost, MoreThan, Never}
 use Rattle.re_settle.specs.declared.types.Shown.{Shown}
 use Rattle.re_settle.specs.declared.types.Way.{Way}
 use Rattle.re_settle.specs.declared.types.Way.TheVariants.{Closure, Cycle, Longest, Rounds, Shortest}
 use Rattle.re_settle.specs.GivenAnswers.{IsUntold}
-use Rattle.re_settle.specs.Claims.{HoldsGiven}
+use Rattle.re_evidence.specs.Claims.{HoldsGiven}
 use Rattle.re_settle.specs.GivenWays.{HasGivenText, IsKnownGiven}
 use Rattle.re_walks.specs.Walking.{cut}
 

@@ -1,21 +1,18 @@
 -- What the word may answer given an input problem.
-use Rattle.std.proofs.Common.{ℕ, Bool, true, false, List, Option, Some, None, inl, inr, refl}
-use Rattle.std.specs.Prelude.{◌⊎◌, if◌then◌else◌}
+use Rattle.std.proofs.Common.{ℕ, List, Option, Some, None, inl, inr, refl, true}
+use Rattle.std.specs.Prelude.{◌⊎◌}
 use Rattle.re_fit.specs.InputProblems.{input_fault}
 use Rattle.re_fit.specs.declared.inputs.InputFault.{InputFault as Fault}
 use Rattle.re_frame.proofs.Said.{fault_says, says_as}
-use Rattle.re_frame.specs.Outcomes.{Outcome, done, refused}
+use Rattle.re_frame.specs.Outcomes.{Outcome}
 use Rattle.re_frame.specs.Runs.{MaySay}
 use Rattle.re_given_words.specs.GivenTexts.{given_fault, given_input, given_problem}
 use Rattle.re_problem.specs.NamedProblems.{NamedProblem}
 use Rattle.re_problem.specs.declared.fault.InputFault.{InputFault}
-use Rattle.re_settle.specs.Claims.{is_final}
+use Rattle.re_evidence.specs.Claims.{is_final}
+use Rattle.re_settle.proofs.Saying.{either_says}
 use Rattle.re_settle.specs.GivenAnswers.{IsGivenAnswer, IsUntold, MayGiveBeside, MayGiveGiven, MayGiveGivenRead, settled_given_text}
 use Rattle.re_settle.specs.GivenClaims.{claim_given}
-
-either_says : (final : Bool) (text : List ℕ) → MaySay (if final then done text else refused text).status true
-either_says true text = tt
-either_says false text = refl
 
 known_says : (times : ℕ) (problem input : NamedProblem) (outcome : Outcome) → (IsGivenAnswer times problem input outcome ⊎ IsUntold problem input outcome) → MaySay outcome.status true
 known_says times problem input outcome (inl may) =

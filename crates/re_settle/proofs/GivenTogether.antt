@@ -1,7 +1,6 @@
 -- What is known together given an input problem.
-use Rattle.std.proofs.Common.{◌≡◌, ℕ, suc, ◌+◌, ◌≤◌, Bool, true, false, Option, None, Some, refl, arith}
-use Rattle.std.specs.Prelude.{IfSome, ◌==◌, if◌then◌else◌}
-use Rattle.std.proofs.lemmas.Bool.{eqb-true}
+use Rattle.std.proofs.Common.{◌≡◌, ℕ, ◌+◌, ◌≤◌, Option, None, Some, arith}
+use Rattle.std.specs.Prelude.{IfSome}
 use Rattle.re_given.proofs.ChainGiven.{SolvableGiven-up}
 use Rattle.re_given.specs.Given.{SolvableGiven}
 use Rattle.re_given.specs.Inputs.{IsInput}
@@ -9,27 +8,19 @@ use Rattle.re_given_bounds.proofs.IdleHop.{idle_hop}
 use Rattle.re_given_bounds.specs.Telling.{TellsPassive}
 use Rattle.re_problem.specs.NamedProblems.{NamedProblem, unnamed}
 use Rattle.re_problem.specs.Problems.{IsProblem, Problem}
-use Rattle.re_settle.specs.Claims.{HoldsGiven, within}
-use Rattle.re_settle.specs.declared.types.Claim.TheVariants.{AtMost, Between, Exactly, MoreThan, Never}
+use Rattle.re_evidence.proofs.Together.{within_holds}
+use Rattle.re_given_words.specs.declared.setting.Setting.TheVariants.{Given}
+use Rattle.re_evidence.specs.declared.types.Claim.TheVariants.{AtMost, Exactly, MoreThan, Never}
 use Rattle.re_settle.specs.declared.types.Shown.{Shown}
 use Rattle.re_settle.specs.declared.types.Way.{Way}
 use Rattle.re_settle.specs.GivenWays.{IsKnownGiven, IsSettledGiven}
 use Rattle.re_settle.specs.declared.given_types.SettledGiven.TheVariants as settled
 
--- more than the first number and at most the second
-within_holds : (problem : Problem) (input : NamedProblem) (more most : ℕ) → ((T : ℕ) → T ≤ more → SolvableGiven problem (unnamed input) T → ⊥) → SolvableGiven problem (unnamed input) most
-    → HoldsGiven (within more most) problem input
-within_holds problem input more most above solves = go (most == suc more) refl
-  where
-    go : (b : Bool) → (most == suc more) ≡ b → HoldsGiven (if b then Exactly most else Between more most) problem input
-    go true e = let next : most ≡ suc more = eqb-true most (suc more) e in (solves, λ T few solvable. above T (omega arith) solvable)
-    go false e = (above, solves)
-
 pub bounds_settled : (times : ℕ) (problem input : NamedProblem) (more : Shown) (most : Option Shown) → IsKnownGiven times problem input (MoreThan more.rounds) more.way
     → IfSome most (λ (shown : Shown). IsKnownGiven times problem input (AtMost shown.rounds) shown.way) → IsSettledGiven times problem input (settled.Within more most)
 bounds_settled times problem input more None lower upper = record { shown = lower.shown; holds = lower.holds }
 bounds_settled times problem input more (Some most) lower upper =
-    record { shown = (lower.shown, upper.shown); holds = within_holds (unnamed problem) input more.rounds most.rounds lower.holds upper.holds }
+    record { shown = (lower.shown, upper.shown); holds = within_holds (Given input) (unnamed problem) more.rounds most.rounds lower.holds upper.holds }
 
 -- where one round more than k is of no use, and k are too few, k + 1 are
 beyond : (problem input : Problem) (k rounds : ℕ) → IsProblem problem → IsInput problem input → TellsPassive k input → rounds ≡ k + 1
@@ -46,7 +37,7 @@ beyond_settled times problem input rounds more None is is_input tells next lower
 }
 beyond_settled times problem input rounds more (Some most) is is_input tells next lower upper = record {
   shown = (record { next = next; few = lower.shown; tells = tells }, upper.shown);
-  holds = within_holds (unnamed problem) input rounds most.rounds (beyond (unnamed problem) (unnamed input) more.rounds rounds is is_input tells next lower.holds) upper.holds;
+  holds = within_holds (Given input) (unnamed problem) rounds most.rounds (beyond (unnamed problem) (unnamed input) more.rounds rounds is is_input tells next lower.holds) upper.holds;
 }
 
 -- what is known by one of the words alone

@@ -26,24 +26,21 @@ use Rattle.re_problem.proofs.ZeroPlaces.{no-place}
 use Rattle.re_problem.specs.NamedProblems.{NamedProblem, unnamed}
 use Rattle.re_problem.specs.Problems.{IsProblem, Problem}
 use Rattle.re_problem.specs.Zero.{zero_place}
-use Rattle.re_relaxed.specs.Answers as relaxed
-use Rattle.re_relaxed.specs.declared.types.Relaxed.TheVariants as relaxed_answer
+use Rattle.re_search_words.specs.Answers as relaxed
+use Rattle.re_search_words.specs.declared.types.Relaxed.TheVariants as relaxed_answer
 use Rattle.re_search.specs.Searches.{Answers, FindsTrue, FindsValid}
 use Rattle.re_search.specs.declared.types.Search.{Search}
 use Rattle.re_search.specs.declared.types.Search.TheVariants.{Found}
 use Rattle.re_classes.specs.Classes.{IsAboveLog}
 use Rattle.re_flexible.specs.Lengths.{IsFlexibility}
 use Rattle.re_flexible.specs.declared.levels.Flexibility.TheVariants.{Length}
-use Rattle.re_forests.proofs.ApartForests.{apart}
-use Rattle.re_forests.proofs.BoundsBelow.{constant_forests}
-use Rattle.re_forests.proofs.WeakerForests.{weaker}
-use Rattle.re_forests.specs.Classes.{IsAboveLogOnForests}
+use Rattle.re_evidence.proofs.Forests.{above_not_flexible, never_not_flexible}
 use Rattle.re_gap.specs.Laws.{AboveLogOnViewsLaw, NotFlexibleLaw}
 use Rattle.re_settle.proofs.Fixed.{above_log_on, found_first}
-use Rattle.re_settle.specs.Claims.{Holds}
+use Rattle.re_evidence.specs.Claims.{Holds}
 use Rattle.re_settle.specs.Ways.{ClosesBehind, HasText, IsFixedPoint, IsKnown, IsTried, SaysCounted, ShowsZero}
-use Rattle.re_settle.specs.declared.types.Claim.{Claim}
-use Rattle.re_settle.specs.declared.types.Claim.TheVariants.{AtMost, MoreThan, Never}
+use Rattle.re_evidence.specs.declared.types.Claim.{Claim}
+use Rattle.re_evidence.specs.declared.types.Claim.TheVariants.{AtMost, MoreThan, Never}
 use Rattle.re_settle.specs.declared.types.Way.TheVariants.{Closure, Cycle, Fixed, Flexible, Longest, Lower, Merge, Raised, Relaxed, Rounds, Shortest, Through, Upper, Zero}
 
 -- ---- searches of `re`
@@ -131,6 +128,10 @@ never_behind : (steps : ℕ) (problem : NamedProblem) (chain : Bound) → chain.
 never_behind zero problem chain first (bound, closed, text) = never_on 3 problem chain bound first closed.goes_on
 never_behind (suc steps) problem chain first (sets, solvable, none, behind) = never_behind steps problem (stepped chain) first behind
 
+-- what they show is true
+pub closure_holds : (problem : NamedProblem) (steps : ℕ) → ClosesBehind steps (problem_chain problem) → Holds Never (unnamed problem)
+closure_holds problem steps closes = (never_behind steps problem (problem_chain problem) refl closes).holds
+
 pub closure_known : (times : ℕ) (problem : NamedProblem) (chain : Bound) (steps : ℕ) → chain ≡ problem_chain problem → steps ≤ 2 → ClosesBehind steps chain
     → IsFixedPoint times problem (Closure steps)
 closure_known times problem chain steps start few closes =
@@ -215,17 +216,12 @@ shortest_known times problem chain bound steps labels rounds tried start answers
 
 -- ---- flexible sets
 -- where no set is flexible the order of log N is a bound below, and no number of rounds is enough with port numbers alone
-pub above_not_flexible : NotFlexibleLaw → (problem : Problem) (count : ℕ) → IsProblem problem → IsFlexibility problem (Length count) → IsAboveLogOnForests problem
-above_not_flexible gap problem count is (least, length, none) = gap problem is (λ (set, l, flexible). none set (l, flexible))
-
 pub flexible_known : NotFlexibleLaw → AboveLogOnViewsLaw → (times : ℕ) (problem : NamedProblem) (count : ℕ) → IsProblem (unnamed problem) → IsFlexibility (unnamed problem) (Length count) → IsFixedPoint times problem Flexible
-flexible_known gap views times problem count is counted =
-    let above : IsAboveLogOnForests (unnamed problem) = above_not_flexible gap (unnamed problem) count is counted in
-    record {
-      known = record {
-        shown = record { tried = tt; shows = (refl, (count, counted)) };
-        holds = λ S solvable. (apart (unnamed problem)).1 ((weaker (unnamed problem)).0 ((constant_forests (unnamed problem) is).1 (S, solvable))) above;
-      };
-      finds = refl;
-      above = views (unnamed problem) is above;
-    }
+flexible_known gap views times problem count is counted = record {
+  known = record {
+    shown = record { tried = tt; shows = (refl, (count, counted)) };
+    holds = never_not_flexible gap (unnamed problem) count is counted;
+  };
+  finds = refl;
+  above = views (unnamed problem) is (above_not_flexible gap (unnamed problem) count is counted);
+}

@@ -4,9 +4,10 @@ mod Forests
 mod GivenKnown
 mod GivenSaying
 mod GivenTogether
-mod Graphs
 mod Known
 mod Local
 mod LostLabels
-mod Saying
+mod Pieces
+pub mod Saying
 mod Together
+mod Unclosed

@@ -5,16 +5,21 @@ use Rattle.re_frame.specs.TextFaults.{fault_outcome}
 use Rattle.re_problem.specs.NamedProblems.{NamedProblem}
 use Rattle.re_problem.specs.ProblemTexts.{first_fault, lines_of, problem_of}
 use Rattle.re_problem.specs.declared.fault.InputFault.{InputFault}
-use Rattle.re_settle.specs.Claims.{claim_of, is_final}
+use Rattle.re_evidence.specs.Claims.{is_final}
+use Rattle.re_settle.specs.Claims.{claim_of}
 use Rattle.re_settle.specs.Lines.{settled_text}
 use Rattle.re_settle.specs.Ways.{IsSettled}
 use Rattle.re_settle.specs.declared.types.Classified.{Classified}
+use Rattle.re_settle.specs.declared.types.Settled.{Settled}
 use Rattle.re_settle.specs.declared.words.SettleWord.{SettleWord}
 
--- the lines of what is known of a problem: Done where the claim leaves no question, and else No
+-- a text with Done where the claim leaves no question, and else with No
+abbrev pub by_claim : Settled → List ℕ → Outcome
+by_claim settled text = if is_final (claim_of settled) then done text else refused text
+
+-- the lines of what is known of a problem
 abbrev pub settled_outcome : NamedProblem → Classified → Outcome
-settled_outcome problem classified =
-    if is_final (claim_of classified.settled) then done (settled_text problem classified) else refused (settled_text problem classified)
+settled_outcome problem classified = by_claim classified.settled (settled_text problem classified)
 
 -- the lines of something that is known of the problem, where bounds are taken so many times: shown by the words that they name, and true
 pub record IsAnswer (times : ℕ) (problem : NamedProblem) (outcome : Outcome) : Type 0 where

@@ -1,69 +1,20 @@
--- What a claim means where active nodes have unique identifiers, and which class a problem has.
-use Rattle.std.specs.Prelude.{ℕ, ◌+◌, ◌-◌, ◌*◌, ◌<◌, ◌≤◌, None, Option, Some}
-use Rattle.re_classes.specs.Classes.{IsAboveLog, IsAboveLogStar, IsConstantLocal, IsMoreThanConstant, IsOrderLogStar}
-use Rattle.re_labels.specs.declared.sides.Side.{Side}
-use Rattle.re_labels.specs.declared.sides.Side.TheVariants.{Active, Passive}
-use Rattle.re_local.specs.LocalAlgorithms.{SolvableLocal}
-use Rattle.re_problem.specs.Problems.{Problem}
-use Rattle.re_local.specs.SeparatingLaws.{IsBeyondLocal}
-use Rattle.re_settle.specs.Claims.{within}
+-- Which class a problem has where so much is known of it.
+use Rattle.std.specs.Prelude.{None, Option, Some}
+use Rattle.re_evidence.specs.Claims.{within}
+use Rattle.re_evidence.specs.Classes.{bounded_class}
+use Rattle.re_evidence.specs.declared.types.Claim.TheVariants.{Exactly}
+use Rattle.re_evidence.specs.declared.types.Class.{Class}
+use Rattle.re_evidence.specs.declared.types.Class.TheVariants as class
+use Rattle.re_evidence.specs.declared.types.Least.{Least}
+use Rattle.re_evidence.specs.declared.types.Least.TheVariants as least
+use Rattle.re_evidence.specs.declared.types.Most.{Most}
+use Rattle.re_evidence.specs.declared.types.Order.TheVariants as order
 use Rattle.re_settle.specs.declared.types.Further.{Further}
 use Rattle.re_settle.specs.declared.types.Further.TheVariants as further
-use Rattle.re_settle.specs.declared.types.Claim.{Claim}
-use Rattle.re_settle.specs.declared.types.Claim.TheVariants.{AtMost, Between, Exactly, MoreThan, Never}
-use Rattle.re_settle.specs.declared.types.Class.{Class}
-use Rattle.re_settle.specs.declared.types.Class.TheVariants as class
-use Rattle.re_settle.specs.declared.types.Least.{Least}
-use Rattle.re_settle.specs.declared.types.Least.TheVariants as least
-use Rattle.re_settle.specs.declared.types.Most.{Most}
-use Rattle.re_settle.specs.declared.types.Most.TheVariants as most
-use Rattle.re_settle.specs.declared.types.Order.{Order}
-use Rattle.re_settle.specs.declared.types.Order.TheVariants as order
 use Rattle.re_settle.specs.declared.types.Settled.{Settled}
 use Rattle.re_settle.specs.declared.types.Settled.TheVariants as settled
 use Rattle.re_settle.specs.declared.types.Way.{Way}
 use Rattle.re_settle.specs.declared.types.Way.TheVariants.{Cover}
-
--- some local algorithm of so many rounds solves the problem, however many identifiers there are
-abbrev pub SolvableByAny : Problem → ℕ → Type 0
-SolvableByAny problem k = (N : ℕ) → SolvableLocal problem N k
-
--- what a claim says of local algorithms: so many rounds are enough for each number of identifiers, and fewer aren't from some number on; no number is; as
--- many or fewer aren't; so many are; or the last two
-abbrev pub HoldsLocal : Claim → Problem → Type 0
-HoldsLocal (Exactly k) problem = SolvableByAny problem k × ((T : ℕ) → T < k → IsBeyondLocal problem T)
-HoldsLocal Never problem = (T : ℕ) → IsBeyondLocal problem T
-HoldsLocal (MoreThan k) problem = (T : ℕ) → T ≤ k → IsBeyondLocal problem T
-HoldsLocal (AtMost m) problem = SolvableByAny problem m
-HoldsLocal (Between k m) problem = ((T : ℕ) → T ≤ k → IsBeyondLocal problem T) × SolvableByAny problem m
-
--- what an order says of local algorithms, as far as it is known of them: that of N is shown on finite forests alone
-abbrev pub OrderHolds : Order → Problem → Type 0
-OrderHolds order.LogStar problem = IsOrderLogStar problem
-OrderHolds order.Log problem = IsAboveLog problem
-OrderHolds order.Linear problem = IsAboveLogStar problem × IsMoreThanConstant problem
-
--- what a bound below says of them
-abbrev pub LeastHolds : Least → Problem → Type 0
-LeastHolds (least.MoreThan k) problem = HoldsLocal (MoreThan k) problem
-LeastHolds least.LogStar problem = IsAboveLogStar problem
-LeastHolds least.Log problem = IsAboveLog problem
-
--- what a class says of them
-abbrev pub ClassHolds : Class → Problem → Type 0
-ClassHolds class.NoSolution problem = IsAboveLogStar problem × IsMoreThanConstant problem
-ClassHolds (class.Constant claim) problem = IsConstantLocal problem × HoldsLocal claim problem
-ClassHolds (class.Order order) problem = OrderHolds order problem
-ClassHolds (class.Bounds least most) problem = LeastHolds least problem
-
--- the class where a bound below is known, and maybe one above
-abbrev pub bounded_class : Least → Option Most → Class
-bounded_class (least.MoreThan k) above = class.Bounds (least.MoreThan k) above
-bounded_class least.LogStar None = class.Bounds least.LogStar None
-bounded_class least.LogStar (Some most.LogStar) = class.Order order.LogStar
-bounded_class least.LogStar (Some most.Log) = class.Bounds least.LogStar (Some most.Log)
-bounded_class least.Log None = class.Bounds least.Log None
-bounded_class least.Log (Some most) = class.Order order.Log
 
 -- the bound below of what no number of rounds solves by these words: a graph shows that of log* N; a fixed point that of log N, and so does that no set of
 -- labels is flexible
@@ -86,8 +37,3 @@ class_of (settled.Exactly shown) further above = class.Constant (Exactly shown.r
 class_of (settled.Never way) further above = never_class way further above
 class_of (settled.Within more None) further above = bounded_class (least.MoreThan more.rounds) above
 class_of (settled.Within more (Some most)) further above = class.Constant (within more.rounds most.rounds)
-
--- one colour more than a node of a side meets others of it, where active nodes have degree a and passive ones p
-abbrev pub few_colours : Side → ℕ → ℕ → ℕ
-few_colours Active a p = a * (p - 1) + 1
-few_colours Passive a p = p * (a - 1) + 1

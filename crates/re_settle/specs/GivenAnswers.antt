@@ -12,10 +12,11 @@ use Rattle.re_given_words.specs.Walks.{tries_outcome}
 use Rattle.re_problem.specs.NamedProblems.{NamedProblem, unnamed}
 use Rattle.re_problem.specs.declared.fault.InputFault.{InputFault}
 use Rattle.re_settle.specs.Answers.{MayGive}
-use Rattle.re_settle.specs.Claims.{is_final}
-use Rattle.re_settle.specs.Lines.{claim_text, note_line, way_line}
-use Rattle.re_settle.specs.declared.types.Claim.{Claim}
-use Rattle.re_settle.specs.declared.types.Claim.TheVariants.{Never}
+use Rattle.re_evidence.specs.Claims.{is_final}
+use Rattle.re_evidence.specs.Lines.{claim_text}
+use Rattle.re_settle.specs.Lines.{note_line, way_line}
+use Rattle.re_evidence.specs.declared.types.Claim.{Claim}
+use Rattle.re_evidence.specs.declared.types.Claim.TheVariants.{Never}
 use Rattle.re_settle.specs.declared.words.SettleWord.{SettleWord}
 use Rattle.re_settle.specs.GivenClaims.{claim_given}
 use Rattle.re_settle.specs.GivenWays.{IsSettledGiven}

@@ -1,8 +1,8 @@
 -- What is claimed where a solution of an input problem is given.
 use Rattle.std.specs.Prelude.{None, Some}
-use Rattle.re_settle.specs.Claims.{within}
-use Rattle.re_settle.specs.declared.types.Claim.{Claim}
-use Rattle.re_settle.specs.declared.types.Claim.TheVariants.{AtMost, Exactly, MoreThan, Never}
+use Rattle.re_evidence.specs.Claims.{within}
+use Rattle.re_evidence.specs.declared.types.Claim.{Claim}
+use Rattle.re_evidence.specs.declared.types.Claim.TheVariants.{AtMost, Exactly, MoreThan, Never}
 use Rattle.re_settle.specs.declared.given_types.SettledGiven.{SettledGiven}
 use Rattle.re_settle.specs.declared.given_types.SettledGiven.TheVariants as settled
 

@@ -14,12 +14,12 @@ use Rattle.re_given_bounds.specs.Telling.{TellsPassive}
 use Rattle.re_labels.specs.declared.TheConstants.{MAX_LABELS}
 use Rattle.re_problem.specs.NamedProblems.{NamedProblem, unnamed}
 use Rattle.re_settle.specs.Ways.{HasText, IsTried, SaysCounted}
-use Rattle.re_settle.specs.declared.types.Claim.{Claim}
-use Rattle.re_settle.specs.declared.types.Claim.TheVariants.{AtMost, Exactly, MoreThan, Never}
+use Rattle.re_evidence.specs.declared.types.Claim.{Claim}
+use Rattle.re_evidence.specs.declared.types.Claim.TheVariants.{AtMost, Exactly, MoreThan, Never}
 use Rattle.re_settle.specs.declared.types.Shown.{Shown}
 use Rattle.re_settle.specs.declared.types.Way.{Way}
 use Rattle.re_settle.specs.declared.types.Way.TheVariants.{Closure, Cover, Cycle, Longest, Rounds, Shortest}
-use Rattle.re_settle.specs.Claims.{HoldsGiven}
+use Rattle.re_evidence.specs.Claims.{HoldsGiven}
 use Rattle.re_settle.specs.GivenClaims.{claim_given}
 use Rattle.re_settle.specs.declared.given_types.SettledGiven.{SettledGiven}
 use Rattle.re_settle.specs.declared.given_types.SettledGiven.TheVariants as settled

@@ -5,9 +5,9 @@ pub mod Coloured
 pub mod GivenAnswers
 pub mod GivenClaims
 pub mod GivenWays
-pub mod GraphRounds
+pub mod Levels
 pub mod Lines
 pub mod Measures
-pub mod OnForests
+pub mod Pieces
 pub mod Ways
 pub mod Words

@@ -9,50 +9,22 @@ use Rattle.re_labels.specs.declared.sides.Side.{Side}
 use Rattle.re_labels.specs.declared.sides.Side.TheVariants.{Active, Passive}
 use Rattle.re_printing.specs.SetTexts.{named_text}
 use Rattle.re_problem.specs.NamedProblems.{NamedProblem, unnamed}
+use Rattle.re_evidence.specs.Lines.{alone_text, claim_text, class_text}
 use Rattle.re_settle.specs.Claims.{claim_of}
 use Rattle.re_settle.specs.Classes.{class_of}
-use Rattle.re_describe.specs.GraphRounds.{rounds_above, rounds_below}
-use Rattle.re_settle.specs.declared.types.Claim.{Claim}
-use Rattle.re_settle.specs.declared.types.Claim.TheVariants.{AtMost, Between, Exactly, MoreThan, Never}
-use Rattle.re_settle.specs.declared.types.Class.{Class}
-use Rattle.re_settle.specs.declared.types.Class.TheVariants as class
 use Rattle.re_settle.specs.declared.types.Classified.{Classified}
 use Rattle.re_settle.specs.declared.types.Coloured.{Coloured}
 use Rattle.re_settle.specs.declared.types.ColouredWay.{ColouredWay}
 use Rattle.re_settle.specs.declared.types.ColouredWay.TheVariants as coloured
 use Rattle.re_settle.specs.declared.types.Further.{Further}
 use Rattle.re_settle.specs.declared.types.Further.TheVariants as further
-use Rattle.re_settle.specs.declared.types.Least.{Least}
-use Rattle.re_settle.specs.declared.types.Least.TheVariants as least
-use Rattle.re_settle.specs.declared.types.Most.{Most}
-use Rattle.re_settle.specs.declared.types.Most.TheVariants as most
-use Rattle.re_settle.specs.declared.types.Order.{Order}
-use Rattle.re_settle.specs.declared.types.Order.TheVariants as order
+use Rattle.re_evidence.specs.declared.types.Most.{Most}
 use Rattle.re_settle.specs.declared.types.Settled.{Settled}
 use Rattle.re_settle.specs.declared.types.Settled.TheVariants as settled
 use Rattle.re_settle.specs.declared.types.Way.{Way}
 use Rattle.re_settle.specs.declared.types.Way.TheVariants.{Closure, Cover, Cycle, Fixed, Flexible, Longest, Lower, Merge, Raised, Relaxed, Rounds, Shortest, Through, Upper, Zero}
 
 -- ---- the first line
--- the rounds of the graph behind these words, where the passive nodes have two neighbours
-abbrev pub graph_part : List ℕ → ℕ → ℕ → List ℕ
-graph_part words passive rounds = if passive == 2 then codes " (" ++ (words ++ (decimal rounds ++ codes " rounds of the graph)")) else codes ""
-
--- a claim on a problem whose passive nodes have this degree
-abbrev pub claim_text : ℕ → Claim → List ℕ
-claim_text passive (Exactly k) = codes "exactly " ++ (decimal k ++ graph_part (codes "") passive (rounds_above k))
-claim_text passive Never = codes "not solvable in any number of rounds with port numbers "
-claim_text passive (MoreThan k) = codes "more than " ++ (decimal k ++ graph_part (codes "more than ") passive (rounds_below k))
-claim_text passive (AtMost m) = codes "at most " ++ (decimal m ++ graph_part (codes "at most ") passive (rounds_above m))
-claim_text passive (Between k m) =
-    (codes "more than " ++ (decimal k ++ graph_part (codes "more than ") passive (rounds_below k)))
-    ++ (codes ", at most " ++ (decimal m ++ graph_part (codes "at most ") passive (rounds_above m)))
-
--- what algorithms have besides, behind a claim: nothing
-abbrev pub alone_text : Claim → List ℕ
-alone_text Never = codes "alone\n"
-alone_text claim = codes "\n"
-
 -- that there is no solution, or the claim
 abbrev pub first_text : ℕ → Settled → List ℕ
 first_text passive settled.Unsolvable = codes "no solution\n"
@@ -129,38 +101,6 @@ way_lines names (settled.Within more None) = way_line names more.way
 way_lines names (settled.Within more (Some most)) = way_line names more.way ++ way_line names most.way
 
 -- ---- the lines on unique identifiers
--- a claim in rounds
-abbrev pub rounds_text : Claim → List ℕ
-rounds_text (Exactly k) = codes "exactly " ++ decimal k
-rounds_text Never = codes "never"
-rounds_text (MoreThan k) = codes "more than " ++ decimal k
-rounds_text (AtMost m) = codes "at most " ++ decimal m
-rounds_text (Between k m) = codes "more than " ++ (decimal k ++ (codes ", at most " ++ decimal m))
-
-abbrev pub order_text : Order → List ℕ
-order_text order.LogStar = codes "order log* N"
-order_text order.Log = codes "order log N"
-order_text order.Linear = codes "order N"
-
-abbrev pub most_text : Most → List ℕ
-most_text most.LogStar = codes "order log* N"
-most_text most.Log = codes "order log N"
-
-abbrev pub least_text : Least → List ℕ
-least_text (least.MoreThan k) = rounds_text (MoreThan k)
-least_text least.LogStar = codes "at least order log* N"
-least_text least.Log = codes "at least order log N"
-
-abbrev pub bounds_text : Least → Option Most → List ℕ
-bounds_text least None = least_text least ++ codes ""
-bounds_text least (Some most) = least_text least ++ (codes ", at most " ++ most_text most)
-
-abbrev pub class_text : Class → List ℕ
-class_text class.NoSolution = codes "no solution"
-class_text (class.Constant claim) = codes "constant, " ++ rounds_text claim
-class_text (class.Order order) = order_text order
-class_text (class.Bounds least most) = bounds_text least most
-
 -- the words, given a proper colouring
 abbrev pub coloured_words : ColouredWay → List ℕ
 coloured_words (coloured.Rounds most) = codes "explore rounds " ++ decimal most
@@ -236,5 +176,9 @@ note_line problem = note_of problem.names (trimmed_set (unnamed problem))
 abbrev pub claim_lines : NamedProblem → Settled → List ℕ
 claim_lines problem settled = first_text problem.passive.degree settled ++ way_lines problem.names settled
 
+-- the rest: the class, what shows it, and the note
+abbrev pub rest_lines : NamedProblem → Classified → List ℕ
+rest_lines problem classified = classes_text problem.names classified ++ note_line problem
+
 abbrev pub settled_text : NamedProblem → Classified → List ℕ
-settled_text problem classified = claim_lines problem classified.settled ++ (classes_text problem.names classified ++ note_line problem)
+settled_text problem classified = claim_lines problem classified.settled ++ rest_lines problem classified

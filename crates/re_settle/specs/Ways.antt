@@ -10,8 +10,9 @@ use Rattle.re_shaping.specs.Stepped.{stepped, stepping_fault}
 use Rattle.re_chains.specs.ChainTexts.{problem_chain}
 use Rattle.re_chains.specs.OverChains.{IsTextOf}
 use Rattle.re_classes.specs.Classes.{IsAboveLog}
-use Rattle.re_closure.specs.Closures.{IsClosed, IsSolvableBy}
+use Rattle.re_closure.specs.Closures.{IsClosed, IsSolvableBy, LimitIs}
 use Rattle.re_closure.specs.RaisedClosures.{IsRaisedClosed}
+use Rattle.re_closure.specs.declared.types.ClosureLimit.{ClosureLimit}
 use Rattle.re_cover.specs.Graphs.{PortGraph}
 use Rattle.re_cycle.specs.Answers as cycle
 use Rattle.re_cycle.specs.declared.finding.Cycle.TheVariants as cycle_answer
@@ -31,21 +32,24 @@ use Rattle.re_shortest.specs.declared.shortening.Shortest.TheVariants as shortes
 use Rattle.re_problem.specs.NamedProblems.{NamedProblem, unnamed}
 use Rattle.re_problem.specs.Zero.{zero_place}
 use Rattle.re_laws.specs.Algorithms.{Solvable}
-use Rattle.re_relaxed.specs.Answers as relaxed
-use Rattle.re_relaxed.specs.declared.types.Relaxed.TheVariants as relaxed_answer
+use Rattle.re_search_words.specs.Answers as relaxed
+use Rattle.re_search_words.specs.declared.types.Relaxed.TheVariants as relaxed_answer
 use Rattle.re_search.specs.Searches.{search_of}
 use Rattle.re_search.specs.declared.types.Search.TheVariants.{Found}
-use Rattle.re_settle.specs.Claims.{Holds, claim_of}
-use Rattle.re_settle.specs.Classes.{ClassHolds, LeastHolds, class_of, least_of}
+use Rattle.re_evidence.specs.Claims.{Holds}
+use Rattle.re_settle.specs.Claims.{claim_of}
+use Rattle.re_evidence.specs.Classes.{ClassHolds, LeastHolds}
+use Rattle.re_settle.specs.Classes.{class_of, least_of}
 use Rattle.re_settle.specs.Coloured.{IsColoured}
-use Rattle.re_settle.specs.Measures.{doublings, greatest_degree, longest_labels, longest_steps, shortest_labels, shortest_steps}
-use Rattle.re_settle.specs.declared.types.Claim.{Claim}
-use Rattle.re_settle.specs.declared.types.Claim.TheVariants.{AtMost, Exactly, MoreThan, Never}
-use Rattle.re_settle.specs.OnForests.{ClassOnForests, above_of, further_ahead, known_ahead, length_of}
+use Rattle.re_settle.specs.Measures.{IsSmall, doublings, greatest_degree, longest_labels, longest_steps, shortest_labels, shortest_steps}
+use Rattle.re_evidence.specs.declared.types.Claim.{Claim}
+use Rattle.re_evidence.specs.declared.types.Claim.TheVariants.{AtMost, Exactly, MoreThan, Never}
+use Rattle.re_evidence.specs.OnForests.{ClassOnForests}
+use Rattle.re_settle.specs.Levels.{above_of, further_ahead, known_ahead, length_of}
 use Rattle.re_settle.specs.declared.types.Classified.{Classified}
 use Rattle.re_settle.specs.declared.types.Further.{Further}
 use Rattle.re_settle.specs.declared.types.Further.TheVariants as further
-use Rattle.re_settle.specs.declared.types.Least.TheVariants as least
+use Rattle.re_evidence.specs.declared.types.Least.TheVariants as least
 use Rattle.re_settle.specs.declared.types.Settled.{Settled}
 use Rattle.re_settle.specs.declared.types.Settled.TheVariants as settled
 use Rattle.re_settle.specs.declared.types.Way.{Way}
@@ -90,6 +94,24 @@ pub record Finds (kind : Kind) (steps changes : ℕ) (problem : NamedProblem) (f
 abbrev pub ClosesBehind : ℕ → Bound → Type 0
 ClosesBehind zero chain = (bound : Bound) × IsClosed chain bound × HasText bound
 ClosesBehind (suc steps) chain = (sets : List (List ℕ)) × IsSolvableBy (last_problem chain) sets × (stepping_fault chain ≡ None) × ClosesBehind steps (stepped chain)
+
+-- the closure of the chain's last problem can be computed: this one isn't solvable without communication, and no limit is passed on the way
+pub record IsComputable (chain : Bound) : Type 0 where
+  pub not_zero : zero_place (unnamed (last_problem chain)) ≡ None
+  pub within : (passed : ClosureLimit) → LimitIs chain passed → ⊥
+
+-- a problem behind a step whose closure is tried has few labels and few configurations
+abbrev pub IsClosable : ℕ → NamedProblem → Type 0
+IsClosable times problem = (length problem.names ≤ 16) × IsSmall (unnamed problem) 64 times
+
+-- the chain has no step more, or one to a problem whose closure isn't tried
+abbrev pub IsEnd : ℕ → Bound → Type 0
+IsEnd times chain = stepping_fault chain ≡ None → IsClosable times (last_problem (stepped chain)) → ⊥
+
+-- so can the closures of all problems up to so many derived ones behind the chain, and those behind a step are tried
+abbrev pub AreComputable : ℕ → ℕ → Bound → Type 0
+AreComputable times zero chain = IsComputable chain
+AreComputable times (suc steps) chain = IsComputable chain × IsClosable times (last_problem (stepped chain)) × AreComputable times steps (stepped chain)
 
 -- labels of the problem can be merged so, and the closure behind the chain that this gives is a fixed point; both have a text
 pub record ClosesMerged (from to : ℕ) (problem : NamedProblem) : Type 0 where
@@ -185,6 +207,23 @@ AnswersCount problem settled = (rounds : ℕ) → IsCounted (unnamed problem) No
 abbrev pub IsUncounted : NamedProblem → Type 0
 IsUncounted problem = (rounds : ℕ) → IsCounted (unnamed problem) None 8 (counted.Exactly rounds) → ⊥
 
+-- a fixed point of at most 4 steps without merges that has a text is claimed
+abbrev pub AnswersFixed : NamedProblem → Settled → Type 0
+AnswersFixed problem settled = Shows (Fixed 4 0) Never problem → claim_of settled ≡ Never
+
+-- so is that of the closure of the problem, or the one behind 1 or 2 derived problems, where they can be computed
+abbrev pub AnswersClosure : ℕ → NamedProblem → Settled → Type 0
+AnswersClosure times problem settled =
+    (steps : ℕ) → steps ≤ 2 → AreComputable times steps (problem_chain problem) → Shows (Closure steps) Never problem → claim_of settled ≡ Never
+
+-- there is no fixed point of at most 4 steps without merges that has a text
+abbrev pub IsUnfixed : NamedProblem → Type 0
+IsUnfixed problem = Shows (Fixed 4 0) Never problem → ⊥
+
+-- nor one of a closure that can be computed, up to so many derived problems behind the chain
+abbrev pub IsUnclosed : ℕ → ℕ → Bound → Type 0
+IsUnclosed times more chain = (steps : ℕ) → steps ≤ more → AreComputable times steps chain → ClosesBehind steps chain → ⊥
+
 -- each of the words shows its part of what is claimed; there is no level of labels, as `flexible` answers
 abbrev pub AreShown : ℕ → Settled → NamedProblem → Type 0
 AreShown times settled.Unsolvable problem = IsFlexibility (unnamed problem) NoSolution
@@ -204,12 +243,14 @@ IsShownFurther times further.Greedy problem = (shown : GreedyShown) × greedy.Is
 IsShownFurther times (further.FixedPoint way) problem = IsShown times problem Never way × (least_of way ≡ least.Log)
 
 -- so much is found of the problem, where bounds are taken so many times: words show it, and what is claimed is true, also of local algorithms. What `rounds 8`
--- counts by steps alone to be exact is claimed
+-- counts by steps alone to be exact is claimed; so is what `fixed 4 0` shows, and `closure` within its limits
 pub record IsFound (times : ℕ) (problem : NamedProblem) (settled : Settled) : Type 0 where
   pub shown : AreShown times settled problem
   pub holds : Holds (claim_of settled) (unnamed problem)
   pub class : ClassHolds (class_of settled further.Nothing None) (unnamed problem)
   pub counted : AnswersCount problem settled
+  pub fixed : AnswersFixed problem settled
+  pub closed : AnswersClosure times problem settled
 
 -- and so much of its class besides, which is true of them too
 pub record IsFoundFurther (times : ℕ) (problem : NamedProblem) (settled : Settled) (further : Further) : Type 0 where

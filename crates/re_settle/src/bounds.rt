@@ -14,9 +14,10 @@ use crate::measures::{
     shortest_steps,
 };
 use crate::texts::has_text;
-use crate::types::{Claim, Shown, Way};
+use crate::types::{Shown, Way};
 use re_cert::{Certificate, Kind};
 use re_chains::{LowerChain, UpperChain};
+use re_evidence::Claim;
 use re_given_words::Setting;
 use re_labels::NoMemory;
 use re_problem::Problem;

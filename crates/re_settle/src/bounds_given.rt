@@ -13,8 +13,9 @@ use crate::measures::{
 };
 use crate::never::grows_little;
 use crate::texts::has_given_text;
-use crate::types::{Claim, Shown, Way};
+use crate::types::{Shown, Way};
 use re_chains::LowerChain;
+use re_evidence::Claim;
 use re_labels::NoMemory;
 use re_problem::Problem;
 use re_shortest::Shortest;

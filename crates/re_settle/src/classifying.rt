@@ -2,33 +2,24 @@
 ghost use Rattle.re_flexible.specs.Lengths.{IsFlexibility};
 ghost use Rattle.re_forest_words.specs.Showings.{IsShown as IsGreedyShown};
 ghost use Rattle.re_problem.specs.NamedProblems.{unnamed};
-ghost use Rattle.re_settle.specs.OnForests.{length_of, most_of};
+ghost use Rattle.re_evidence.specs.OnForests.{most_of};
+ghost use Rattle.re_settle.specs.Levels.{length_of};
 ghost use Rattle.re_settle.specs.Ways.{IsFixedPoint, IsFound, IsFoundFurther, IsSettled};
-ghost use Rattle.std.specs.Prelude.{◌≡◌, ◌≤◌, IfOk, IfSome};
+ghost use Rattle.std.specs.Prelude.{◌≡◌, ◌≤◌, IfOk, IfSome, IsSome};
 
 use crate::coloured::{late_coloured, soon_coloured};
 use crate::lines::least_of;
 use crate::never::far_way;
 use crate::settling::search;
-use crate::types::{Classified, Further, Least, Most, Settled, Way};
+use crate::types::{Classified, Further, Settled, Way};
 use re_chains::problem_chain;
+use re_evidence::{Least, Most, most_of};
 use re_flexible::{Flexibility, flexibility_of};
 use re_forest_words::{Showing, Shown, greedy_behind, shown_law};
 use re_gap::{above_log_on_views_law, not_flexible_law};
 use re_labels::{LabelSet, NoMemory};
 use re_problem::Problem;
 use std::alloc::Global;
-
-// At most how many rounds a problem takes that has a flexible set of labels.
-fn most_of(problem: &Problem) -> Most
-    ensures { result ≡ most_of (unnamed problem.now) }
-{
-    if problem.active().degree() == 2 && problem.passive().degree() == 2 {
-        Most::LogStar
-    } else {
-        Most::Log
-    }
-}
 
 // The number of levels, where the literature tells the number of rounds by it.
 fn length_of(problem: &Problem, count: u8) -> Option<u8>
@@ -150,30 +141,7 @@ fn is_open(way: Way, most: Most) -> bool {
     least_of(way) == Least::LogStar && most == Most::Log
 }
 
-// What is found of the class of a problem with a flexible set, besides what is claimed: on paths that set tells it.
-fn further(
-    alloc: Global,
-    problem: &Problem,
-    settled: Settled,
-    most: Most,
-    times: u8,
-) -> Result<Further, NoMemory>
-    requires found { IsFound times problem.now settled }
-    requires times { times ≤ 64 }
-    ensures { IfOk result (IsFoundFurther times problem.now settled) }
-{
-    let _names = problem.names();
-    let Settled::Never(way) = settled else {
-        return Ok(Further::Nothing);
-    };
-    if is_open(way, most) {
-        beside_graph(alloc, problem, way, times)
-    } else {
-        Ok(Further::Nothing)
-    }
-}
-
-// What is known where a set of labels is flexible.
+// What is claimed where a set of labels is flexible.
 fn flexible(
     alloc: Global,
     problem: &Problem,
@@ -188,13 +156,80 @@ fn flexible(
     let _set = set;
     let most = most_of(problem);
     let settled = search(alloc, problem, times)?;
-    let further = further(alloc, problem, settled, most, times)?;
     Ok(Classified {
         settled,
-        further,
+        further: Further::Nothing,
         above: Some(most),
         length: None,
     })
+}
+
+/// What is claimed of how many rounds the problem takes, and so much of its class: what its levels of labels tell, and else what the searches of
+/// this crate find out.
+pub(crate) fn claim(alloc: Global, problem: &Problem, times: u8) -> Result<Classified, NoMemory>
+    requires { times ≤ 64 }
+    ensures { IfOk result (IsSettled times problem.now) }
+{
+    match flexibility_of(problem) {
+        Flexibility::NoSolution => Ok(unsolvable(problem, times)),
+        Flexibility::Length(count) => Ok(levelled(problem, count, times)),
+        Flexibility::Flexible(set) => flexible(alloc, problem, set, times),
+    }
+}
+
+// The same with what is found of the class of a problem with a flexible set, which no number of rounds solves, as these words show.
+fn with_further(
+    alloc: Global,
+    problem: &Problem,
+    claimed: Classified,
+    way: Way,
+    times: u8,
+) -> Result<Classified, NoMemory>
+    requires known { IsSettled times problem.now claimed }
+    requires way { claimed.settled ≡ Settled.Never way }
+    requires above { IsSome claimed.above }
+    requires times { times ≤ 64 }
+    ensures settled { IfOk result (IsSettled times problem.now) }
+    ensures same { IfOk result (λ classified. classified.settled ≡ claimed.settled) }
+{
+    let _names = problem.names();
+    let further = beside_graph(alloc, problem, way, times)?;
+    Ok(Classified {
+        settled: claimed.settled,
+        further,
+        above: claimed.above,
+        length: claimed.length,
+    })
+}
+
+// The words that show that no number of rounds is enough, where these and a flexible set leave a question of the class.
+fn open_way(claimed: Classified) -> Option<Way>
+    ensures way { IfSome result (λ way. claimed.settled ≡ Settled.Never way) }
+    ensures above { IfSome result (λ way. IsSome claimed.above) }
+{
+    let Settled::Never(way) = claimed.settled else {
+        return None;
+    };
+    let most = claimed.above?;
+    if is_open(way, most) { Some(way) } else { None }
+}
+
+/// The same with what is found of the class besides, where a question of it is left: on paths a flexible set tells it.
+pub(crate) fn classify(
+    alloc: Global,
+    problem: &Problem,
+    claimed: Classified,
+    times: u8,
+) -> Result<Classified, NoMemory>
+    requires known { IsSettled times problem.now claimed }
+    requires times { times ≤ 64 }
+    ensures settled { IfOk result (IsSettled times problem.now) }
+    ensures same { IfOk result (λ classified. classified.settled ≡ claimed.settled) }
+{
+    match open_way(claimed) {
+        Some(way) => with_further(alloc, problem, claimed, way, times),
+        None => Ok(claimed),
+    }
 }
 
 /// What is known of how many rounds the problem takes: what its levels of labels tell, and else what the searches of this crate find out, where
@@ -205,9 +240,6 @@ pub fn settle(alloc: Global, problem: &Problem, times: u8) -> Result<Classified,
     requires { times ≤ 64 }
     ensures { IfOk result (IsSettled times problem.now) }
 {
-    match flexibility_of(problem) {
-        Flexibility::NoSolution => Ok(unsolvable(problem, times)),
-        Flexibility::Length(count) => Ok(levelled(problem, count, times)),
-        Flexibility::Flexible(set) => flexible(alloc, problem, set, times),
-    }
+    let claimed = claim(alloc, problem, times)?;
+    classify(alloc, problem, claimed, times)
 }

@@ -1,6 +1,6 @@
 //! Numbers of rounds that are enough given a proper colouring of one side with few colours.
-ghost use Rattle.re_settle.specs.Classes.{few_colours};
-ghost use Rattle.re_settle.specs.Coloured.{IsColoured, IsColouringOf, input_kind};
+ghost use Rattle.re_evidence.specs.Colours.{IsColouringOf, few_colours};
+ghost use Rattle.re_settle.specs.Coloured.{IsColoured};
 ghost use Rattle.std.specs.Prelude.{◌≡◌, IfOk, IfSome};
 
 use crate::bounds::upper_chain;
@@ -8,8 +8,8 @@ use crate::finders::shortest_given;
 use crate::measures::{coloured_steps, doublings, greatest_degree, is_small, shortest_labels};
 use crate::texts::has_given_text;
 use crate::types::{Coloured, ColouredWay};
+use re_evidence::{colouring_of, few_colours};
 use re_given_words::{Counted, RoundsTexts, count_within};
-use re_inputs::{InputKind, fits, input};
 use re_labels::{NoMemory, Side};
 use re_problem::Problem;
 use re_shortest::Shortest;
@@ -33,53 +33,6 @@ const EDGES_SIZE: usize = 64;
 /// Up to how many configurations a problem has of which few labels are kept given colours.
 const SHORTEST_SIZE: usize = 8;
 
-// One colour more than a node of the side meets others of it.
-fn colour_count(problem: &Problem, side: Side) -> u8
-    ensures { result ≡ few_colours side problem.now.active.degree problem.now.passive.degree }
-{
-    let active = problem.active().degree();
-    let passive = problem.passive().degree();
-    match side {
-        Side::Active => active * (passive - 1) + 1,
-        Side::Passive => passive * (active - 1) + 1,
-    }
-}
-
-// What input problem a proper colouring of the side is.
-fn input_kind(side: Side) -> InputKind
-    ensures { result ≡ input_kind side }
-{
-    match side {
-        Side::Active => InputKind::Colouring,
-        Side::Passive => InputKind::Edges,
-    }
-}
-
-// The proper colouring of the side with so many colours, where it has a name.
-fn few_colours(
-    alloc: Global,
-    problem: &Problem,
-    side: Side,
-    colours: u8,
-) -> Result<Option<Problem>, NoMemory>
-    requires { colours ≡ few_colours side problem.now.active.degree problem.now.passive.degree }
-    ensures { IfOk result (λ found. IfSome found (IsColouringOf problem.now side colours)) }
-{
-    let _names = problem.names();
-    let active = problem.active().degree();
-    let passive = problem.passive().degree();
-    let kind = input_kind(side);
-    if !fits(
-        kind,
-        u32::from(active),
-        u32::from(passive),
-        u32::from(colours),
-    ) {
-        return Ok(None);
-    }
-    Ok(Some(input(alloc, kind, active, passive, colours)?))
-}
-
 // A number of rounds of at most `COLOURED_ROUNDS` that is enough given a proper colouring of the side with one colour more than a node of it meets
 // others, found by steps to problems of at most so many labels.
 fn counted_way(
@@ -93,8 +46,8 @@ fn counted_way(
 {
     let _names = problem.names();
     let _times = times;
-    let colours = colour_count(problem, side);
-    let Some(input) = few_colours(alloc, problem, side, colours)? else {
+    let colours = few_colours(problem, side);
+    let Some(input) = colouring_of(alloc, problem, side, colours)? else {
         return Ok(None);
     };
     let texts = RoundsTexts {
@@ -154,8 +107,8 @@ fn shortened_way(
     if !is_small(problem, SHORTEST_SIZE, times) {
         return Ok(None);
     }
-    let colours = colour_count(problem, side);
-    match few_colours(alloc, problem, side, colours)? {
+    let colours = few_colours(problem, side);
+    match colouring_of(alloc, problem, side, colours)? {
         Some(input) => {
             if side == Side::Passive && !is_small(&input, EDGES_SIZE, times) {
                 return Ok(None);

@@ -4,7 +4,8 @@ ghost use Rattle.re_problem.specs.NamedProblems.{unnamed};
 ghost use Rattle.re_settle.specs.Ways.{IsKnown, SaysCounted, few_of};
 ghost use Rattle.std.specs.Prelude.{◌≡◌, ◌≤◌, IfOk, IfSome, None};
 
-use crate::types::{Claim, Shown, Way};
+use crate::types::{Shown, Way};
+use re_evidence::Claim;
 use re_given_words::{Counted, RoundsTexts, count};
 use re_labels::NoMemory;
 use re_problem::Problem;

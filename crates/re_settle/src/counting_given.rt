@@ -6,7 +6,8 @@ ghost use Rattle.re_settle.specs.GivenWays.{IsKnownGiven};
 ghost use Rattle.std.specs.Prelude.{◌≡◌, ◌≤◌, IfOk, IfSome, Some};
 
 use crate::counting::{MAX_ROUNDS, few_of};
-use crate::types::{Claim, Shown, Way};
+use crate::types::{Shown, Way};
+use re_evidence::Claim;
 use re_given_words::{Counted, RoundsTexts, count, count_within};
 use re_labels::NoMemory;
 use re_problem::Problem;

@@ -5,10 +5,9 @@ ghost use Rattle.re_settle.specs.GivenClaims.{claim_given};
 ghost use Rattle.std.specs.Prelude.{◌≡◌, ◌++◌, IfOk, OnOk};
 
 use crate::given_types::SettledGiven;
-use crate::lines::{is_final, push_claim, push_way, within};
+use crate::lines::push_way;
 use crate::notes::push_note;
-use crate::types::Claim;
-use re_describe::push_counted;
+use re_evidence::{Claim, is_final, push_claim, push_counted, within};
 use re_frame::{Output, done, push_words, refused};
 use re_labels::{Names, NoMemory};
 use re_problem::Problem;

@@ -1,6 +1,6 @@
 //! How many rounds a problem takes with port numbers alone, and its class with unique identifiers, also on finite forests, as far as its levels of
 //! labels and searches with fixed limits tell, and the words whose answers show it. What shows the claim is one thing, what shows more of the class
-//! another. The labels that trimming takes away are named.
+//! another: the claim is told before more of the class is looked for. The labels that trimming takes away are named.
 //!
 //! **Levels of labels** come before any search. Where trimming leaves no label, there is no solution, and nothing else is said. Where no set of
 //! labels is flexible, no number of rounds is enough with port numbers alone, and with N identifiers the order of log N is a bound below; where there
@@ -68,6 +68,7 @@ mod answering;
 mod answering_given;
 mod bounds;
 mod bounds_given;
+mod claimed;
 mod classifying;
 mod coloured;
 mod counting;
@@ -82,34 +83,25 @@ mod never_given;
 mod notes;
 mod settling;
 mod settling_given;
+mod telling;
 mod texts;
 mod types;
 mod words;
 
-ghost use Rattle.re_settle.specs.GraphRounds.{GraphRoundsLaw};
-
 pub use answering_given::SettleText;
 pub use bounds::{count_of, has_patterns, upper_chain};
+pub use claimed::{Claimed, Telling};
 pub use classifying::settle;
 pub use counting::{MAX_ROUNDS, few_of};
 pub use given_types::SettledGiven;
-pub use lines::{is_final, push_claim, push_way, within};
+pub use lines::push_way;
 pub use measures::{
     doublings, greatest_degree, is_small, longest_labels, longest_steps, shortest_labels,
     shortest_steps,
 };
 pub use never::{CYCLE_NODES, CYCLE_SIZE, CYCLE_STEPS, GADGET_STEPS, grows_little};
 pub use settling_given::settle_given;
+pub use telling::tell;
 pub use texts::{has_given_text, has_text};
-pub use types::{
-    Claim, Class, Classified, Coloured, ColouredWay, Further, Least, Most, Order, Settled, Shown,
-    Way,
-};
+pub use types::{Classified, Coloured, ColouredWay, Further, Settled, Shown, Way};
 pub use words::{MAX_TIMES, SettleWord, settle_help, settle_word};
-
-/// What a claim in hops says in rounds of the graph whose edges the passive nodes are, two hops each: a problem that takes exactly k hops takes
-/// exactly the half of k, rounded up; what isn't solvable in k or fewer hops isn't in the half of k or fewer, rounded down. So it is with port numbers
-/// alone, and given an input problem.
-pub fn graph_rounds_law()
-    ensures { GraphRoundsLaw }
-{}

@@ -1,35 +1,26 @@
 //! The lines of an answer.
 ghost use Rattle.re_frame.specs.Outcomes.{outcome_of};
-ghost use Rattle.re_describe.specs.GraphRounds.{rounds_above, rounds_below};
-ghost use Rattle.re_settle.specs.Answers.{settled_outcome};
-ghost use Rattle.re_settle.specs.Claims.{claim_of, is_final, within};
-ghost use Rattle.re_settle.specs.Classes.{bounded_class, class_of, least_of, never_class};
-ghost use Rattle.re_settle.specs.Lines.{above_line, alone_text, bound_lines, bounds_text, claim_lines, claim_text, class_lines, class_text, classes_text, coloured_line, coloured_words, colours_text, first_text, further_lines, graph_part, least_text, length_lines, most_text, number_texts, order_text, rounds_text, settled_text, shows_lines, way_line, way_lines, way_numbers, way_rest, way_words};
-ghost use Rattle.std.specs.Fmt.{decimal};
-ghost use Rattle.std.specs.Prelude.{◌≡◌, ◌++◌, ◌∷◌, [], IfOk, OnOk, Some, codes};
+ghost use Rattle.re_settle.specs.Answers.{by_claim, settled_outcome};
+ghost use Rattle.re_evidence.specs.Claims.{is_final, within};
+ghost use Rattle.re_settle.specs.Claims.{claim_of};
+ghost use Rattle.re_evidence.specs.Classes.{bounded_class};
+ghost use Rattle.re_settle.specs.Classes.{class_of, least_of, never_class};
+ghost use Rattle.re_evidence.specs.Lines.{alone_text};
+ghost use Rattle.re_settle.specs.Lines.{above_line, bound_lines, claim_lines, class_lines, classes_text, coloured_line, coloured_words, colours_text, first_text, further_lines, length_lines, number_texts, rest_lines, shows_lines, way_line, way_lines, way_numbers, way_rest, way_words};
+ghost use Rattle.std.specs.Prelude.{◌≡◌, ◌++◌, ◌∷◌, [], IfOk, OnOk, Some};
 
 use crate::notes::push_note;
-use crate::types::{
-    Claim, Class, Classified, Coloured, ColouredWay, Further, Least, Most, Order, Settled, Way,
-};
+use crate::types::{Classified, Coloured, ColouredWay, Further, Settled, Way};
 use arrayvec::ArrayVec;
-use re_describe::push_counted;
+use re_evidence::{
+    Claim, Class, Least, Most, Order, alone_text, bounded_class, is_final, push_claim, push_class,
+    push_counted, within,
+};
 use re_forest_words::push_name;
 use re_frame::{Output, done, push_number, push_words, refused};
 use re_labels::{Names, NoMemory, Side};
 use re_problem::Problem;
 use std::alloc::Global;
-
-/// The claim of more than the first number of rounds and at most the second.
-pub fn within(more: u8, most: u8) -> Claim
-    ensures { result ≡ within more most }
-{
-    if most as usize == more as usize + 1 {
-        Claim::Exactly(most)
-    } else {
-        Claim::Between(more, most)
-    }
-}
 
 // What is claimed.
 fn claim_of(settled: Settled) -> Claim
@@ -40,92 +31,6 @@ fn claim_of(settled: Settled) -> Claim
         Settled::Exactly(shown) => Claim::Exactly(shown.rounds),
         Settled::Within(more, None) => Claim::MoreThan(more.rounds),
         Settled::Within(more, Some(most)) => within(more.rounds, most.rounds),
-    }
-}
-
-/// Whether the claim leaves no question.
-pub fn is_final(claim: Claim) -> bool
-    ensures { result ≡ is_final claim }
-{
-    matches!(claim, Claim::Exactly(_) | Claim::Never)
-}
-
-// Appends the rounds of the graph behind the words, where the passive nodes have two neighbours.
-fn push_graph(text: &mut Vec<u8>, words: &str, passive: u8, rounds: usize) -> Result<(), NoMemory>
-    ensures { OnOk result (text.new.items ≡ text.old.items ++ graph_part words.now passive rounds) }
-{
-    if passive != 2 {
-        return push_words(text, "");
-    }
-    let alloc = *text.allocator();
-    push_words(text, " (")?;
-    push_words(text, words)?;
-    push_number(alloc, text, rounds)?;
-    push_words(text, " rounds of the graph)")
-}
-
-// Appends a number of hops behind the words, and rounds of the graph behind others.
-fn push_rounds(
-    text: &mut Vec<u8>,
-    words: &str,
-    hops: u8,
-    graph: &str,
-    passive: u8,
-    rounds: usize,
-) -> Result<(), NoMemory>
-    ensures { OnOk result (text.new.items ≡ text.old.items ++ (words.now ++ (decimal hops ++ graph_part graph.now passive rounds))) }
-{
-    let alloc = *text.allocator();
-    push_words(text, words)?;
-    push_number(alloc, text, hops as usize)?;
-    push_graph(text, graph, passive, rounds)
-}
-
-// Appends a bound below.
-fn push_more(text: &mut Vec<u8>, hops: u8, passive: u8) -> Result<(), NoMemory>
-    ensures { OnOk result (text.new.items ≡ text.old.items ++ (codes "more than " ++ (decimal hops ++ graph_part (codes "more than ") passive (rounds_below hops)))) }
-{
-    push_rounds(
-        text,
-        "more than ",
-        hops,
-        "more than ",
-        passive,
-        hops as usize / 2,
-    )
-}
-
-// Appends a bound above, behind the words.
-fn push_most(text: &mut Vec<u8>, words: &str, hops: u8, passive: u8) -> Result<(), NoMemory>
-    ensures { OnOk result (text.new.items ≡ text.old.items ++ (words.now ++ (decimal hops ++ graph_part (codes "at most ") passive (rounds_above hops)))) }
-{
-    push_rounds(
-        text,
-        words,
-        hops,
-        "at most ",
-        passive,
-        (hops as usize + 1) / 2,
-    )
-}
-
-/// Appends a claim on a problem whose passive nodes have this degree. Behind that of no number of rounds stand port numbers, and something behind
-/// them.
-pub fn push_claim(text: &mut Vec<u8>, passive: u8, claim: Claim) -> Result<(), NoMemory>
-    ensures { OnOk result (text.new.items ≡ text.old.items ++ claim_text passive claim) }
-{
-    match claim {
-        Claim::Exactly(k) => push_rounds(text, "exactly ", k, "", passive, (k as usize + 1) / 2),
-        Claim::Never => push_words(
-            text,
-            "not solvable in any number of rounds with port numbers ",
-        ),
-        Claim::MoreThan(k) => push_more(text, k, passive),
-        Claim::AtMost(m) => push_most(text, "at most ", m, passive),
-        Claim::Between(k, m) => {
-            push_more(text, k, passive)?;
-            push_most(text, ", at most ", m, passive)
-        }
     }
 }
 
@@ -241,16 +146,6 @@ pub fn push_way(text: &mut Vec<u8>, names: &Names, way: Way) -> Result<(), NoMem
     push_words(text, "\n")
 }
 
-// What algorithms have besides, behind a claim: nothing.
-fn alone_text(claim: Claim) -> &'static str
-    ensures { result.now ≡ alone_text claim }
-{
-    match claim {
-        Claim::Never => "alone\n",
-        _ => "\n",
-    }
-}
-
 // Appends the first line: that there is no solution, or the claim.
 fn push_first(text: &mut Vec<u8>, passive: u8, settled: Settled) -> Result<(), NoMemory>
     ensures { OnOk result (text.new.items ≡ text.old.items ++ first_text passive settled) }
@@ -278,17 +173,6 @@ fn push_ways(text: &mut Vec<u8>, names: &Names, settled: Settled) -> Result<(), 
             push_way(text, names, more.way)?;
             push_way(text, names, most.way)
         }
-    }
-}
-
-// The class with a bound below alone, or with a bound above too.
-fn bounded_class(least: Least, above: Option<Most>) -> Class
-    ensures { result ≡ bounded_class least above }
-{
-    match (least, above) {
-        (Least::Log, Some(_)) => Class::Order(Order::Log),
-        (Least::LogStar, Some(Most::LogStar)) => Class::Order(Order::LogStar),
-        (least, above) => Class::Bounds(least, above),
     }
 }
 
@@ -324,83 +208,6 @@ fn class_of(settled: Settled, further: Further, above: Option<Most>) -> Class
         Settled::Never(way) => never_class(way, further, above),
         Settled::Within(more, None) => bounded_class(Least::MoreThan(more.rounds), above),
         Settled::Within(more, Some(most)) => Class::Constant(within(more.rounds, most.rounds)),
-    }
-}
-
-// Appends a claim in rounds.
-fn push_claimed(text: &mut Vec<u8>, claim: Claim) -> Result<(), NoMemory>
-    ensures { OnOk result (text.new.items ≡ text.old.items ++ rounds_text claim) }
-{
-    match claim {
-        Claim::Exactly(k) => push_counted(text, "exactly ", k),
-        Claim::Never => push_words(text, "never"),
-        Claim::MoreThan(k) => push_counted(text, "more than ", k),
-        Claim::AtMost(m) => push_counted(text, "at most ", m),
-        Claim::Between(k, m) => {
-            push_counted(text, "more than ", k)?;
-            push_counted(text, ", at most ", m)
-        }
-    }
-}
-
-// The words for an order.
-fn order_text(order: Order) -> &'static str
-    ensures { result.now ≡ order_text order }
-{
-    match order {
-        Order::LogStar => "order log* N",
-        Order::Log => "order log N",
-        Order::Linear => "order N",
-    }
-}
-
-// The words for the order of a bound above.
-fn most_text(most: Most) -> &'static str
-    ensures { result.now ≡ most_text most }
-{
-    match most {
-        Most::LogStar => "order log* N",
-        Most::Log => "order log N",
-    }
-}
-
-// Appends a bound below.
-fn push_least(text: &mut Vec<u8>, least: Least) -> Result<(), NoMemory>
-    ensures { OnOk result (text.new.items ≡ text.old.items ++ least_text least) }
-{
-    match least {
-        Least::MoreThan(k) => push_claimed(text, Claim::MoreThan(k)),
-        Least::LogStar => push_words(text, "at least order log* N"),
-        Least::Log => push_words(text, "at least order log N"),
-    }
-}
-
-// Appends a bound below, and one above where it is known.
-fn push_bounds(text: &mut Vec<u8>, least: Least, most: Option<Most>) -> Result<(), NoMemory>
-    ensures { OnOk result (text.new.items ≡ text.old.items ++ bounds_text least most) }
-{
-    push_least(text, least)?;
-    match most {
-        Some(most) => {
-            push_words(text, ", at most ")?;
-            push_words(text, most_text(most))
-        }
-        None => push_words(text, ""),
-    }
-}
-
-// Appends a class.
-fn push_class(text: &mut Vec<u8>, class: Class) -> Result<(), NoMemory>
-    ensures { OnOk result (text.new.items ≡ text.old.items ++ class_text class) }
-{
-    match class {
-        Class::NoSolution => push_words(text, "no solution"),
-        Class::Constant(claim) => {
-            push_words(text, "constant, ")?;
-            push_claimed(text, claim)
-        }
-        Class::Order(order) => push_words(text, order_text(order)),
-        Class::Bounds(least, most) => push_bounds(text, least, most),
     }
 }
 
@@ -555,19 +362,53 @@ fn push_claim_lines(text: &mut Vec<u8>, problem: &Problem, settled: Settled) -> 
     push_ways(text, problem.names(), settled)
 }
 
-// The text of what is known of the problem.
-fn settled_text(
+// Appends the lines behind them.
+fn push_rest_lines(
+    text: &mut Vec<u8>,
+    problem: &Problem,
+    classified: Classified,
+) -> Result<(), NoMemory>
+    ensures { OnOk result (text.new.items ≡ text.old.items ++ rest_lines problem.now classified) }
+{
+    push_classes(text, problem.names(), classified)?;
+    push_note(text, problem)
+}
+
+/// The lines of what is claimed of the problem, and of the words that show it.
+pub(crate) fn claim_text(
+    alloc: Global,
+    problem: &Problem,
+    settled: Settled,
+) -> Result<Vec<u8>, NoMemory>
+    ensures { IfOk result (λ text. text.items ≡ claim_lines problem.now settled) }
+{
+    let mut text = Vec::new(alloc);
+    push_claim_lines(&mut text, problem, settled)?;
+    Ok(text)
+}
+
+/// The lines behind them.
+pub(crate) fn rest_text(
     alloc: Global,
     problem: &Problem,
     classified: Classified,
 ) -> Result<Vec<u8>, NoMemory>
-    ensures { IfOk result (λ text. text.items ≡ settled_text problem.now classified) }
+    ensures { IfOk result (λ text. text.items ≡ rest_lines problem.now classified) }
 {
     let mut text = Vec::new(alloc);
-    push_claim_lines(&mut text, problem, classified.settled)?;
-    push_classes(&mut text, problem.names(), classified)?;
-    push_note(&mut text, problem)?;
+    push_rest_lines(&mut text, problem, classified)?;
     Ok(text)
+}
+
+/// The output of a text, with the answer of what is claimed.
+pub(crate) fn by_claim(settled: Settled, text: Vec<u8>) -> Output
+    ensures { outcome_of result ≡ by_claim settled text.items }
+{
+    if is_final(claim_of(settled)) {
+        done(text)
+    } else {
+        refused(text)
+    }
 }
 
 /// The output for what is known of the problem.
@@ -578,10 +419,7 @@ pub(crate) fn settled_output(
 ) -> Result<Output, NoMemory>
     ensures { IfOk result (λ output. outcome_of output ≡ settled_outcome problem.now classified) }
 {
-    let text = settled_text(alloc, problem, classified)?;
-    if is_final(claim_of(classified.settled)) {
-        Ok(done(text))
-    } else {
-        Ok(refused(text))
-    }
+    let mut text = claim_text(alloc, problem, classified.settled)?;
+    push_rest_lines(&mut text, problem, classified)?;
+    Ok(by_claim(classified.settled, text))
 }

@@ -1,22 +1,24 @@
 //! Fixed points, and graphs without a solution. Each function tries one way to show that no number of rounds solves a problem, and tells the words
 //! that show it.
 ghost use Rattle.re_shaping.specs.Merging.{merge_limit, merge_refusal, merged};
+ghost use Rattle.re_shaping.specs.Stepped.{stepped, stepping_fault};
 ghost use Rattle.re_chains.specs.ChainTexts.{problem_chain};
-ghost use Rattle.re_settle.specs.Ways.{ClosesBehind, HasText, IsFixedPoint, IsKnown, IsNever, IsTried};
-ghost use Rattle.std.specs.Prelude.{◌≡◌, ◌<◌, ◌≤◌, IfOk, IfSome, None, length};
+ghost use Rattle.re_settle.specs.Ways.{ClosesBehind, HasText, IsClosable, IsEnd, IsFixedPoint, IsKnown, IsNever, IsTried, IsUnclosed, IsUnfixed};
+ghost use Rattle.std.specs.Prelude.{◌≡◌, ◌↔◌, ◌<◌, ◌≤◌, IfOk, IfSome, IsTrue, None, length};
 
 use crate::measures::is_small;
 use crate::texts::has_text;
-use crate::types::{Claim, Way};
+use crate::types::Way;
 use re_chains::{LowerChain, over_problems};
-use re_closure::{Closing, ClosureFault, find_closure, find_raised};
+use re_closure::{Closing, ClosureFault, find_closure, find_raised, one_outcome_law};
 use re_cycle::{Cycle, find_cycle};
+use re_evidence::Claim;
 use re_given_words::Setting;
 use re_graph::{MAX_STEPS, find_cover, find_gadgets};
 use re_labels::NoMemory;
 use re_problem::Problem;
-use re_relaxed::{Relaxed, find_relaxed, find_through};
 use re_search::{FindFault, Search, find_fixed};
+use re_search_words::{Relaxed, find_relaxed, find_through};
 use re_shaping::{ChainStepFault, MergeFault, merge_lower, step_lower};
 use re_step::{StepFault, step as derive};
 use std::alloc::Global;
@@ -54,9 +56,10 @@ const THROUGH_TRIES: u32 = 200_000;
 /// How many steps gadgets are joined in, and no more than `cover` takes.
 pub const GADGET_STEPS: usize = 1_000_000;
 
-// A fixed point of at most 4 steps without merges.
+// A fixed point of at most 4 steps without merges; none only where there is none that has a text.
 fn fixed_way(alloc: Global, problem: &Problem, times: u8) -> Result<Option<Way>, NoMemory>
-    ensures { IfOk result (λ found. IfSome found (IsFixedPoint times problem.now)) }
+    ensures shown { IfOk result (λ found. IfSome found (IsFixedPoint times problem.now)) }
+    ensures none { IfOk result (λ found. found ≡ None → IsUnfixed problem.now) }
 {
     let _times = times;
     match find_fixed(alloc, problem, 4, 0) {
@@ -70,50 +73,74 @@ fn fixed_way(alloc: Global, problem: &Problem, times: u8) -> Result<Option<Way>,
                 Ok(None)
             }
         }
-        Ok(Search::NotFound { .. }) | Err(FindFault::TooManyNodes) => Ok(None),
+        Ok(
+            Search::NotFound {
+                nodes: _nodes,
+                cut: _cut,
+            },
+        ) => Ok(None),
+        Err(FindFault::TooManyNodes) => Ok(None),
         Err(FindFault::NoMemory) => Err(NoMemory),
     }
 }
 
 // Whether the closure of a problem behind a step is tried.
-fn may_close(problem: &Problem, times: u8) -> bool {
+fn may_close(problem: &Problem, times: u8) -> bool
+    ensures { IsTrue result ↔ IsClosable times problem.now }
+{
     problem.names().len() <= MAX_CLOSED as usize && is_small(problem, CLOSED_SIZE, times)
 }
 
+// The chain with one derived step more, where the closure behind it is tried.
+fn next_chain(alloc: Global, chain: &LowerChain, times: u8) -> Result<Option<LowerChain>, NoMemory>
+    ensures may { IfOk result (λ next. IfSome next (λ next. stepping_fault chain.now.certificate ≡ None)) }
+    ensures stepped { IfOk result (λ next. IfSome next (λ next. next.certificate ≡ stepped chain.now.certificate)) }
+    ensures none { IfOk result (λ next. next ≡ None → IsEnd times chain.now.certificate) }
+{
+    match step_lower(alloc, chain) {
+        Ok(next) => {
+            if may_close(next.certificate.last(), times) {
+                Ok(Some(next))
+            } else {
+                Ok(None)
+            }
+        }
+        Err(ChainStepFault::TooManySteps) => Ok(None),
+        Err(ChainStepFault::Limit(_passed)) => Ok(None),
+        Err(ChainStepFault::NoMemory) => Err(NoMemory),
+    }
+}
+
 // Behind how many derived problems, at most so many, the closure of the chain's last problem gives a fixed point: where the closures before are
-// solvable without communication, and the problems behind a step are small.
+// solvable without communication, and the problems behind a step are small. None only where no closure that can be computed gives one.
 fn closing(alloc: Global, chain: &LowerChain, more: u8, times: u8) -> Result<Option<u8>, NoMemory>
     ensures closes { IfOk result (λ found. IfSome found (λ steps. ClosesBehind steps chain.now.certificate)) }
     ensures most { IfOk result (λ found. IfSome found (λ steps. steps ≤ more)) }
+    ensures none { IfOk result (λ found. found ≡ None → IsUnclosed times more chain.now.certificate) }
 {
+    one_outcome_law();
+    let last = chain.certificate.last();
+    let _names = last.names();
     match find_closure(alloc, chain) {
         Ok(Closing::Found(certificate)) => {
             let has = has_text(alloc, &certificate)?;
-            if has {
-                return Ok(Some(0));
-            }
-            return Ok(None);
+            if has { Ok(Some(0)) } else { Ok(None) }
         }
-        Ok(Closing::SolvableClosure(_)) => {}
-        Ok(Closing::Solvable(_)) => return Ok(None),
-        Err(ClosureFault::Limit(_)) => return Ok(None),
-        Err(ClosureFault::NoMemory) => return Err(NoMemory),
-    }
-    if more == 0 {
-        return Ok(None);
-    }
-    match step_lower(alloc, chain) {
-        Ok(next) => {
-            if !may_close(next.certificate.last(), times) {
+        Ok(Closing::SolvableClosure(_sets)) => {
+            if more == 0 {
                 return Ok(None);
             }
-            match closing(alloc, &next, more - 1, times)? {
-                Some(steps) => Ok(Some(steps + 1)),
+            match next_chain(alloc, chain, times)? {
                 None => Ok(None),
+                Some(next) => match closing(alloc, &next, more - 1, times)? {
+                    Some(steps) => Ok(Some(steps + 1)),
+                    None => Ok(None),
+                },
             }
         }
-        Err(ChainStepFault::NoMemory) => Err(NoMemory),
-        Err(_) => Ok(None),
+        Ok(Closing::Solvable(_place)) => Ok(None),
+        Err(ClosureFault::Limit(_passed)) => Ok(None),
+        Err(ClosureFault::NoMemory) => Err(NoMemory),
     }
 }
 
@@ -127,7 +154,8 @@ fn closure_way(
 ) -> Result<Option<Way>, NoMemory>
     requires chain { chain.now.certificate ≡ problem_chain problem.now }
     requires more { more ≤ 2 }
-    ensures { IfOk result (λ found. IfSome found (IsFixedPoint times problem.now)) }
+    ensures shown { IfOk result (λ found. IfSome found (IsFixedPoint times problem.now)) }
+    ensures none { IfOk result (λ found. found ≡ None → IsUnclosed times more (problem_chain problem.now)) }
 {
     let _problem = problem;
     match closing(alloc, chain, more, times)? {
@@ -444,13 +472,16 @@ fn near_way(
 ) -> Result<Option<Way>, NoMemory>
     requires chain { chain.now.certificate ≡ problem_chain problem.now }
     requires times { times ≤ 64 }
-    ensures { IfOk result (λ found. IfSome found (IsFixedPoint times problem.now)) }
+    ensures shown { IfOk result (λ found. IfSome found (IsFixedPoint times problem.now)) }
+    ensures none { IfOk result (λ found. found ≡ None → IsUnfixed problem.now) }
 {
-    if let Some(way) = fixed_way(alloc, problem, times)? {
-        return Ok(Some(way));
+    match fixed_way(alloc, problem, times)? {
+        Some(way) => Ok(Some(way)),
+        None => {
+            let nodes = NEAR_RELAXED * u32::from(times);
+            relaxed_way(alloc, problem, chain, nodes, times)
+        }
     }
-    let nodes = NEAR_RELAXED * u32::from(times);
-    relaxed_way(alloc, problem, chain, nodes, times)
 }
 
 /// The first words that show that no number of rounds solves the problem, whose chain is given too, of those that cost little, whatever its size.
@@ -462,7 +493,8 @@ pub(crate) fn soon_way(
 ) -> Result<Option<Way>, NoMemory>
     requires chain { chain.now.certificate ≡ problem_chain problem.now }
     requires times { times ≤ 64 }
-    ensures { IfOk result (λ found. IfSome found (IsNever times problem.now)) }
+    ensures shown { IfOk result (λ found. IfSome found (IsNever times problem.now)) }
+    ensures none { IfOk result (λ found. found ≡ None → IsUnfixed problem.now) }
 {
     match near_way(alloc, problem, chain, times)? {
         Some(way) => Ok(Some(way)),
@@ -493,8 +525,8 @@ fn through_way(
     }
 }
 
-/// The first words that show a fixed point of the problem, whose chain is given too, of those that cost more.
-pub(crate) fn far_way(
+// The first words that show a fixed point of the problem, whose chain is given too, of those that cost more than closures.
+fn farther_way(
     alloc: Global,
     problem: &Problem,
     chain: &LowerChain,
@@ -504,9 +536,6 @@ pub(crate) fn far_way(
     requires times { times ≤ 64 }
     ensures { IfOk result (λ found. IfSome found (IsFixedPoint times problem.now)) }
 {
-    if let Some(way) = closure_way(alloc, problem, chain, 2, times)? {
-        return Ok(Some(way));
-    }
     if let Some(way) = through_way(alloc, problem, chain, times)? {
         return Ok(Some(way));
     }
@@ -521,4 +550,23 @@ pub(crate) fn far_way(
         return Ok(Some(way));
     }
     cycle_way(alloc, problem, chain, times)
+}
+
+/// The same of those that cost more; none only where no closure that can be computed, of the problem or behind 1 or 2 derived ones, gives a fixed
+/// point that has a text.
+pub(crate) fn far_way(
+    alloc: Global,
+    problem: &Problem,
+    chain: &LowerChain,
+    times: u8,
+) -> Result<Option<Way>, NoMemory>
+    requires chain { chain.now.certificate ≡ problem_chain problem.now }
+    requires times { times ≤ 64 }
+    ensures shown { IfOk result (λ found. IfSome found (IsFixedPoint times problem.now)) }
+    ensures none { IfOk result (λ found. found ≡ None → IsUnclosed times 2 (problem_chain problem.now)) }
+{
+    match closure_way(alloc, problem, chain, 2, times)? {
+        Some(way) => Ok(Some(way)),
+        None => farther_way(alloc, problem, chain, times),
+    }
 }

@@ -3,7 +3,7 @@ ghost use Rattle.re_given_words.specs.Counting.{MayTell};
 ghost use Rattle.re_chains.specs.ChainTexts.{problem_chain};
 ghost use Rattle.re_problem.specs.NamedProblems.{unnamed};
 ghost use Rattle.re_problem.specs.Zero.{zero_place};
-ghost use Rattle.re_settle.specs.Ways.{IsFixedPoint, IsFound, IsNever, IsUncounted};
+ghost use Rattle.re_settle.specs.Ways.{IsFixedPoint, IsFound, IsNever, IsUnclosed, IsUncounted, IsUnfixed};
 ghost use Rattle.std.specs.Prelude.{◌≡◌, ◌≤◌, IfOk, IfSome, None};
 
 use crate::bounds::{enough, long_way, longer, lower_way, short_way};
@@ -43,7 +43,8 @@ fn by_steps(
     steps: u8,
     times: u8,
 ) -> Result<Option<Settled>, NoMemory>
-    requires { steps ≤ 8 }
+    requires steps { steps ≤ 8 }
+    requires unfixed { IsUnfixed problem.now }
     ensures { IfOk result (λ found. IfSome found (IsFound times problem.now)) }
 {
     let _names = problem.names();
@@ -64,7 +65,8 @@ fn by_steps(
 
 // So many rounds, as they are counted: by certificates where these are found, and else by the count.
 fn exact(alloc: Global, problem: &Problem, rounds: u8, times: u8) -> Result<Settled, NoMemory>
-    requires { MayTell (unnamed problem.now) None 8 (Counted.Exactly rounds) }
+    requires counted { MayTell (unnamed problem.now) None 8 (Counted.Exactly rounds) }
+    requires unfixed { IsUnfixed problem.now }
     ensures { IfOk result (IsFound times problem.now) }
 {
     let _names = problem.names();
@@ -90,6 +92,8 @@ fn bounded(
     requires not_zero { zero_place (unnamed problem.now) ≡ None }
     requires counted { MayTell (unnamed problem.now) None 8 counted }
     requires uncounted { IsUncounted problem.now }
+    requires unfixed { IsUnfixed problem.now }
+    requires unclosed { IsUnclosed times 2 (problem_chain problem.now) }
     ensures { IfOk result (IsFound times problem.now) }
 {
     let _names = problem.names();
@@ -98,6 +102,28 @@ fn bounded(
     let lower = longer(problem, more, Some(long), times);
     let upper = short_way(alloc, problem, times)?;
     Ok(Settled::Within(lower, upper))
+}
+
+// What is known where the closures that are tried show nothing.
+fn unclosed(
+    alloc: Global,
+    problem: &Problem,
+    chain: &LowerChain,
+    counted: Counted,
+    times: u8,
+) -> Result<Settled, NoMemory>
+    requires chain { chain.now.certificate ≡ problem_chain problem.now }
+    requires not_zero { zero_place (unnamed problem.now) ≡ None }
+    requires counted { MayTell (unnamed problem.now) None 8 counted }
+    requires uncounted { IsUncounted problem.now }
+    requires unfixed { IsUnfixed problem.now }
+    requires unclosed { IsUnclosed times 2 (problem_chain problem.now) }
+    ensures { IfOk result (IsFound times problem.now) }
+{
+    match gadget_way(alloc, problem, times)? {
+        Some(way) => Ok(never(problem, way, times)),
+        None => bounded(alloc, problem, chain, counted, times),
+    }
 }
 
 // What is known beyond steps without changes.
@@ -112,15 +138,13 @@ fn searched(
     requires not_zero { zero_place (unnamed problem.now) ≡ None }
     requires counted { MayTell (unnamed problem.now) None 8 counted }
     requires uncounted { IsUncounted problem.now }
+    requires unfixed { IsUnfixed problem.now }
     requires times { times ≤ 64 }
     ensures { IfOk result (IsFound times problem.now) }
 {
-    if let Some(way) = far_way(alloc, problem, chain, times)? {
-        return Ok(by_fixed_point(problem, way, times));
-    }
-    match gadget_way(alloc, problem, times)? {
-        Some(way) => Ok(never(problem, way, times)),
-        None => bounded(alloc, problem, chain, counted, times),
+    match far_way(alloc, problem, chain, times)? {
+        Some(way) => Ok(by_fixed_point(problem, way, times)),
+        None => unclosed(alloc, problem, chain, counted, times),
     }
 }
 
@@ -133,6 +157,7 @@ fn settled(
 ) -> Result<Settled, NoMemory>
     requires chain { chain.now.certificate ≡ problem_chain problem.now }
     requires not_zero { zero_place (unnamed problem.now) ≡ None }
+    requires unfixed { IsUnfixed problem.now }
     requires times { times ≤ 64 }
     ensures { IfOk result (IsFound times problem.now) }
 {

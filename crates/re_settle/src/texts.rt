@@ -1,7 +1,8 @@
 //! Whether what is found can be written out.
 ghost use Rattle.re_settle.specs.Ways.{HasText};
 ghost use Rattle.re_chains.specs.GivenTexts.{IsGivenText, given_text};
-ghost use Rattle.std.specs.Prelude.{◌≡◌, IfOk, true};
+ghost use Rattle.re_texts.specs.PrintedCertificates.{certificate_text};
+ghost use Rattle.std.specs.Prelude.{◌≡◌, ◌<◌, IfOk, false, length, true};
 
 use re_cert::Certificate;
 use re_chains::print_given;
@@ -16,6 +17,7 @@ use std::alloc::Global;
 pub fn has_text(alloc: Global, certificate: &Certificate) -> Result<bool, NoMemory>
     ensures text { IfOk result (λ has. has ≡ true → HasText certificate.now) }
     ensures whole { IfOk result (λ has. HasText certificate.now → has ≡ true) }
+    ensures long { IfOk result (λ has. has ≡ false → MAX_BYTES < length (certificate_text certificate.now)) }
 {
     let text = print_certificate(alloc, certificate)?;
     Ok(text.len() <= MAX_BYTES)

@@ -2,7 +2,7 @@
 use Rattle.std.proofs.Common.{◌≡◌, ℕ, ◌<◌, ◌≤◌, Bool, true, false, eqb, leb, ltb, List, [], ◌∷◌, length, map, None, Some, Result, Ok, Err, refl, sym, ap, ◌∙◌, arith}
 use Rattle.std.proofs.lemmas.Bool.Decides.{nat_tests}
 use Rattle.std.specs.Prelude.{◌&&◌, IsErrAnd, if◌then◌else◌, option_map}
-use Rattle.std.specs.List.{AllByRecursion, list_all}
+use Rattle.std.specs.List.{list_all}
 use Rattle.re_cert.specs.Bounds.{BoundStep, image_fits, is_bound, is_label, is_lower, row_fits, step_fits}
 use Rattle.re_cert.specs.declared.certificate.Kind.{Kind}
 use Rattle.re_chains.proofs.ChainBounds.{lower-chain}
@@ -11,11 +11,8 @@ use Rattle.re_shaping.proofs.OwnEntries.{few-labels}
 use Rattle.re_check.specs.Verdicts.{fault_at, fault_or}
 use Rattle.re_check.proofs.StepMeaning.{lower_clauses}
 use Rattle.re_check.specs.Clauses.{step_fault}
-use Rattle.re_labels.proofs.Sorting.{AllByRecursion-Rearranged, Rearranged-sorted, length-sorted}
-use Rattle.re_labels.proofs.Rearranging.{Rearranged-sym}
-use Rattle.re_labels.specs.Configs.{IsConfig, sorted}
 use Rattle.re_labels.specs.declared.TheConstants.{MAX_ROWS}
-use Rattle.re_labels.proofs.Membership.{AllByRecursion-contains, In-Contains, all-In_from}
+use Rattle.re_labels.proofs.Membership.{In-Contains, all-In_from}
 use Rattle.re_labels.proofs.Tests.{eqb-same, true-and}
 use Rattle.re_problem.proofs.Building.{below_all}
 use Rattle.re_problem.specs.NamedProblems.{IsNamedProblem, NamedProblem, unnamed}
@@ -25,8 +22,8 @@ use Rattle.re_step.proofs.StepLemmas.{IsNamedProblem-derived}
 use Rattle.re_step.specs.Derivations.{Derivation, derivation, named_derived, step_limit}
 use Rattle.re_step.specs.declared.derivation.StepFault.{StepFault}
 use Rattle.re_step.specs.declared.derivation.StepLimit.TheVariants.{Rows}
-use Rattle.re_table.specs.Constraints.{Constraint, Has, IsConstraint}
 use Rattle.re_table.specs.GoodRows.{max_rows}
+use Rattle.re_table.proofs.ConstraintImages.{held_labels}
 use Rattle.re_search.proofs.Entries.{rows-fit}
 use Rattle.re_shaping.proofs.DerivedRelaxations.{to-derived}
 use Rattle.re_shaping.proofs.LastSteps.{chain_with-bound}
@@ -46,12 +43,6 @@ relaxed-within problem relaxed none = go (ltb MAX_ROWS (length (max_rows problem
     go false e h = (grind (arith, nat_tests), h)
 
 -- ---- a step by rows
--- the labels of a configuration, in any order
-held_labels : (n : ℕ) (constraint : Constraint) (labels : List ℕ) → IsConstraint n constraint → Has constraint labels → (length labels ≡ constraint.degree) × AllByRecursion (λ x. x < n) labels
-held_labels n constraint labels fine held =
-    let config : IsConfig constraint.degree n (sorted labels) = AllByRecursion-contains (IsConfig constraint.degree n) constraint.configs (sorted labels) fine.configs held in
-    (sym (length-sorted labels) ∙ config.count, AllByRecursion-Rearranged (λ x. x < n) (Rearranged-sym (Rearranged-sorted labels)) config.below)
-
 module _ (problem next : NamedProblem) (images : List (List ℕ)) (fine : IsNamedProblem next) (few : length (max_rows problem.passive (length problem.names)) ≤ MAX_ROWS)
     (step : IsLowerStepByRow (unnamed problem) (unnamed next) (max_rows problem.passive (length problem.names)) images) where
   few-images : leb (length images) MAX_ROWS ≡ true

@@ -2,7 +2,7 @@
 use Rattle.std.proofs.Common.{◌≡◌, ℕ, zero, suc, ◌+◌, ◌-◌, ◌<◌, ◌≤◌, Bool, true, false, List, [], ◌∷◌, length, sym, ◌∙◌, subst, ◌⊎◌, inl, inr, arith}
 use Rattle.std.specs.Prelude.{Contains, IsTrue, slice_set, ◌↔◌}
 use Rattle.std.proofs.lemmas.Bool.{false≢true}
-use Rattle.re_boxes.proofs.Grown.{added_good, nothing_above, with_label_itself, added_above, both_added}
+use Rattle.re_boxes.proofs.Grown.{added_good, nothing_above, added_above, both_added}
 use Rattle.re_boxes.proofs.Spread.{AreFilled, IsGood-under, IsIn-filled, one_label}
 use Rattle.re_boxes.specs.Grown.{IsGrown, added}
 use Rattle.re_labels.proofs.ChoicesOfRows.{IsUnder-refl, IsUnder-trans}
@@ -13,7 +13,7 @@ use Rattle.re_labels.specs.Rearranging.{Rearranged}
 use Rattle.re_labels.specs.Rows.{Dominates, IsChoice, IsUnder, in_order, set_at}
 use Rattle.re_labels.proofs.Membership.{In-Contains}
 use Rattle.re_labels.proofs.Numbers.{IsLabelSet-with_label}
-use Rattle.re_labels.proofs.Sets.{has-IsIn}
+use Rattle.re_labels.proofs.Sets.{has-IsIn, IsIn-with_label_new}
 use Rattle.re_labels.specs.Sets.{IsIn, has, with_label}
 use Rattle.re_table.proofs.Goodness.{IsGood-Rearranged}
 use Rattle.re_table.proofs.MaxRows.{IsMaximal-max_rows}
@@ -28,18 +28,18 @@ use Rattle.re_labels.specs.declared.TheConstants.{MAX_LABELS}
 
 -- ---- a set with one more label
 added_filled : (i x : ℕ) (r : List (List ℕ)) → AreFilled r → AreFilled (added i x r)
-added_filled i x r h = all_set (λ s. 0 < length s) r i (with_label (set_at r i) x) h (IsIn-filled x (with_label (set_at r i) x) (with_label_itself (set_at r i) x))
+added_filled i x r h = all_set (λ s. 0 < length s) r i (with_label (set_at r i) x) h (IsIn-filled x (with_label (set_at r i) x) (IsIn-with_label_new (set_at r i) x))
 
 pub added_sets : (n i x : ℕ) (r : List (List ℕ)) → x < n → i < length r → AreSets n r → AreSets n (added i x r)
 added_sets n i x r below b h =
-    all_set _ r i (with_label (set_at r i) x) h (IsLabelSet-with_label n (set_at r i) x below (all_at _ r i h b).0, IsIn-filled x (with_label (set_at r i) x) (with_label_itself (set_at r i) x))
+    all_set _ r i (with_label (set_at r i) x) h (IsLabelSet-with_label n (set_at r i) x below (all_at _ r i h b).0, IsIn-filled x (with_label (set_at r i) x) (IsIn-with_label_new (set_at r i) x))
 
 -- the choices that have the label at the place are choices of the sets with it
 pub only_choices : (i x : ℕ) (r : List (List ℕ)) (c : List ℕ) → IsChoice c (slice_set r i (x ∷ [])) → IsChoice c (added i x r)
 only_choices i x [] c k = k
 only_choices zero x (s ∷ r) [] k = absurd k
 only_choices (suc i) x (s ∷ r) [] k = absurd k
-only_choices zero x (s ∷ r) (z ∷ c) k = (subst (λ y. IsIn y (with_label s x)) (sym (one_label z x k.0)) (with_label_itself s x), k.1)
+only_choices zero x (s ∷ r) (z ∷ c) k = (subst (λ y. IsIn y (with_label s x)) (sym (one_label z x k.0)) (IsIn-with_label_new s x), k.1)
 only_choices (suc i) x (s ∷ r) (z ∷ c) k = (k.0, only_choices i x r c k.1)
 
 module _ (constraint : Constraint) (n : ℕ) where
@@ -54,7 +54,7 @@ module _ (constraint : Constraint) (n : ℕ) where
   tried_refused r i x can told never good = absurd (false≢true (sym never ∙ told.1 (λ c k. good.choice c (only_choices i x r c k))))
 
   pub tried_added : (r more : List (List ℕ)) (i x : ℕ) → i < length r → more ≡ added i x r → IsTried constraint more i x
-  tried_added r more i x b e good = subst (λ t. IsIn x (set_at t i)) (sym e) (subst (IsIn x) (sym (set_there r i (with_label (set_at r i) x) b)) (with_label_itself (set_at r i) x))
+  tried_added r more i x b e good = subst (λ t. IsIn x (set_at t i)) (sym e) (subst (IsIn x) (sym (set_there r i (with_label (set_at r i) x) b)) (IsIn-with_label_new (set_at r i) x))
 
   pub grown_added : (r more : List (List ℕ)) (i x : ℕ) (can : Bool) → IsTrue can ↔ AreGoodChoices constraint (slice_set r i (x ∷ [])) → can ≡ true → i < length r → x < n
       → IsGood constraint r → AreSets n r → more ≡ added i x r → IsGrownFrom constraint n r more

@@ -3,9 +3,9 @@ use Rattle.std.proofs.Common.{◌≡◌, ℕ, zero, suc, ◌<◌, not, List, [],
 use Rattle.std.specs.Prelude.{Contains, slice_set, ◌↔◌}
 use Rattle.std.proofs.lemmas.List.Elements.{Contains-append_right}
 use Rattle.re_labels.proofs.Membership.{Contains-cases, Contains-here, Contains-none}
-use Rattle.re_labels.proofs.Sets.{IsIn-meet, IsIn-meet_cases, has-IsIn}
+use Rattle.re_labels.proofs.Sets.{has-IsIn, IsIn-meet, IsIn-meet_cases, IsIn-with_label_cases, IsIn-with_label_old}
 use Rattle.re_labels.specs.Sets.{IsIn, has, meet, with_label, without_label}
-use Rattle.re_boxes.proofs.NextLabels.{IsIn-with_cases, IsIn-with_new, IsIn-with_old}
+use Rattle.re_boxes.proofs.NextLabels.{IsIn-with_new}
 use Rattle.re_boxes.proofs.DrawnChoices.{good_last, label_cases, label_kept}
 use Rattle.re_boxes.specs.Choosing.{AreGoodBehind}
 use Rattle.re_table.specs.Constraints.{Constraint, Has}
@@ -36,13 +36,13 @@ module _ (P : ℕ → Type 0) where
   module _ (among left more : List ℕ) (label : ℕ) (is : left ≡ without_label among label) (told : (x : ℕ) → IsIn x more ↔ (IsIn x left × P x)) where
     pub one_kept : (out : List ℕ) → IsIn label among → out ≡ with_label more label → P label → (x : ℕ) → IsIn x out ↔ (IsIn x among × P x)
     one_kept out held e p x = (
-      (λ h. elim (IsIn-with_cases more label x (subst (IsIn x) e h)) [
+      (λ h. elim (IsIn-with_label_cases more label x (subst (IsIn x) e h)) [
         | inl same ↦ (subst (λ y. IsIn y among) same held, subst P same p)
         | inr i ↦ let t = (told x).0 i in (label_kept among label x (subst (IsIn x) is t.0), t.1)
       ]),
       (λ h. subst (IsIn x) (sym e) (elim (label_cases among label x h.0) [
         | inl same ↦ IsIn-with_new more label x (sym same)
-        | inr i ↦ IsIn-with_old more label x ((told x).1 (subst (IsIn x) (sym is) i, h.1))
+        | inr i ↦ IsIn-with_label_old more label x ((told x).1 (subst (IsIn x) (sym is) i, h.1))
       ])),
     )
 

@@ -1,11 +1,10 @@
 -- The derived problem, its sets and its limits.
-use Rattle.re_boxes.proofs.LabelsAbove.{ltb_not}
 use Rattle.re_problem.proofs.ZeroPlaces.{get-Contains}
 use Rattle.re_labels.proofs.Rows.{number_filled}
 use Rattle.std.proofs.Common.{◌≡◌, ℕ, zero, suc, ◌<◌, ◌≤◌, Bool, false, cond, ltb, List, [], ◌∷◌, length, map, flat_map, get_or, Contains, Option, None, Some, is_some, inl, refl, sym, ap, ◌∙◌, subst, arith}
 use Rattle.std.specs.List.{AllByRecursion}
 use Rattle.std.specs.Prelude.{◌*◌, MatchOption}
-use Rattle.std.proofs.lemmas.Bool.{false≢true}
+use Rattle.std.proofs.lemmas.Bool.{false≢true, le-ltb}
 use Rattle.re_labels.proofs.Sorting.{sorted_again}
 use Rattle.re_labels.specs.Configs.{IsConfig, sorted}
 use Rattle.re_labels.proofs.ListSets.{In-list_set, list_set-In, one_set, rising-list_set}
@@ -148,4 +147,4 @@ tests P a b c e f g = λ i. limit_by (e i) (f i) (g i) (length (max_sets P.passi
 
 pub no_limit : (P : Problem) → length (max_rows P.passive P.labels) ≤ MAX_ROWS → length (max_sets P.passive P.labels) ≤ MAX_LABELS → length (derived P).passive.configs ≤ MAX_CONFIGURATIONS → step_limit P ≡ None
 no_limit P rows labels configs =
-    tests P false false false (ltb_not MAX_ROWS (length (max_rows P.passive P.labels)) rows) (ltb_not MAX_LABELS (length (max_sets P.passive P.labels)) labels) (ltb_not MAX_CONFIGURATIONS (length (derived P).passive.configs) configs)
+    tests P false false false (le-ltb MAX_ROWS (length (max_rows P.passive P.labels)) rows) (le-ltb MAX_LABELS (length (max_sets P.passive P.labels)) labels) (le-ltb MAX_CONFIGURATIONS (length (derived P).passive.configs) configs)

@@ -1,12 +1,13 @@
 -- The images of the configurations of a constraint, and the way back from them.
-use Rattle.std.proofs.Common.{List, ap, map, not, subst, sym, ℕ, ◌<◌, ◌==◌, ◌∙◌, ◌≡◌}
+use Rattle.std.proofs.Common.{List, ap, length, map, not, subst, sym, ℕ, ◌<◌, ◌==◌, ◌∙◌, ◌≡◌}
 use Rattle.std.specs.Prelude.{Contains}
-use Rattle.std.specs.List.{list_any}
+use Rattle.std.specs.List.{AllByRecursion, list_any}
 use Rattle.std.proofs.lemmas.Simd.{map-map}
-use Rattle.re_labels.proofs.Sorting.{IsConfig-sorted, sorted_again, sorted_map}
+use Rattle.re_labels.proofs.Rearranging.{Rearranged-sym}
+use Rattle.re_labels.proofs.Sorting.{AllByRecursion-Rearranged, IsConfig-sorted, Rearranged-sorted, length-sorted, sorted_again, sorted_map}
 use Rattle.re_labels.specs.Configs.{IsConfig, image_at, image_of, sorted}
 use Rattle.re_labels.proofs.ListSets.{In-list_set, list_set-In, rising-list_set}
-use Rattle.re_labels.proofs.Membership.{AllByRecursion-In, AllByRecursion-contains, AllByRecursion-from_In, AllByRecursion-from_contains, Contains-In, Contains-filter_cases, In, In-Contains, In-map, In-map_from, length-map'}
+use Rattle.re_labels.proofs.Membership.{AllByRecursion-In, AllByRecursion-contains, AllByRecursion-from_In, AllByRecursion-from_contains, AllByRecursion-weaker, Contains-In, Contains-filter_cases, In, In-Contains, In-map, In-map_from, length-map'}
 use Rattle.re_table.specs.Constraints.{Constraint, Has, IsConstraint, images_of}
 use Rattle.re_labels.proofs.Before.{IsBefore-trans}
 use Rattle.re_labels.proofs.Rising.{rising-filter}
@@ -18,10 +19,19 @@ use Rattle.re_table.specs.Strength.{constraint_without}
 pub config-below : (n : ℕ) (constraint : Constraint) → IsConstraint n constraint → (config : List ℕ) (x : ℕ) → In config constraint.configs → In x config → x < n
 config-below n constraint is config x i j = AllByRecursion-In (λ x. x < n) config x (AllByRecursion-In (IsConfig constraint.degree n) constraint.configs config is.configs i).below j
 
+pub configs-below : (n : ℕ) (constraint : Constraint) → IsConstraint n constraint → AllByRecursion (AllByRecursion (λ label. label < n)) constraint.configs
+configs-below n constraint is = AllByRecursion-weaker (IsConfig constraint.degree n) (AllByRecursion (λ label. label < n)) (λ config (c : IsConfig constraint.degree n config). c.below) constraint.configs is.configs
+
 -- a configuration is one
 pub itself-held : (n : ℕ) (constraint : Constraint) → IsConstraint n constraint → (config : List ℕ) → Contains constraint.configs config → Has constraint config
 itself-held n constraint is config held =
     subst (Contains constraint.configs) (sym (sorted_again config (AllByRecursion-contains (IsConfig constraint.degree n) constraint.configs config is.configs held).ascends)) held
+
+-- the labels of a configuration, in any order
+pub held_labels : (n : ℕ) (constraint : Constraint) (labels : List ℕ) → IsConstraint n constraint → Has constraint labels → (length labels ≡ constraint.degree) × AllByRecursion (λ x. x < n) labels
+held_labels n constraint labels is has =
+    let config : IsConfig constraint.degree n (sorted labels) = AllByRecursion-contains (IsConfig constraint.degree n) constraint.configs (sorted labels) is.configs has in
+    (sym (length-sorted labels) ∙ config.count, AllByRecursion-Rearranged (λ x. x < n) (Rearranged-sym (Rearranged-sorted labels)) config.below)
 
 module _ (images : List ℕ) (constraint : Constraint) where
   pub image-held : (config : List ℕ) → Contains constraint.configs config → Contains (images_of images constraint) (image_of images config)

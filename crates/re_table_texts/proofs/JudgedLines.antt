@@ -1,6 +1,6 @@
 -- What a line brings, test by test.
 use Rattle.std.proofs.Common.{◌≡◌, ℕ, ◌≤◌, ◌<◌, ◌+◌, Bool, true, false, cond, ◌&&◌, List, [], ◌∷◌, ◌++◌, length, refl, sym, ap, ◌∙◌, subst, arith, Option, Some, None}
-use Rattle.std.specs.Prelude.{◌==◌, IsSome, nat_le, Result, Ok, Err}
+use Rattle.std.specs.Prelude.{◌==◌, IsSome, Result, Ok, Err}
 use Rattle.std.specs.List.{AllByRecursion}
 use Rattle.std.specs.Option.{option_and_then}
 use Rattle.std.proofs.lemmas.Bool.{false≢true}
@@ -11,7 +11,6 @@ use Rattle.re_problem.specs.Bytes.{bad_byte, is_empty_line}
 use Rattle.re_problem.specs.Items.{ItemText}
 use Rattle.re_labels.proofs.Membership.{all-push}
 use Rattle.re_labels.proofs.Tests.{eqb-true}
-use Rattle.re_labels.specs.PortLabels.{port_labels}
 use Rattle.re_algo.proofs.CountCode.{few-listed}
 use Rattle.re_algo.specs.Counting.{view_count}
 use Rattle.re_algo.specs.declared.counting.TheConstants.{MAX_VIEWS}
@@ -101,13 +100,6 @@ labels-count names degree (Some items) labels e = go (labels_in names items) e
     go : (o : Option (List ℕ)) → option_and_then (of_length degree) o ≡ Some labels → length labels ≡ degree
     go None e = absurd (cc)
     go (Some found) e = by (length found == degree) found refl e
-
-pub port-same : (x y : List ℕ) → Some x ≡ port_labels y → x ≡ y
-port-same x y e = go (nat_le 2 (length y) && nat_le (length y) 6) e
-  where
-    go : (t : Bool) → Some x ≡ cond t (Some y) None → x ≡ y
-    go true e = cc
-    go false e = absurd (cc)
 
 pub some-room : (table : AnswerTable) → length table.answers < length (views_of table) → has_room table ≡ true
 some-room table below = grind (arith, nat_tests)

@@ -1,16 +1,15 @@
 -- The lines that are printed of a table.
 use Rattle.std.proofs.Common.{◌≡◌, ℕ, zero, suc, ◌≤◌, ◌<◌, ◌+◌, ◌-◌, ◌/◌, ◌%◌, Bool, true, false, not, eqb, List, [], ◌∷◌, ◌++◌, map, codes, decimal, refl, sym, ap, ◌∙◌, subst, arith, inl, inr, append_assoc}
-use Rattle.std.specs.List.{AllByRecursion, list_all}
+use Rattle.std.specs.List.{list_all}
 use Rattle.std.proofs.lemmas.Bool.{cases_lt}
 use Rattle.std.proofs.lemmas.Fmt.{decimal_digit, decimal_step}
 use Rattle.std.proofs.lemmas.Grind.{flat_map-append}
-use Rattle.re_texts.proofs.BlocksWritten.{block_written}
-use Rattle.re_texts.proofs.ReadBack.{all_append, text_ended}
-use Rattle.re_texts.specs.CanonicalLines.{block_lines, canonical_lines}
+use Rattle.re_texts.proofs.ReadBack.{text_ended}
+use Rattle.re_texts.specs.CanonicalLines.{canonical_lines}
 use Rattle.re_labels.proofs.Tests.{and-true}
-use Rattle.re_problem.proofs.EndedLines.{NoFeed, lines_in-ended, parts-ended}
-use Rattle.re_problem.specs.NamedProblems.{IsNamedProblem, NamedProblem}
-use Rattle.re_problem.specs.ProblemTexts.{ended, lines_in, lines_of}
+use Rattle.re_problem.proofs.EndedLines.{NoFeed}
+use Rattle.re_problem.specs.NamedProblems.{NamedProblem}
+use Rattle.re_problem.specs.ProblemTexts.{ended}
 use Rattle.re_algo.specs.Tables.{AnswerTable}
 use Rattle.re_table_texts.specs.PrintedTables.{answer_text, answers_text, table_text}
 use Rattle.re_table_texts.specs.SectionLines.{section_of}
@@ -26,15 +25,6 @@ feeds_not (b ∷ text) all =
     other : (t : Bool) → not t ≡ true → t ≡ false
     other true h = absurd (cc)
     other false h = refl
-
-pub lines_ended : (lines : List (List ℕ)) → AllByRecursion NoFeed lines → lines_of (ended lines) ≡ lines
-lines_ended lines none = ap lines_in (parts-ended lines none) ∙ lines_in-ended lines
-
-pub canonical_feeds : (problem : NamedProblem) → IsNamedProblem problem → AllByRecursion NoFeed (canonical_lines problem)
-canonical_feeds problem is =
-    let active = (block_written problem.names problem.active is.names is.problem.active).feed in
-    let passive = (block_written problem.names problem.passive is.names is.problem.passive).feed in
-    all_append NoFeed (block_lines problem.names problem.active) ([] ∷ block_lines problem.names problem.passive) active (tt, passive)
 
 -- ---- the section line of a table
 -- the line with these digits names the radius

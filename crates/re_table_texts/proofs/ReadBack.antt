@@ -6,7 +6,7 @@ use Rattle.std.specs.Option.{option_and_then}
 use Rattle.std.proofs.lemmas.Bool.Decides.{nat_tests}
 use Rattle.re_algo.proofs.SlowerCode.{radius_small}
 use Rattle.re_algo.specs.Tables.{AnswerTable, IsTable, views_of}
-use Rattle.re_texts.proofs.ReadBack.{all_append, canonical_law, canonical_lines_law}
+use Rattle.re_texts.proofs.ReadBack.{all_append, canonical_feeds, canonical_law, canonical_lines_law}
 use Rattle.re_texts.specs.CanonicalLines.{IsWithinLimits, canonical_lines}
 use Rattle.re_cert.specs.Entries.{image_labels, image_on, label_items}
 use Rattle.re_labels.specs.PortLabels.{port_labels}
@@ -16,14 +16,14 @@ use Rattle.re_problem.specs.Items.{ItemText}
 use Rattle.re_labels.proofs.Tests.{eqb-same}
 use Rattle.re_algo.proofs.CountCode.{listed-few}
 use Rattle.re_algo.specs.Counting.{view_count}
-use Rattle.re_problem.proofs.EndedLines.{NoFeed, no_feed}
+use Rattle.re_problem.proofs.EndedLines.{NoFeed, lines_of-ended, no_feed}
 use Rattle.re_problem.specs.CanonicalTexts.{canonical}
 use Rattle.re_problem.specs.NamedProblems.{IsNamedProblem, NamedProblem}
 use Rattle.re_problem.specs.ProblemTexts.{end_fault, fault_at, fault_or, first_fault, first_from, lines_of, problem_of}
 use Rattle.re_problem.specs.declared.fault.InputFault.TheVariants.{BadEntry, BadSection}
 use Rattle.re_problem.proofs.InnerLines.{inner_line, neither}
 use Rattle.re_table_texts.proofs.JudgedLines.{table-filled, text-line, text-section}
-use Rattle.re_table_texts.proofs.PrintedLines.{answer_lines, canonical_feeds, lines_ended, problem_line_feeds, table_line, table_line_feeds, table_lines, table_text_ended}
+use Rattle.re_table_texts.proofs.PrintedLines.{answer_lines, problem_line_feeds, table_line, table_line_feeds, table_lines, table_text_ended}
 use Rattle.re_table_texts.specs.PrintedTables.{IsTableFor, TableTextLaw, answer_text, table_text}
 use Rattle.re_table_texts.specs.SectionLines.{section_of}
 use Rattle.re_table_texts.specs.TableTexts.{State, and_behind, are_all, behind, has_room, judged, may_stand, table_counted, table_input, table_of, takes_items, takes_labels, text_ends, text_of}
@@ -198,7 +198,7 @@ module _ (form : TableForm) (problem : NamedProblem) (table : AnswerTable) (is :
 
   pub text_back : table_input form (table_text problem table) ≡ Ok (record { problem = problem; next = None; table = table })
   text_back =
-      let lines : lines_of (table_text problem table) ≡ table_lines problem table = ap lines_of (table_text_ended problem table) ∙ lines_ended (table_lines problem table) whole_feeds in
+      let lines : lines_of (table_text problem table) ≡ table_lines problem table = ap lines_of (table_text_ended problem table) ∙ lines_of-ended (table_lines problem table) whole_feeds in
       let same : table_of problem table.radius table.answers ≡ table = (λ i. record { degrees = record { active = sym fits.active i; passive = sym fits.passive i }; radius = table.radius; answers = table.answers }) in
       let all : eqb (length table.answers) (length (views_of table)) ≡ true = subst (λ n. eqb (length table.answers) n ≡ true) table_is.count (eqb-same (length table.answers)) in
       ap (behind form 0 1 Start) (lines ∙ sym (append-nil (table_lines problem table)))

@@ -1,12 +1,11 @@
 -- What fits in a bound, of the labels that have names.
-use Rattle.re_problem.proofs.FedLines.{unnot_true}
 use Rattle.std.proofs.Common.{◌≡◌, ℕ, ◌<◌, ◌≤◌, refl, false, Bool, true, not, cond, ◌||◌, eqb, leb, ltb, subst, List, [], ◌∷◌, length, ◌&&◌, sym, ap, ◌∙◌, arith}
 use Rattle.std.specs.List.{AllByRecursion, list_all}
-use Rattle.std.proofs.lemmas.Bool.{false≢true}
+use Rattle.std.proofs.lemmas.Bool.{false≢true, leb-true}
 use Rattle.std.proofs.lemmas.Bool.Decides.{nat_tests}
 use Rattle.re_labels.specs.Rows.{IsRow}
 use Rattle.re_labels.proofs.Membership.{AllByRecursion-from_In, AllByRecursion-weaker, all-In, any-In}
-use Rattle.re_labels.proofs.Tests.{and-true, eqb-true}
+use Rattle.re_labels.proofs.Tests.{and-true, eqb-true, not-true}
 use Rattle.re_labels.specs.Sets.{IsLabelSet}
 use Rattle.re_problem.specs.NamedProblems.{NamedProblem}
 use Rattle.re_problem.specs.Steps.LowerMap.{by_row, by_set}
@@ -88,9 +87,6 @@ pub pairs_held : (last target : NamedProblem) (pairs : List (ℕ × ℕ)) → li
 pairs_held last target pairs all = each_of (pair_fits last target) (λ (pair : ℕ × ℕ). (pair.0 < length last.names) × (pair.1 < length target.names)) (pair_parts last target) pairs all
 
 -- ---- a step, and the pairs of a bound
-pub few_of : (n most : ℕ) → leb n most ≡ true → n ≤ most
-few_of n most test = grind (arith, nat_tests)
-
 pub step_parts : (kind : Kind) (before : NamedProblem) (step : BoundStep) → step_fits kind before step ≡ true
     → (kind_fits kind step ≡ true) × (length step.rows ≤ MAX_ROWS) × (list_all (row_fits before) step.rows ≡ true) × (map_fits before step.next step.map ≡ true)
 step_parts kind before step fits =
@@ -100,7 +96,7 @@ step_parts kind before step fits =
     let three = and-true (of_kind && few && rows) (map_fits before step.next step.map) fits in
     let two = and-true (of_kind && few) rows three.0 in
     let one = and-true of_kind few two.0 in
-    (one.0, few_of (length step.rows) MAX_ROWS one.1, two.1, three.1)
+    (one.0, leb-true (length step.rows) MAX_ROWS one.1, two.1, three.1)
 
 -- the rows, sets and labels of a step that fits have names
 pub rows_ready : (before : NamedProblem) (step : BoundStep) (names : List (List ℕ)) (rows : List (List (List ℕ))) → FitBehind before step → names ≡ before.names → rows ≡ step.rows
@@ -134,7 +130,7 @@ image_parts before next image fits =
 pub images_held : (before next : NamedProblem) (images : List (List ℕ)) → map_fits before next (by_row images) ≡ true → (length images ≤ MAX_ROWS) × AllByRecursion (HeldImage before next) images
 images_held before next images fits =
     let two = and-true (leb (length images) MAX_ROWS) (list_all (image_fits before next) images) fits in
-    (few_of (length images) MAX_ROWS two.0, each_of (image_fits before next) (HeldImage before next) (image_parts before next) images two.1)
+    (leb-true (length images) MAX_ROWS two.0, each_of (image_fits before next) (HeldImage before next) (image_parts before next) images two.1)
 
 pub images_ready : (before next : NamedProblem) (held : List (List ℕ)) (names : List (List ℕ)) (images : List (List ℕ)) → map_fits before next (by_row held) ≡ true → names ≡ next.names → images ≡ held
     → AllByRecursion (AllByRecursion (λ x. x < length names)) images
@@ -147,7 +143,7 @@ none_any : (steps : List BoundStep) → list_all (λ (s : BoundStep). not (is_by
 none_any [] all = refl
 none_any (s ∷ steps) all =
     let two = and-true (not (is_by_row s.map)) (list_all (λ (s : BoundStep). not (is_by_row s.map)) steps) all in
-    λ i. unnot_true (is_by_row s.map) two.0 i || none_any steps two.1 i
+    λ i. not-true (is_by_row s.map) two.0 i || none_any steps two.1 i
 
 formed : (steps : List BoundStep) → one_form steps ≡ true → AllByRecursion (λ (s : BoundStep). is_by_row s.map ≡ has_row_maps steps) steps
 formed steps form = go (list_all (λ (s : BoundStep). is_by_row s.map) steps) refl form
@@ -157,7 +153,7 @@ formed steps form = go (list_all (λ (s : BoundStep). is_by_row s.map) steps) re
         let here : is_by_row s.map ≡ true = all-In (λ (s : BoundStep). is_by_row s.map) steps all s at in
         here ∙ sym (any-In (λ (s : BoundStep). is_by_row s.map) s steps at here))
     go false all h = AllByRecursion-from_In (λ (s : BoundStep). is_by_row s.map ≡ has_row_maps steps) steps (λ s at.
-        unnot_true (is_by_row s.map) (all-In (λ (s : BoundStep). not (is_by_row s.map)) steps h s at) ∙ sym (none_any steps h))
+        not-true (is_by_row s.map) (all-In (λ (s : BoundStep). not (is_by_row s.map)) steps h s at) ∙ sym (none_any steps h))
 
 upper_sets : (kind : Kind) (first : NamedProblem) (steps : List BoundStep) → steps_fit kind first steps ≡ true → is_lower kind ≡ false → AllByRecursion (λ (s : BoundStep). is_by_row s.map ≡ false) steps
 upper_sets kind first [] fits upper = tt
@@ -167,7 +163,7 @@ upper_sets kind first (s ∷ steps) fits upper =
   where
     of_step : (a b c : Bool) → b ≡ false → cond a b (not b && not c) ≡ true → c ≡ false
     of_step true b c upper is = absurd (false≢true (sym upper ∙ is))
-    of_step false b c upper is = unnot_true c (and-true (not b) (not c) is).1
+    of_step false b c upper is = not-true c (and-true (not b) (not c) is).1
 
 -- the parts of a bound that fits
 pub record Fits (bound : Bound) : Type 0 where
@@ -181,7 +177,7 @@ bound_fits bound is =
     let three = and-true (leb (length bound.steps) MAX_STEPS && steps_fit bound.kind bound.first bound.steps && one_form bound.steps) (renaming_fits bound) is in
     let two = and-true (leb (length bound.steps) MAX_STEPS && steps_fit bound.kind bound.first bound.steps) (one_form bound.steps) three.0 in
     let one = and-true (leb (length bound.steps) MAX_STEPS) (steps_fit bound.kind bound.first bound.steps) two.0 in
-    record { few = few_of (length bound.steps) MAX_STEPS one.0; steps = one.1; form = two.1; renaming = three.1 }
+    record { few = leb-true (length bound.steps) MAX_STEPS one.0; steps = one.1; form = two.1; renaming = three.1 }
 
 -- each map is by rows exactly where some is, in a lower bound
 pub all_formed : (bound : Bound) → is_bound bound ≡ true → AllByRecursion (λ (s : BoundStep). is_by_row s.map ≡ (has_row_maps bound.steps && is_lower bound.kind)) bound.steps

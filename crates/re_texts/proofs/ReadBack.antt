@@ -37,6 +37,13 @@ pub all_append : {X : Type 0} (P : X → Type 0) (xs ys : List X) → AllByRecur
 all_append P [] ys h k = k
 all_append P (x ∷ xs) ys h k = (h.0, all_append P xs ys h.1 k)
 
+-- no line of the text has a line feed
+pub canonical_feeds : (problem : NamedProblem) → IsNamedProblem problem → AllByRecursion NoFeed (canonical_lines problem)
+canonical_feeds problem is =
+    let active = (block_written problem.names problem.active is.names is.problem.active).feed in
+    let passive = (block_written problem.names problem.passive is.names is.problem.passive).feed in
+    all_append NoFeed (block_lines problem.names problem.active) ([] ∷ block_lines problem.names problem.passive) active (tt, passive)
+
 -- where a name stands
 In-place : (names : List (List ℕ)) (name : List ℕ) → In name names → (label : ℕ) × (label < length names) × (name_at names label ≡ name)
 In-place [] name i = absurd i

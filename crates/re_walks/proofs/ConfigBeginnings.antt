@@ -1,8 +1,7 @@
 -- The first labels of a configuration begin one.
-use Rattle.std.proofs.Common.{◌≡◌, ℕ, zero, suc, ◌<◌, ◌≤◌, ◌-◌, min, Bool, true, false, ltb, List, [], ◌∷◌, ◌++◌, length, take, drop, replicate, None, Some, Option, refl, sym, ap, ◌∙◌, subst, arith, length-drop}
+use Rattle.std.proofs.Common.{◌≡◌, ℕ, zero, suc, ◌<◌, ◌≤◌, ◌-◌, min, Bool, true, List, [], ◌∷◌, ◌++◌, length, take, drop, replicate, None, Some, Option, refl, sym, ◌∙◌, subst, arith, length-drop}
 use Rattle.std.specs.Prelude.{Contains, find, is_some}
 use Rattle.std.specs.List.{AllByRecursion}
-use Rattle.std.proofs.lemmas.Bool.Decides.{nat_tests}
 use Rattle.std.proofs.lemmas.List.{length-take, take-append-drop}
 use Rattle.re_algo.proofs.Beginning.{some_found}
 use Rattle.re_labels.proofs.Membership.{Contains-count_from, Contains-here, any_true}
@@ -11,10 +10,6 @@ use Rattle.re_labels.proofs.ChoicesOfRows.{choices-IsChoice}
 use Rattle.re_labels.specs.Rows.{IsChoice, choices, singles}
 use Rattle.re_table.specs.Constraints.{Constraint, has_config}
 use Rattle.re_walks.specs.Begun.{is_begun}
-
--- a list of this length isn't shorter
-pub not_less : (m d : ℕ) → d ≤ m → ltb m d ≡ false
-not_less m d l = grind (arith, nat_tests)
 
 -- ---- parts of lists
 pub low-take : (n k : ℕ) (labels : List ℕ) → AllByRecursion (λ label. label < n) labels → AllByRecursion (λ label. label < n) (take k labels)

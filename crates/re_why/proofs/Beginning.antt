@@ -18,7 +18,7 @@ use Rattle.re_table.proofs.Goodness.{filled-is_full, is_full-filled}
 use Rattle.re_table.proofs.SetsInOrder.{AreSets, in_order-good, in_order-length}
 use Rattle.re_table.specs.Constraints.{Constraint, has_config}
 use Rattle.re_table.specs.GoodRows.{is_good}
-use Rattle.re_algo.proofs.Beginning.{any-fixed, none_found, some_found}
+use Rattle.re_algo.proofs.Beginning.{any-fixed}
 use Rattle.re_algo.proofs.Drawing.{chosen_some}
 use Rattle.re_algo.specs.FirstChoice.{IsDrawn}
 use Rattle.re_why.proofs.Found.{found_passes, not_all}
@@ -69,17 +69,6 @@ module _ (constraint : Constraint) (drawn : List ℕ) (others sets : List (List 
       ∙ (λ i. (eqb (length sets) (sym count i) && full_row row some i) && list_all (has_config constraint) (choices sets))
       ∙ ap (λ b. (b && true) && list_all (has_config constraint) (choices sets)) (eqb-same (length sets)))
       ∙ not_all (has_config constraint) (choices sets) ∙ begun
-
--- ---- what the answer says of the first choice
-pub not_begun : (constraint : Constraint) (drawn : List ℕ) (others : List (List ℕ)) (r : Bool) → r ≡ false → r ≡ begins constraint drawn others → IsDrawn (first_behind constraint drawn others) drawn false drawn
-not_begun constraint drawn others r is e = subst (λ o. IsDrawn o drawn false drawn) (sym (none_found (λ labels. is_bad constraint (drawn ++ labels)) (choices others) (sym e ∙ is))) (refl, refl)
-
-pub begun_found : (constraint : Constraint) (drawn : List ℕ) (others : List (List ℕ)) (r found : Bool) (new : List ℕ) → r ≡ true → r ≡ begins constraint drawn others → IsDrawn (first_behind constraint drawn others) drawn found new → found ≡ true
-begun_found constraint drawn others r found new is e h = go (first_behind constraint drawn others) refl h
-  where
-    go : (o : Option (List ℕ)) → o ≡ first_behind constraint drawn others → IsDrawn o drawn found new → found ≡ true
-    go None same h = absurd (some_found (λ labels. is_bad constraint (drawn ++ labels)) (choices others) (sym e ∙ is) (sym same))
-    go (Some labels) same h = h.0
 
 -- ---- the labels that are found are 2 to 6
 pub found_ports : (constraint : Constraint) (sets : List (List ℕ)) (drawn new : List ℕ) (r : Bool) → 2 ≤ length sets → length sets ≤ 6 → r ≡ true → drawn ≡ [] → IsDrawn (first_behind constraint drawn sets) drawn r new

@@ -1,23 +1,22 @@
 -- The first clause that a step fails: something shows it.
-use Rattle.std.proofs.Common.{◌≡◌, ℕ, zero, suc, ◌+◌, ◌<◌, ◌≤◌, Bool, true, false, eqb, leb, not, ◌&&◌, List, [], ◌∷◌, length, map, refl, sym, ap, ◌∙◌, subst, ◌⊎◌, inl, inr, arith, Some, None, Option, true≢false}
-use Rattle.std.specs.Prelude.{Contains, IsTrue, ◌↔◌, find, if◌then◌else◌, nat_le, nat_lt}
+use Rattle.std.proofs.Common.{◌≡◌, ℕ, ◌<◌, ◌≤◌, Bool, true, false, eqb, not, ◌&&◌, List, [], ◌∷◌, length, map, refl, sym, ap, ◌∙◌, subst, arith, Some, None, true≢false}
+use Rattle.std.specs.Prelude.{Contains, find, if◌then◌else◌, nat_le, nat_lt}
 use Rattle.std.specs.List.{AllByRecursion, list_all}
 use Rattle.std.specs.Str.{bytes_eq}
 use Rattle.std.proofs.lemmas.Bool.Decides.{nat_tests}
 use Rattle.std.proofs.lemmas.Slice.Eq.{bytes_eq-Decides}
-use Rattle.re_labels.proofs.Membership.{AllByRecursion-weaker, Contains-In, In-Contains, all-In}
-use Rattle.re_labels.proofs.Tests.{and-true, eqb-same, eqb-true, true-and}
+use Rattle.re_labels.proofs.Membership.{Contains-In, In-Contains, all-In}
+use Rattle.re_labels.proofs.Tests.{and-true, eqb-same, eqb-true, not-true, true-and}
 use Rattle.re_labels.specs.Lists.{count_from}
 use Rattle.re_labels.specs.Sets.{IsLabelSet}
 use Rattle.re_labels.specs.declared.TheConstants.{MAX_LABELS}
-use Rattle.re_labels.specs.Configs.{IsConfig}
 use Rattle.re_labels.specs.Rows.{IsRow}
 use Rattle.re_labels.specs.declared.TheConstants.{MAX_ROWS}
 use Rattle.re_table.proofs.Goodness.{Has-has_config, IsAllowed-is_allowed, IsGood-is_good}
-use Rattle.re_table.specs.Constraints.{Constraint, Has, IsConstraint, has_config}
+use Rattle.re_table.specs.Constraints.{Has, IsConstraint, has_config}
 use Rattle.re_table.specs.GoodRows.{IsAllowed, IsGood, allowed, max_rows, max_sets}
-use Rattle.re_problem.proofs.FedLines.{unnot, unnot_true}
-use Rattle.re_problem.specs.NamedProblems.{IsNamedProblem, NamedProblem, unnamed}
+use Rattle.re_problem.proofs.FedLines.{unnot}
+use Rattle.re_problem.specs.NamedProblems.{IsNamedProblem, NamedProblem}
 use Rattle.re_problem.specs.Steps.{LowerMap, SetEntry, entry_sets, label_at, label_of, set_for}
 use Rattle.re_problem.specs.Steps.LowerMap.{by_row, by_set}
 use Rattle.re_cert.proofs.KnownEntries.{entries-fit}
@@ -27,7 +26,7 @@ use Rattle.re_check.proofs.AllowedImages.{keeps_allowed_law}
 use Rattle.re_check.proofs.RowChoices.{keeps_allowed_by_row_law}
 use Rattle.re_check.proofs.RowSets.{row_sets_law}
 use Rattle.re_check.specs.StepClauses.{HasNextLabels, HasRowSets}
-use Rattle.re_check.proofs.StepMeaning.{all_held, by_row-tells, lists-Decides, rows-Decides}
+use Rattle.re_check.proofs.StepMeaning.{all_held, by_row-tells, exchanged-degrees, lists-Decides, rows-Decides}
 use Rattle.re_check.specs.Clauses.{are_allowed, are_exchanged, are_good, are_maximal, have_labels, have_row_sets, is_filled, maps_allowed, maps_rows, maps_sets, meets, sets_in, step_clauses, step_fault}
 use Rattle.re_check.specs.declared.clause.Clause.{Clause}
 use Rattle.re_check.specs.declared.clause.Clause.TheVariants.{Back, End, L1, L2, L3, L4, L5, U1, U2, U3, U4}
@@ -52,7 +51,7 @@ skip p a c rest e apart = go (p a) refl e
 
 -- what is found fails its test
 pub fault-fails : (before : NamedProblem) (s : BoundStep) (c : Clause) → step_fault before s ≡ Some c → meets before s c ≡ false
-fault-fails before s c e = unnot_true (meets before s c) (found_passes (λ clause. not (meets before s clause)) (step_clauses s) c (sym e)).0
+fault-fails before s c e = not-true (meets before s c) (found_passes (λ clause. not (meets before s clause)) (step_clauses s) c (sym e)).0
 
 -- and is one of the step's clauses
 pub fault-among : (before : NamedProblem) (s : BoundStep) (c : Clause) → step_fault before s ≡ Some c → Contains (step_clauses s) c
@@ -101,11 +100,6 @@ module _ (before : NamedProblem) (s : BoundStep) where
       (unnot (meets before s U1) one.0, unnot (meets before s U2) two.0)
 
 -- ---- what fits
-pub degrees-are : (before next : NamedProblem) → are_exchanged before next ≡ true → (next.active.degree ≡ before.passive.degree) × (next.passive.degree ≡ before.active.degree)
-degrees-are before next e =
-    let both = and-true (eqb next.active.degree before.passive.degree) (eqb next.passive.degree before.active.degree) e in
-    (eqb-true next.active.degree before.passive.degree both.0, eqb-true next.passive.degree before.active.degree both.1)
-
 pub rows-degree : (before : NamedProblem) (rows : List (List (List ℕ))) → list_all (row_fits before) rows ≡ true → AllByRecursion (λ row. length row ≡ before.passive.degree) rows
 rows-degree before [] e = tt
 rows-degree before (row ∷ rows) e =
@@ -232,13 +226,13 @@ shown-U2 before next entries fits fails =
 shown-U3 : (before next : NamedProblem) (entries : List SetEntry) → IsConstraint (length next.names) next.active → are_exchanged before next ≡ true → have_labels before next entries ≡ true → are_good before.passive next.active entries ≡ false
     → Gives (bad_witness before.passive next.active entries) (ShowsBad before.passive next.active entries)
 shown-U3 before next entries is degrees labels fails =
-    (upper_witness_law (length next.names) before.passive next.active entries is (degrees-are before next degrees).0 (next-labels before next entries labels)).0
+    (upper_witness_law (length next.names) before.passive next.active entries is (exchanged-degrees before next degrees).0 (next-labels before next entries labels)).0
     (λ has. true≢false (sym (all_held _ (λ config. IsGood before.passive (map (set_for entries) config)) next.active.configs (λ config. IsGood-is_good before.passive (map (set_for entries) config)) has) ∙ fails))
 
 shown-U4 : (before next : NamedProblem) (entries : List SetEntry) → IsConstraint (length next.names) next.passive → are_exchanged before next ≡ true → have_labels before next entries ≡ true → are_allowed before.active next.passive entries ≡ false
     → Gives (shut_witness before.active next.passive entries) (ShowsShut before.active next.passive entries)
 shown-U4 before next entries is degrees labels fails =
-    (upper_witness_law (length next.names) before.active next.passive entries is (degrees-are before next degrees).1 (next-labels before next entries labels)).1
+    (upper_witness_law (length next.names) before.active next.passive entries is (exchanged-degrees before next degrees).1 (next-labels before next entries labels)).1
     (λ has. true≢false (sym (all_held _ (λ config. IsAllowed before.active (map (set_for entries) config)) next.passive.configs (λ config. IsAllowed-is_allowed before.active (map (set_for entries) config)) has) ∙ fails))
 
 -- ---- a step
@@ -313,10 +307,6 @@ step-shown kind before s c named next rows fits fault = by_side s.lower refl c f
     by_side : (b : Bool) → s.lower ≡ b → (c : Clause) → step_fault before s ≡ Some c → Gives (step_witness before s c) (ShowsStep before s c)
     by_side true low c e = lower low c e
     by_side false up c e = upper up c e
-
--- the labels of the configurations are labels of the problem
-pub below-names : (n : ℕ) (constraint : Constraint) → IsConstraint n constraint → AllByRecursion (AllByRecursion (λ label. label < n)) constraint.configs
-below-names n constraint is = AllByRecursion-weaker (IsConfig constraint.degree n) (AllByRecursion (λ label. label < n)) (λ config (c : IsConfig constraint.degree n config). c.below) constraint.configs is.configs
 
 -- where the images of the rows are the first fault, the entries have the sets of the rows
 pub sets-at : (before : NamedProblem) (s : BoundStep) → step_fault before s ≡ Some L4 → (entries : List SetEntry) → s.map ≡ by_set entries → HasRowSets s.rows entries

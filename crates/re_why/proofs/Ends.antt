@@ -3,7 +3,6 @@ use Rattle.std.proofs.Common.{◌≡◌, ℕ, zero, suc, ◌+◌, ◌<◌, ◌�
 use Rattle.std.specs.Prelude.{Contains, IsSome, find, if◌then◌else◌, is_none, is_some, nat_lt, replicate, slice_index_or}
 use Rattle.std.specs.List.{AllByRecursion, AllZip, list_all}
 use Rattle.std.proofs.lemmas.List.Quantifiers.{position-Some}
-use Rattle.re_problem.proofs.FedLines.{unnot_true}
 use Rattle.re_check.proofs.Telling.{read-held}
 use Rattle.std.specs.Option.{option_map, option_or}
 use Rattle.std.specs.Str.{bytes_eq}
@@ -11,7 +10,7 @@ use Rattle.std.proofs.lemmas.Bool.Decides.{nat_tests}
 use Rattle.std.proofs.lemmas.Slice.Eq.{bytes_eq-Decides}
 use Rattle.re_labels.proofs.Membership.{AllByRecursion-contains, Contains-In, In, In-Contains, In-map, In-map_from, any_found, any_true}
 use Rattle.re_labels.proofs.Sets.{IsIn-has, has-IsIn}
-use Rattle.re_labels.proofs.Tests.{eqb-same, eqb-true}
+use Rattle.re_labels.proofs.Tests.{eqb-same, eqb-true, not-true}
 use Rattle.re_labels.specs.Lists.{IsRising, count_from}
 use Rattle.re_labels.specs.Sets.{IsIn, has}
 use Rattle.re_labels.proofs.Rearranging.{length-AllZip}
@@ -134,7 +133,7 @@ module _ (last target : NamedProblem) (pairs : List (ℕ × ℕ)) (below : AllBy
   missing_here : (x : ℕ) → first_label (λ x. not (names_first pairs x)) (length last.names) ≡ Some x → ShowsBack last target pairs (MissingPair x)
   missing_here x e =
       let (l, fails) = first_label-some (λ x. not (names_first pairs x)) (length last.names) x e in
-      (l, λ held. true≢false (sym (is-named x held) ∙ unnot_true (names_first pairs x) fails))
+      (l, λ held. true≢false (sym (is-named x held) ∙ not-true (names_first pairs x) fails))
 
   not-false : (b : Bool) → not b ≡ false → b ≡ true
   not-false true e = refl

@@ -5,7 +5,6 @@ pub mod Added
 pub mod Beginning
 pub mod Bounds
 pub mod Dispatch
-pub mod Drawing
 mod Renamings
 pub mod Ends
 pub mod Found

@@ -5,12 +5,11 @@ use Rattle.std.specs.List.{AllZip, list_all, list_any}
 use Rattle.std.specs.Option.{option_map, option_or}
 use Rattle.std.specs.Ordering.{is_lt, nat_cmp}
 use Rattle.re_labels.proofs.Before.{nat_cmp-greater, nat_cmp-less, nat_cmp-same, same_list-refl, same_list-same}
-use Rattle.re_problem.proofs.FedLines.{unnot_true}
 use Rattle.re_check.proofs.Telling.{read-held}
-use Rattle.re_labels.proofs.Membership.{Contains-In, In, In-Contains, In-map, In-map_from, all-In, any_found, any_true}
+use Rattle.re_labels.proofs.Membership.{Contains-In, In, In-Contains, In-map, In-map_from, all-In, any_true}
 use Rattle.re_labels.proofs.Rising.{rising-map}
 use Rattle.re_labels.proofs.Sets.{IsIn-has, has-IsIn}
-use Rattle.re_labels.proofs.Tests.{and-true, eqb-same, eqb-true, true-and}
+use Rattle.re_labels.proofs.Tests.{and-true, eqb-same, eqb-true, not-true, true-and}
 use Rattle.re_labels.specs.Lists.{IsRising, same_list}
 use Rattle.re_labels.specs.Sets.{IsIn, has, number}
 use Rattle.re_labels.specs.Configs.{sorted}
@@ -69,7 +68,7 @@ module _ (rows : List (List (List ℕ))) (entries : List SetEntry) where
   set_missing set e =
       let (i, row, at, found) = some-some (find (λ set. not (has_set entries set))) rows set e in
       let (fails, inside) = found_passes (λ set. not (has_set entries set)) row set (sym found) in
-      ((row, at-held rows i row at, In-Contains set row inside), λ held. true≢false (sym (is-has entries set held) ∙ unnot_true (has_set entries set) fails))
+      ((row, at-held rows i row at, In-Contains set row inside), λ held. true≢false (sym (is-has entries set held) ∙ not-true (has_set entries set) fails))
 
   none_missing : missing_set rows entries ≡ None → (set : List ℕ) → OccursInRows rows set → Contains (entry_sets entries) set
   none_missing e set occurs =
@@ -81,7 +80,7 @@ module _ (rows : List (List (List ℕ))) (entries : List SetEntry) where
       let (entry, found, same) = map-some (λ (entry : SetEntry). entry.set) (find (is_foreign rows) entries) set e in
       let (fails, inside) = found_passes (is_foreign rows) entries entry (sym found) in
       subst (λ s. ShowsSets rows (by_set entries) (ForeignSet s)) same
-      (In-Contains entry.set (entry_sets entries) (In-map (λ (f : SetEntry). f.set) entry entries inside), λ occurs. true≢false (sym (is-occurs rows entry.set occurs) ∙ unnot_true (occurs_in rows entry.set) fails))
+      (In-Contains entry.set (entry_sets entries) (In-map (λ (f : SetEntry). f.set) entry entries inside), λ occurs. true≢false (sym (is-occurs rows entry.set occurs) ∙ not-true (occurs_in rows entry.set) fails))
 
   none_foreign : foreign_set rows entries ≡ None → (set : List ℕ) → Contains (entry_sets entries) set → OccursInRows rows set
   none_foreign e set held =

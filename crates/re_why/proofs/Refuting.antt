@@ -33,7 +33,7 @@ use Rattle.re_check.proofs.RowSets.{row_sets_law}
 use Rattle.re_check.specs.LabelsOver.{labels_over}
 use Rattle.re_check.specs.RowEntries.{image_entries}
 use Rattle.re_check.specs.StepClauses.{HasAllowedImages, HasGoodImages, HasNextLabels, HasRowSets, entry_labels}
-use Rattle.re_check.proofs.StepMeaning.{all_pass, all_there, lower_clauses}
+use Rattle.re_check.proofs.StepMeaning.{all_pass, all_there, exchanged-degrees, lower_clauses}
 use Rattle.re_check.specs.Clauses.{are_exchanged, meets, step_clauses, step_fault}
 use Rattle.re_check.specs.declared.clause.Clause.{Clause}
 use Rattle.re_check.specs.declared.clause.Clause.TheVariants.{Back, End, L1, L2, L3, L4, L5, U1, U2, U3, U4}
@@ -45,7 +45,7 @@ use Rattle.re_problem.specs.declared.verdict.MapVerdict.{MapVerdict}
 use Rattle.re_problem.specs.declared.verdict.MapVerdict.TheVariants.{Yes}
 use Rattle.re_laws.proofs.Preorder.{rising-count_from}
 use Rattle.re_why.proofs.Bounds.{fits_steps}
-use Rattle.re_why.proofs.Dispatch.{degrees-are, next-labels, rows-few}
+use Rattle.re_why.proofs.Dispatch.{next-labels, rows-few}
 use Rattle.re_why.proofs.Giving.{at-held}
 use Rattle.re_why.specs.Finding.{firsts, map_entries, seconds}
 use Rattle.re_why.specs.Laws.{DegreesRefuteLaw, EndRefutesLaw, HasSets, HoldsChoices, HoldsRows, MapRefutesLaw, RefutesLaw, RowsRefuteLaw, UpperRefutesLaw}
@@ -180,7 +180,7 @@ shut-refuted before passive entries (ShutSets config sets) has h = h.2 (subst (I
 shut-refuted before passive entries w has h = absurd h
 
 upper-refuted : (before : NamedProblem) (s : BoundStep) (c : Clause) (w : Witness) → AllByRecursion (λ clause. meets before s clause ≡ true) (U1 ∷ U2 ∷ U3 ∷ U4 ∷ []) → In c (U1 ∷ U2 ∷ U3 ∷ U4 ∷ []) → ShowsStep before s c w → ⊥
-upper-refuted before s c w (degrees, (labels, (good, (allowed, u)))) (inl e) h = degrees-refuted before s.next w (subst (λ k. ShowsStep before s k w) e h) (degrees-are before s.next degrees)
+upper-refuted before s c w (degrees, (labels, (good, (allowed, u)))) (inl e) h = degrees-refuted before s.next w (subst (λ k. ShowsStep before s k w) e h) (exchanged-degrees before s.next degrees)
 upper-refuted before s c w (degrees, (labels, (good, (allowed, u)))) (inr (inl e)) h = labels-refuted (length s.next.names) (entries_in s.map) w (next-labels before s.next (entries_in s.map) labels) (subst (λ k. ShowsStep before s k w) e h)
 upper-refuted before s c w (degrees, (labels, (good, (allowed, u)))) (inr (inr (inl e))) h =
     bad-refuted before.passive s.next.active (entries_in s.map) w

@@ -11,7 +11,7 @@ use Rattle.re_labels.proofs.Before.{IsBefore-apart, IsBefore-trans, same_list-sa
 use Rattle.re_labels.proofs.Membership.{AllByRecursion-weaker, Contains-In, In, In-Contains, all-In, any_found, any_true}
 use Rattle.re_labels.proofs.Rising.{same_members}
 use Rattle.re_labels.proofs.Sets.{has-IsIn, IsIn-has}
-use Rattle.re_labels.proofs.Tests.{and-true, true-and}
+use Rattle.re_labels.proofs.Tests.{and-true, not-true, true-and}
 use Rattle.re_labels.specs.Lists.{IsRising}
 use Rattle.re_labels.specs.Sets.{IsIn, IsLabelSet, has, number}
 use Rattle.re_labels.proofs.ChoicesOfRows.{In-choices, In-choices_from}
@@ -26,7 +26,6 @@ use Rattle.re_table.proofs.Goodness.{Has-has_config, IsGood-is_good, filled-is_f
 use Rattle.re_table.proofs.MaxRows.{IsMaximal-max_rows, max_rows-IsMaximal, rising-max_rows}
 use Rattle.re_table.specs.Constraints.{Constraint, Has, has_config}
 use Rattle.re_table.specs.GoodRows.{IsGood, IsMaximal, is_good, max_rows}
-use Rattle.re_problem.proofs.FedLines.{unnot_true}
 use Rattle.re_problem.specs.Verdicts.{first_label}
 use Rattle.re_labels.specs.Lists.{count_from}
 use Rattle.re_problem.proofs.VerdictLaws.{label-none}
@@ -41,7 +40,7 @@ use Rattle.re_why.specs.declared.witness.Witness.TheVariants.{BadRow, Extends, R
 use Rattle.re_labels.specs.declared.TheConstants.{MAX_LABELS}
 
 not-has : (constraint : Constraint) (labels : List ℕ) → is_bad constraint labels ≡ true → Has constraint labels → ⊥
-not-has constraint labels bad held = true≢false (sym (Has-has_config constraint labels held) ∙ unnot_true (has_config constraint labels) bad)
+not-has constraint labels bad held = true≢false (sym (Has-has_config constraint labels held) ∙ not-true (has_config constraint labels) bad)
 
 -- ---- a choice that is found is one, and no configuration
 pub bad_shown : (constraint : Constraint) (sets : List (List ℕ)) (labels : List ℕ) → first_bad constraint sets ≡ Some labels → IsChoice labels sets × (Has constraint labels → ⊥)
@@ -93,7 +92,7 @@ module _ (passive : Constraint) (n : ℕ) (rows : List (List (List ℕ)))
       let (x, found, same) = map-some (Extends (0 + k) (0 + i)) (first_label (can_add passive row (0 + i)) n) w gives in
       let (below, can) = first_label-some (can_add passive row (0 + i)) n x found in
       let both = and-true (not (has (set_at row (0 + i)) x)) (is_good passive (added (0 + i) x row)) can in
-      let fails : IsIn x (set_at row (0 + i)) → ⊥ = λ held. true≢false (sym (IsIn-has (set_at row (0 + i)) x held) ∙ unnot_true (has (set_at row (0 + i)) x) both.0) in
+      let fails : IsIn x (set_at row (0 + i)) → ⊥ = λ held. true≢false (sym (IsIn-has (set_at row (0 + i)) x held) ∙ not-true (has (set_at row (0 + i)) x) both.0) in
       let place : 0 + i < length row = let l = there.0 in omega (arith, l) in
       let zero_more : 0 + k ≡ k = omega arith in
       subst (ShowsRows passive n rows) same (subst (λ m. ShowsRows passive n rows (Extends m (0 + i) x)) (sym zero_more) (row, at, place, below, fails, is_good-IsGood passive (added (0 + i) x row) both.1))
@@ -139,7 +138,7 @@ module _ (passive : Constraint) (n : ℕ) (rows : List (List (List ℕ)))
 
   -- a row that is missing
   unlisted : (row : List (List ℕ)) → not (is_listed rows row) ≡ true → Contains rows row → ⊥
-  unlisted row fails held = true≢false (sym (any_true (λ other. is_eq (row_cmp row other)) rows row held (ap is_eq (slice_cmp-same (map number row)))) ∙ unnot_true (is_listed rows row) fails)
+  unlisted row fails held = true≢false (sym (any_true (λ other. is_eq (row_cmp row other)) rows row held (ap is_eq (slice_cmp-same (map number row)))) ∙ not-true (is_listed rows row) fails)
 
   missing_here : (w : Witness) → missing_row passive n rows ≡ Some w → ShowsRows passive n rows w
   missing_here w e = go (nat_lt MAX_ROWS (length (max_rows passive n))) refl e

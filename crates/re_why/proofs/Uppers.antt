@@ -6,14 +6,13 @@ use Rattle.std.specs.Option.{option_and_then, option_map, option_or}
 use Rattle.std.proofs.lemmas.Bool.Decides.{nat_tests}
 use Rattle.re_labels.proofs.Membership.{AllByRecursion-contains, Contains-In, In, In-Contains, In-map, In-map_from, all-In, any_found, any_true, length-count_from, length-map'}
 use Rattle.re_labels.proofs.Rising.{same_members}
-use Rattle.re_labels.proofs.Tests.{eqb-same, eqb-true}
+use Rattle.re_labels.proofs.Tests.{eqb-same, eqb-true, not-true}
 use Rattle.re_labels.specs.Lists.{IsRising, count_from}
 use Rattle.re_labels.specs.Configs.{IsConfig}
 use Rattle.re_labels.specs.Rows.{set_at}
 use Rattle.re_table.proofs.Goodness.{IsAllowed-is_allowed, IsGood-is_good, is_allowed-IsAllowed, is_good-IsGood}
 use Rattle.re_table.specs.Constraints.{Constraint, Has, IsConstraint}
 use Rattle.re_table.specs.GoodRows.{IsAllowed, IsGood, is_allowed, is_good}
-use Rattle.re_problem.proofs.FedLines.{unnot_true}
 use Rattle.re_problem.specs.Steps.{SetEntry, entry_sets, set_for}
 use Rattle.re_check.proofs.AllowedImages.{set_at-entry}
 use Rattle.re_check.specs.StepClauses.{HasAllowedImages, HasGoodImages, HasNextLabels, entry_labels}
@@ -79,7 +78,7 @@ module _ (n : ℕ) (entries : List SetEntry) (below : AllByRecursion (λ (entry 
   missing_here : (x : ℕ) → first_label (λ x. not (names_label entries x)) n ≡ Some x → ShowsLabels n entries (MissingLabel x)
   missing_here x e =
       let (l, fails) = first_label-some (λ x. not (names_label entries x)) n x e in
-      (l, λ held. true≢false (sym (is-named x held) ∙ unnot_true (names_label entries x) fails))
+      (l, λ held. true≢false (sym (is-named x held) ∙ not-true (names_label entries x) fails))
 
   not-false : (b : Bool) → not b ≡ false → b ≡ true
   not-false true e = refl
@@ -165,7 +164,7 @@ module _ (n : ℕ) (before next : Constraint) (entries : List SetEntry) (is : Is
           (λ none.
           let good : IsGood before (map (set_for entries) config) = good-by config held (map-none (BadSets config (map (set_for entries) config)) (first_bad before (map (set_for entries) config)) none) in
           let passes : test config ≡ true = ap (is_good before) (sets-for config) ∙ IsGood-is_good before (map (set_for entries) config) good in
-          true≢false (sym passes ∙ unnot_true (test config) fails))
+          true≢false (sym passes ∙ not-true (test config) fails))
 
   shut_shown : (HasAllowedImages entries next before → ⊥) → Gives (shut_witness before next entries) (ShowsShut before next entries)
   shut_shown isnt =
@@ -174,7 +173,7 @@ module _ (n : ℕ) (before next : Constraint) (entries : List SetEntry) (is : Is
       let (config, found, same) = map-some (λ config. ShutSets config (map (set_for entries) config)) (first_not_allowed (entry_sets entries) next before) w g in
       let (fails, inside) = found_passes (λ config. not (is_allowed before (map (set_at (entry_sets entries)) config))) next.configs config (sym found) in
       subst (ShowsShut before next entries) same
-      (In-Contains config next.configs inside, refl, λ allowed. true≢false (sym (ap (is_allowed before) (sets-for config) ∙ IsAllowed-is_allowed before (map (set_for entries) config) allowed) ∙ unnot_true (is_allowed before (map (set_at (entry_sets entries)) config)) fails)))
+      (In-Contains config next.configs inside, refl, λ allowed. true≢false (sym (ap (is_allowed before) (sets-for config) ∙ IsAllowed-is_allowed before (map (set_for entries) config) allowed) ∙ not-true (is_allowed before (map (set_at (entry_sets entries)) config)) fails)))
       (λ none. isnt (λ config held. subst (IsAllowed before) (sets-for config) (is_allowed-IsAllowed before (map (set_at (entry_sets entries)) config)
       (all-In (λ config. is_allowed before (map (set_at (entry_sets entries)) config)) next.configs (none_all (λ config. is_allowed before (map (set_at (entry_sets entries)) config)) next.configs (map-none (λ config. ShutSets config (map (set_for entries) config)) (first_not_allowed (entry_sets entries) next before) none)) config (Contains-In config next.configs held)))))
 

@@ -2,9 +2,7 @@
 use Rattle.std.proofs.Common.{◌≡◌, ℕ, zero, suc, ◌<◌, ◌≤◌, ◌+◌, Bool, true, false, cond, List, [], ◌∷◌, length, Option, None, Some, Ok, refl, sym, ap, ◌∙◌, subst, arith}
 use Rattle.std.specs.List.{AllByRecursion, find}
 use Rattle.std.specs.Prelude.{option_map}
-use Rattle.re_labels.specs.Configs.{IsConfig}
 use Rattle.re_labels.specs.Rows.{singles}
-use Rattle.re_labels.proofs.Membership.{AllByRecursion-weaker}
 use Rattle.re_labels.specs.Lists.{count_from}
 use Rattle.re_labels.specs.declared.sides.Side.{Side}
 use Rattle.re_texts.specs.MapTexts.{map_text}
@@ -14,9 +12,9 @@ use Rattle.re_problem.specs.Verdicts.{first_empty, first_lost, first_not_allowed
 use Rattle.re_problem.specs.declared.verdict.MapVerdict.{MapVerdict}
 use Rattle.re_problem.specs.declared.verdict.MapVerdict.TheVariants.{Active, Count, Degrees, Empty, Passive, Twice}
 use Rattle.re_problem.specs.NamedProblems.{IsNamedProblem, NamedProblem, unnamed}
-use Rattle.re_table.specs.Constraints.{Constraint, IsConstraint}
 use Rattle.re_words.specs.Mapping.{IsNamedVerdict, labels_in, map_outcome, mapped, mapping_outcome}
 use Rattle.re_words.specs.declared.command.Mapping.TheVariants.{Relax, Rename}
+use Rattle.re_table.proofs.ConstraintImages.{configs-below}
 
 -- ---- what a verdict names
 abbrev IsNamedOption : ℕ → Option MapVerdict → Type 0
@@ -54,17 +52,14 @@ count_named : (n : ℕ) (o : Option Side) → IsNamedOption n (option_map Count 
 count_named n None = tt
 count_named n (Some side) = tt
 
-below : (n : ℕ) (constraint : Constraint) → IsConstraint n constraint → AllByRecursion (AllByRecursion (λ label. label < n)) constraint.configs
-below n constraint is = AllByRecursion-weaker (IsConfig constraint.degree n) (AllByRecursion (λ label. label < n)) (λ config c. c.below) constraint.configs is.configs
-
 pub relaxation_named : (from to : NamedProblem) (images : List ℕ) (n : ℕ) → n ≡ length from.names → IsNamedProblem from → IsNamedVerdict n (relaxation_verdict (unnamed from) (unnamed to) images)
 relaxation_named from to images n e is = subst (λ m. IsNamedVerdict m (relaxation_verdict (unnamed from) (unnamed to) images)) (sym e)
     (first_named (length from.names)
     (unless (has_degrees (unnamed to) from.active.degree from.passive.degree) Degrees ∷ option_map Active (first_lost images from.active to.active) ∷ option_map Passive (first_lost images from.passive to.passive) ∷ []) (
       degrees_named (length from.names) _,
       (
-        found_config (length from.names) _ Active (λ config h. h) from.active.configs (below (length from.names) from.active is.problem.active),
-        (found_config (length from.names) _ Passive (λ config h. h) from.passive.configs (below (length from.names) from.passive is.problem.passive), tt),
+        found_config (length from.names) _ Active (λ config h. h) from.active.configs (configs-below (length from.names) from.active is.problem.active),
+        (found_config (length from.names) _ Passive (λ config h. h) from.passive.configs (configs-below (length from.names) from.passive is.problem.passive), tt),
       ),
     ))
 
@@ -77,9 +72,9 @@ renaming_named from to images n e l is = subst (λ m. IsNamedVerdict m (renaming
       (
         found_label (length from.names) _ Twice (λ label h. h) 0 (length images) (omega (arith, l)),
         (
-          found_config (length from.names) _ Active (λ config h. h) from.active.configs (below (length from.names) from.active is.problem.active),
+          found_config (length from.names) _ Active (λ config h. h) from.active.configs (configs-below (length from.names) from.active is.problem.active),
           (
-            found_config (length from.names) _ Passive (λ config h. h) from.passive.configs (below (length from.names) from.passive is.problem.passive),
+            found_config (length from.names) _ Passive (λ config h. h) from.passive.configs (configs-below (length from.names) from.passive is.problem.passive),
             (count_named (length from.names) (larger ActiveSide from.active to.active), (count_named (length from.names) (larger PassiveSide from.passive to.passive), tt)),
           ),
         ),
@@ -95,8 +90,8 @@ restriction_named from to sets n e l is = subst (λ m. IsNamedVerdict m (restric
       (
         found_label (length to.names) _ Empty (λ label h. h) 0 (length sets) (omega (arith, l)),
         (
-          found_config (length to.names) _ Active (λ config h. h) to.active.configs (below (length to.names) to.active is.problem.active),
-          (found_config (length to.names) _ Passive (λ config h. h) to.passive.configs (below (length to.names) to.passive is.problem.passive), tt),
+          found_config (length to.names) _ Active (λ config h. h) to.active.configs (configs-below (length to.names) to.active is.problem.active),
+          (found_config (length to.names) _ Passive (λ config h. h) to.passive.configs (configs-below (length to.names) to.passive is.problem.passive), tt),
         ),
       ),
     ))

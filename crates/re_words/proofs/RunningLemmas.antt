@@ -16,10 +16,10 @@ use Rattle.re_laws.specs.Extracted.{IsUpperBound}
 use Rattle.re_net.proofs.FullViews.{full_view}
 use Rattle.re_net.specs.FiniteTrees.{FiniteTree, IsFiniteTree, IsNumbered, most_ports, node_count, side_of, surroundings, unmarked}
 use Rattle.re_net.specs.declared.messages.Message.{Message}
-use Rattle.re_problem.specs.NamedProblems.{unnamed}
+use Rattle.re_problem.specs.NamedProblems.{degrees_of, unnamed}
 use Rattle.re_problem.specs.Problems.{IsProblem, Problem}
 use Rattle.re_net.proofs.RunSteps.{outputs, passive_gets}
-use Rattle.re_net.specs.RunTexts.{RunText, degrees_of}
+use Rattle.re_net.specs.RunTexts.{RunText}
 use Rattle.re_net.specs.Runs.{Comes, has_output, messages_of, standing_of, standings_of}
 use Rattle.re_net.specs.declared.reading.Delivery.{Delivery}
 use Rattle.re_net.specs.declared.runs.Run.{Run}

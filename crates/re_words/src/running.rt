@@ -10,11 +10,11 @@ ghost use Rattle.re_problem.specs.CanonicalTexts.{spaced};
 ghost use Rattle.re_net.specs.RunReading.{AreMessages};
 ghost use Rattle.re_net.specs.FiniteTrees.{IsNumbered};
 ghost use Rattle.re_net.specs.RunReading.{text_of};
-ghost use Rattle.re_net.specs.RunTexts.{degrees_of};
 ghost use Rattle.re_net.specs.Runs.{first_illegal};
 ghost use Rattle.std.specs.Fmt.{decimal};
 ghost use Rattle.std.specs.List.{AllByRecursion};
 ghost use Rattle.std.specs.Prelude.{◌≡◌, ◌≤◌, ◌<◌, ◌+◌, ◌++◌, ◌^◌, ℕ, List, [], Some, codes, length, map, IfOk, IfSome, IsErrOf, OnOk, true};
+ghost use Rattle.re_problem.specs.NamedProblems.{degrees_of};
 
 use crate::command::Command;
 use re_check::{Kind, Verdict, check, upper_steps};

@@ -1,11 +1,12 @@
 use Rattle.std.proofs.Common.{◌≡◌, ◌∙◌, ◌++◌, ◌∷◌, ◌<◌, ◌≤◌, ◌+◌, [], ℕ, List, length, length-append, arith, ap, subst, sym, refl}
 use Rattle.std.specs.Prelude.{Contains, ◌↔◌}
 use Rattle.re_table.proofs.SaidChoices.{popped-is}
-use Rattle.re_boxes.proofs.Visits.{IsOpenedAt, IsPartedAt, narrowed-all, narrowed-rest, narrowed-start, next-goes, refilled, nothing-more, rest-below, round-narrowed, round-visit, round-waiting, waiting-start, narrowed-alone}
+use Rattle.re_boxes.proofs.Visits.{IsOpenedAt, IsPartedAt, narrowed-all, narrowed-rest, narrowed-start, next-goes, nothing-more, rest-below, round-narrowed, round-visit, round-waiting, waiting-start, narrowed-alone}
 use Rattle.re_boxes.specs.Rests.{Completes}
 use Rattle.re_boxes.specs.Spans.{tree_of, AreSpans, Fits, IsEnding, IsNarrowed, IsNext, IsVisit, IsWaiting}
 use Rattle.re_boxes.proofs.visiting.+visit.Goals as goal
 use Rattle.re_labels.specs.declared.TheConstants.{MAX_LABELS}
+use Rattle.re_labels.proofs.Lists.{refilled}
 
 is-deep : (l degree d e : ℕ) → d ≡ l → e ≡ degree → (d + 1 ≡ e → ⊥) → l < degree → l + 1 < degree
 is-deep l degree d e same given apart below = strictly (l + 1) degree (omega (arith, below)) (λ h. apart (omega (arith, h, same, given)))

@@ -1,8 +1,9 @@
 use Rattle.std.proofs.Common.{◌≡◌, ◌∙◌, ◌<◌, [], ℕ, arith, List, ap, get_or, length, subst, sym}
 use Rattle.std.specs.Prelude.{Contains, ◌↔◌}
-use Rattle.re_boxes.proofs.Visits.{narrowed-up_sets, refilled, visit-start}
+use Rattle.re_boxes.proofs.Visits.{narrowed-up_sets, visit-start}
 use Rattle.re_boxes.specs.Spans.{IsEnding, IsNarrowed, IsVisit, tree_of}
 use Rattle.re_labels.specs.Sets.{IsLabelSet}
+use Rattle.re_labels.proofs.Lists.{refilled}
 use Rattle.re_boxes.proofs.visiting.up_sets.Goals as goal
 
 pub visit-requires-clause-visit : goal.visit-requires-clause-visit

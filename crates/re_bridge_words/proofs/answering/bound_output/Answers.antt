@@ -1,6 +1,9 @@
 use Rattle.std.proofs.Common.{◌≡◌, ap, subst, sym, ◌∙◌}
 use Rattle.std.proofs.lemmas.Result.{IfOk-weaker}
+use Rattle.re_problem.specs.NamedProblems.{IsNamedProblem}
+use Rattle.re_bridge_words.proofs.NoBridge.{no_longer}
 use Rattle.re_bridge_words.specs.BridgeWords.{IsBridgedText, sound_outcome}
+use Rattle.re_bridge_words.specs.Laws.{NoLonger}
 use Rattle.re_cert.specs.Bounds.{Bound}
 use Rattle.re_cert.specs.declared.certificate.Kind.{Kind}
 use Rattle.re_cert.specs.declared.certificate.Kind.TheVariants.{Fixed, Lower, Upper}
@@ -25,3 +28,11 @@ returns-clause-text c =
     IfOk-weaker c.sound_output.result _ _
     (λ output gives. subst (λ (b : Bound). (outcome_of output).status ≡ Done → IsBridgedText c.args.to.now b output.text.items) c.in_ok-chain.ensures gives)
     c.sound_output.ensures.text
+
+pub returns-clause-no : goal.returns-clause-no
+returns-clause-no c =
+    IfOk-weaker c.sound_output.result _ _
+    (λ output e is.
+    subst (NoLonger c.args.to.now) c.in_ok-chain.ensures
+    (no_longer c.no_law.ensures c.no_upper_law.ensures c.args.to.now c.in_ok-chain.chain (subst IsNamedProblem c.last-last.ensures c.names-last.ensures.problem) c.names-to.ensures.problem (sym e ∙ is)))
+    c.sound_output.ensures.output

@@ -3,14 +3,15 @@ use Rattle.std.specs.Prelude.{option_map}
 use Rattle.re_cert.specs.Bounds.{last_problem}
 use Rattle.re_fit.specs.Laws.{IsLeading}
 use Rattle.re_problem.specs.NamedProblems.{unnamed}
-use Rattle.re_bridge_words.proofs.UpperSteps.{degrees, few-sets, leads}
+use Rattle.re_bridge_words.proofs.UpperSteps.{few-sets, leads}
 use Rattle.re_bridge_words.proofs.upper.bridge_upper.Goals as goal
+use Rattle.re_check.proofs.StepMeaning.{exchanged-degrees}
 
 pub find_upper-requires-clause-active : goal.find_upper-requires-clause-active
-find_upper-requires-clause-active c = (degrees c.last-last.result.now c.args.next.now (sym c.are_exchanged.ensures ∙ c.if-not-are_exchanged.false)).0
+find_upper-requires-clause-active c = (exchanged-degrees c.last-last.result.now c.args.next.now (sym c.are_exchanged.ensures ∙ c.if-not-are_exchanged.false)).0
 
 pub find_upper-requires-clause-passive : goal.find_upper-requires-clause-passive
-find_upper-requires-clause-passive c = (degrees c.last-last.result.now c.args.next.now (sym c.are_exchanged.ensures ∙ c.if-not-are_exchanged.false)).1
+find_upper-requires-clause-passive c = (exchanged-degrees c.last-last.result.now c.args.next.now (sym c.are_exchanged.ensures ∙ c.if-not-are_exchanged.false)).1
 
 pub over-requires-clause-few : goal.over-requires-clause-few
 over-requires-clause-few c =

@@ -1,12 +1,13 @@
 use Rattle.std.proofs.Common.{length, sym, ◌∙◌}
+use Rattle.re_labels.proofs.Tests.{above_zero}
 use Rattle.re_problem.proofs.ReadTexts.{nothing_left}
-use Rattle.re_chains.proofs.ProblemLines.{all_read, line_read, nothing_read, refused_there, section_there, some_left}
+use Rattle.re_chains.proofs.ProblemLines.{all_read, line_read, nothing_read, refused_there, section_there}
 use Rattle.re_chains.proofs.reading.read_problem_at.Goals as goal
 
 pub lines-init : goal.lines-init
 lines-init c =
     nothing_read c.new-reader.result c.args.byte c.args.number c.args.text.now c.new-reader.ensures c.requires.counted
-    (c.requires.within (some_left (length c.args.text.now) (sym c.is_empty.ensures ∙ c.if-is_empty.false)))
+    (c.requires.within (above_zero (length c.args.text.now) (sym c.is_empty.ensures ∙ c.if-is_empty.false)))
 
 pub lines-preserved : goal.lines-preserved
 lines-preserved c =

@@ -4,8 +4,9 @@ use Rattle.std.proofs.lemmas.List.Edits.{length-remove}
 use Rattle.re_closure.specs.Combining.{AreMeetings}
 use Rattle.re_closure.proofs.Combinations.{AreMeetingsBefore, meetings_again, meetings_all, meetings_next, meetings_none}
 use Rattle.re_labels.specs.Orders.{factorial}
+use Rattle.re_labels.proofs.Lists.{split_first}
 use Rattle.re_closure.proofs.Counting.{factorial_split, grown_more, grown_still, pushed_length}
-use Rattle.re_closure.proofs.Places.{no_elements, parts, parts_count}
+use Rattle.re_closure.proofs.Places.{no_elements, parts_count}
 use Rattle.re_closure.proofs.combining.+push_meets.Goals.{then-not-is_again+in_ok-push_meets, else-not-is_again}
 use Rattle.re_closure.proofs.combining.+push_meets.Goals as goal
 
@@ -60,7 +61,7 @@ loop-place-preserved t c = elim c.if-not-is_again.branch [
 pub returns-clause-all : goal.returns-clause-all
 returns-clause-all t c =
     let count = parts_count c.args.rest.now c.first-item.result c.in-len1-up.len_at_least c.first-item.is in
-    subst (λ r. AreMeetings c.args.chosen.now r c.args.left.now c.args.found.now.items c.loop-place.found.items) (sym (parts c.args.rest.now c.first-item.result c.in-len1-up.len_at_least c.first-item.is))
+    subst (λ r. AreMeetings c.args.chosen.now r c.args.left.now c.args.found.now.items c.loop-place.found.items) (sym (split_first c.args.rest.now c.first-item.result c.in-len1-up.len_at_least c.first-item.is))
     (meetings_all c.args.chosen.now c.first-item.result (take (length c.args.rest.now - 1) (drop 1 c.args.rest.now)) c.args.left.now c.loop-place.place c.args.found.now.items c.loop-place.found.items c.loop-place-test.false (c.requires.alike ∙ count) c.loop-place.invariant.all)
 
 pub returns-clause-few : goal.returns-clause-few

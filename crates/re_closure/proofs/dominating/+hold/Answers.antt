@@ -3,8 +3,9 @@ use Rattle.std.proofs.lemmas.Bool.{false≢true}
 use Rattle.re_labels.specs.Rows.{Dominates}
 use Rattle.re_labels.proofs.Sets.{IsWithin-within, within-IsWithin}
 use Rattle.re_labels.specs.Sets.{IsWithin}
+use Rattle.re_labels.proofs.Lists.{split_first}
 use Rattle.re_closure.proofs.Dominations.{held_at, none_again, none_at_all, none_held, none_here}
-use Rattle.re_closure.proofs.Places.{no_elements, parts, read_at}
+use Rattle.re_closure.proofs.Places.{no_elements, read_at}
 use Rattle.re_closure.proofs.dominating.+hold.Goals.{then-not-is_again+then-within+else-hold, else-not-is_again, else-not-is_again-via-then-not-is_again+else-within, else-not-is_again-via-else-not-is_again}
 use Rattle.re_closure.proofs.dominating.+hold.Goals as goal
 
@@ -18,7 +19,7 @@ returns-then-hold t c =
     let at = read_at c.args.tops.now c.loop-place.place c.index-tops-place.result c.loop-place-test.true c.index-tops-place.is in
     let inside = within-IsWithin c.first-item.result c.index-tops-place.result (sym c.within.ensures ∙ c.if-within.true) in
     let rest = subst (λ l. Dominates l (take (length c.args.sets.now - 1) (drop 1 c.args.sets.now))) (c.as_slice.ensures.value ∙ c.without-left.ensures) (c.hold.ensures.0 c.if-hold.true) in (
-      λ told. subst (Dominates c.args.tops.now) (sym (parts c.args.sets.now c.first-item.result c.in-len1-up.len_at_least c.first-item.is))
+      λ told. subst (Dominates c.args.tops.now) (sym (split_first c.args.sets.now c.first-item.result c.in-len1-up.len_at_least c.first-item.is))
           (held_at c.args.tops.now c.first-item.result (take (length c.args.sets.now - 1) (drop 1 c.args.sets.now)) c.loop-place.place c.loop-place-test.true (subst (IsWithin c.first-item.result) (sym at) inside) rest),
       λ dom. refl,
     )
@@ -40,5 +41,5 @@ pub returns : goal.returns
 returns t c = (
   λ told. absurd (false≢true told),
   λ dom. absurd (none_at_all c.args.tops.now c.first-item.result (take (length c.args.sets.now - 1) (drop 1 c.args.sets.now)) c.loop-place.place c.loop-place-test.false c.loop-place.invariant
-      (subst (Dominates c.args.tops.now) (parts c.args.sets.now c.first-item.result c.in-len1-up.len_at_least c.first-item.is) dom)),
+      (subst (Dominates c.args.tops.now) (split_first c.args.sets.now c.first-item.result c.in-len1-up.len_at_least c.first-item.is) dom)),
 )

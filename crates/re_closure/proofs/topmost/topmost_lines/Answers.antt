@@ -1,6 +1,5 @@
 use Rattle.std.proofs.Common.{◌≡◌, ◌<◌, Err, length, sym, ap, ◌∙◌, subst, arith}
-use Rattle.re_labels.proofs.Tests.{eqb-true}
-use Rattle.re_fit.proofs.Judged.{some_number}
+use Rattle.re_labels.proofs.Tests.{above_zero, eqb-true}
 use Rattle.re_closure.proofs.Counting.{counted_begin, counted_full, counted_taken}
 use Rattle.re_closure.proofs.Keeping.{err_is, kept_begin, kept_taken, kept_topmost}
 use Rattle.re_closure.specs.Kept.{IsAntichain, IsCounted}
@@ -52,7 +51,7 @@ returns-in_err-settle-clause-full c = λ e d count.
 
 pub returns-clause-full : goal.returns-clause-full
 returns-clause-full c = λ e d count.
-    let there = some_number c.loop-settled.waiting.len (sym c.is_empty-2.ensures ∙ c.if-is_empty-2.false) in
+    let there = above_zero c.loop-settled.waiting.len (sym c.is_empty-2.ensures ∙ c.if-is_empty-2.false) in
     let some : 0 < length c.loop-settled.waiting.items = omega (arith, there, c.loop-settled.waiting.ok.0) in
     let all : c.loop-settled._settled ≡ MAX_COMBINATIONS = omega arith in
     counted_full d c.args.starts.items c.loop-settled.kept.items c.loop-settled.waiting.items some

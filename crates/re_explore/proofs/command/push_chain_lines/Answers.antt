@@ -3,7 +3,7 @@ use Rattle.re_bridge_words.specs.Answers.{bridge_help}
 use Rattle.re_chain_words.specs.ChainWords.{chain_help}
 use Rattle.re_closure.specs.ClosureWords.{closure_help}
 use Rattle.re_describe.specs.DescribeWords.{describe_help}
-use Rattle.re_relaxed.specs.Words.{relaxed_help}
+use Rattle.re_search_words.specs.RelaxedWords.{relaxed_help}
 use Rattle.re_search_words.specs.Words.{search_help}
 use Rattle.re_why.specs.Explaining.{why_help}
 use Rattle.re_explore.specs.Commands.{chain_lines}

@@ -3,7 +3,8 @@ use Rattle.std.proofs.lemmas.Bool.{cases_lt, false≢true}
 use Rattle.re_labels.proofs.Sets.{IsIn-has, has-IsIn}
 use Rattle.re_labels.proofs.Tests.{below-cases}
 use Rattle.re_labels.specs.Sets.{IsIn}
-use Rattle.re_flexible.proofs.Building.{read, related_low}
+use Rattle.re_labels.proofs.Placing.{read_at}
+use Rattle.re_flexible.proofs.Building.{related_low}
 use Rattle.re_flexible.proofs.levels.first_set.Goals as goal
 use Rattle.re_flexible.specs.Relations.{Relates}
 
@@ -11,7 +12,7 @@ pub returns-then-has : goal.returns-then-has
 returns-then-has c =
     let n = c.loop-label.label in
     let low : n < length c.args.sets.now = (let below = c.loop-label-test.true in let same = c.requires in omega (arith, below, same)) in
-    let at : c.index-sets-label.result ≡ get_or c.args.sets.now n [] = read c.args.sets.now n c.index-sets-label.result low c.index-sets-label.is in (
+    let at : c.index-sets-label.result ≡ get_or c.args.sets.now n [] = read_at c.args.sets.now n c.index-sets-label.result low c.index-sets-label.is in (
       n,
       subst (IsIn n) at (has-IsIn c.index-sets-label.result n (sym c.has.ensures ∙ c.if-has.true)),
       at,
@@ -22,7 +23,7 @@ pub loop-label-preserved : goal.loop-label-preserved
 loop-label-preserved c = λ x low self.
     let n = c.loop-label.label in
     let here : n < length c.args.sets.now = (let below = c.loop-label-test.true in let same = c.requires in omega (arith, below, same)) in
-    let at : c.index-sets-label.result ≡ get_or c.args.sets.now n [] = read c.args.sets.now n c.index-sets-label.result here c.index-sets-label.is in
+    let at : c.index-sets-label.result ≡ get_or c.args.sets.now n [] = read_at c.args.sets.now n c.index-sets-label.result here c.index-sets-label.is in
     elim (below-cases x n low) [
       | inl less ↦ c.loop-label.invariant x less self
       | inr same ↦ false≢true (sym (sym c.has.ensures ∙ c.if-has.false) ∙ IsIn-has c.index-sets-label.result n (subst (IsIn n) (sym at) (subst (λ i. Relates c.args.sets.now i i) same self)))

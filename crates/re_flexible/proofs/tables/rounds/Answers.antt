@@ -4,8 +4,8 @@ use Rattle.std.proofs.lemmas.Bool.{false≢true}
 use Rattle.re_labels.proofs.Sets.{IsIn-has, has-IsIn}
 use Rattle.re_labels.specs.Sets.{IsIn, has}
 use Rattle.re_labels.specs.declared.TheConstants.{MAX_LABELS}
+use Rattle.re_labels.proofs.Placing.{read_at}
 use Rattle.re_flexible.proofs.Ahead.{ahead_all, ahead_more, ahead_none, lacks_less}
-use Rattle.re_flexible.proofs.Building.{read}
 use Rattle.re_flexible.proofs.tables.rounds.Goals as goal
 use Rattle.re_flexible.specs.Relations.{Composes, IsWithin, Relates, Rounds}
 
@@ -29,7 +29,7 @@ returns-then-is_within c =
     (subst (λ t. IsWithin c.as_slice-in-steps-2.result.now t) c.as_slice-in-steps-3.ensures.value c.if-is_within.ensures) in
     let all = ahead_all c.args.table.now c.args.back.now c.args.label c.requires.converse c.steps.ahead.items c.composed-behind.result.items c.composed-moved.result.items c.steps.invariant.ahead first second inside in
     let low : c.args.label < length c.steps.ahead.items = (let below = c.requires.label in let same = c.steps.invariant.count in omega (arith, below, same)) in
-    let here : c.index-deref-label.result ≡ get_or c.steps.ahead.items c.args.label [] = read c.steps.ahead.items c.args.label c.index-deref-label.result low
+    let here : c.index-deref-label.result ≡ get_or c.steps.ahead.items c.args.label [] = read_at c.steps.ahead.items c.args.label c.index-deref-label.result low
     (subst (λ t. c.index-deref-label.result ≡ get_or t c.args.label c.index-deref-label.result) c.deref.ensures.0 c.index-deref-label.is) in
     told c.has.result c.index-deref-label.result c.args.label (Relates c.steps.ahead.items c.args.label c.args.label) (Rounds c.args.table.now c.args.label) c.has.ensures
     (λ held. subst (IsIn c.args.label) here held) (λ held. subst (IsIn c.args.label) (sym here) held) all

@@ -1,5 +1,6 @@
 use Rattle.std.proofs.Common.{◌≡◌, ◌<◌, ◌⊎◌, [], arith, get_or, inl, inr, length}
-use Rattle.re_flexible.proofs.Building.{built_all, built_more, read, related_low, row_is, union_row}
+use Rattle.re_labels.proofs.Placing.{read_at}
+use Rattle.re_flexible.proofs.Building.{built_all, built_more, related_low, row_is, union_row}
 use Rattle.re_flexible.proofs.tables.united.Goals as goal
 use Rattle.re_flexible.specs.Relations.{Relates}
 
@@ -7,8 +8,8 @@ pub loop-label-preserved : goal.loop-label-preserved
 loop-label-preserved c =
     let low : c.loop-label.label < length c.args.first.now = (let below = c.loop-label-test.true in let same = c.requires.first in omega (arith, below, same)) in
     let under : c.loop-label.label < length c.args.second.now = (let below = c.loop-label-test.true in let same = c.requires.second in omega (arith, below, same)) in
-    let one : c.index-first-label.result ≡ get_or c.args.first.now c.loop-label.label [] = read c.args.first.now c.loop-label.label c.index-first-label.result low c.index-first-label.is in
-    let other : c.index-second-label.result ≡ get_or c.args.second.now c.loop-label.label [] = read c.args.second.now c.loop-label.label c.index-second-label.result under c.index-second-label.is in
+    let one : c.index-first-label.result ≡ get_or c.args.first.now c.loop-label.label [] = read_at c.args.first.now c.loop-label.label c.index-first-label.result low c.index-first-label.is in
+    let other : c.index-second-label.result ≡ get_or c.args.second.now c.loop-label.label [] = read_at c.args.second.now c.loop-label.label c.index-second-label.result under c.index-second-label.is in
     built_more (λ x y. Relates c.args.first.now x y ⊎ Relates c.args.second.now x y) c.loop-label.table.items _ c.loop-label.label c.union.result c.loop-label.invariant c.push.ensures.items
     (union_row (λ y. Relates c.args.first.now c.loop-label.label y) (λ y. Relates c.args.second.now c.loop-label.label y) c.index-first-label.result c.index-second-label.result c.union.result c.union.ensures
     (row_is c.args.first.now c.loop-label.label c.index-first-label.result one) (row_is c.args.second.now c.loop-label.label c.index-second-label.result other))

@@ -1,10 +1,11 @@
 use Rattle.std.proofs.Common.{◌≡◌, ◌∙◌, ◌<◌, ◌+◌, ℕ, [], arith, get_or, inl, inr, length, subst, sym}
 use Rattle.std.proofs.lemmas.Bool.{false≢true}
 use Rattle.re_labels.proofs.Membership.{Contains-none}
-use Rattle.re_labels.proofs.Sets.{IsIn-has, has-IsIn}
+use Rattle.re_labels.proofs.Sets.{has-IsIn, IsIn-has, IsIn-with_label_cases, IsIn-with_label_new, IsIn-with_label_old}
 use Rattle.re_labels.proofs.Tests.{below-cases}
 use Rattle.re_labels.specs.Sets.{IsIn, with_label}
-use Rattle.re_flexible.proofs.Building.{read, related_low, with_cases, with_new, with_old}
+use Rattle.re_labels.proofs.Placing.{read_at}
+use Rattle.re_flexible.proofs.Building.{related_low}
 use Rattle.re_flexible.proofs.together.labels_in.Goals as goal
 use Rattle.re_flexible.proofs.together.labels_in.Goals.{else-has, then-has}
 use Rattle.re_flexible.specs.Relations.{Relates}
@@ -16,16 +17,16 @@ pub loop-label-preserved : goal.loop-label-preserved
 loop-label-preserved c =
     let n = c.loop-label.label in
     let low : n < length c.args.sets.now = (let below = c.loop-label-test.true in let same = c.requires in omega (arith, below, same)) in
-    let at : c.index-sets-label.result ≡ get_or c.args.sets.now n [] = read c.args.sets.now n c.index-sets-label.result low c.index-sets-label.is in
+    let at : c.index-sets-label.result ≡ get_or c.args.sets.now n [] = read_at c.args.sets.now n c.index-sets-label.result low c.index-sets-label.is in
     elim c.if-has.branch [
       | then-has w ↦ λ x. (
-        λ held. elim (with_cases c.loop-label.labels n x (subst (IsIn x) (w.labels-is ∙ w.insert-labels.ensures) held)) [
+        λ held. elim (IsIn-with_label_cases c.loop-label.labels n x (subst (IsIn x) (w.labels-is ∙ w.insert-labels.ensures) held)) [
           | inl same ↦ (omega (arith, same), subst (λ i. Relates c.args.sets.now i i) same (subst (IsIn n) at (has-IsIn c.index-sets-label.result n (sym c.has.ensures ∙ w.if-has.true))))
           | inr old ↦ (let two = (c.loop-label.invariant x).0 old in let less : x < n = two.0 in (omega (arith, less), two.1))
         ],
         λ two. subst (IsIn x) (sym (w.labels-is ∙ w.insert-labels.ensures)) (elim (below-cases x n two.0) [
-          | inl less ↦ with_old c.loop-label.labels n x ((c.loop-label.invariant x).1 (less, two.1))
-          | inr same ↦ subst (λ i. IsIn i (with_label c.loop-label.labels n)) (sym same) (with_new c.loop-label.labels n)
+          | inl less ↦ IsIn-with_label_old c.loop-label.labels n x ((c.loop-label.invariant x).1 (less, two.1))
+          | inr same ↦ subst (λ i. IsIn i (with_label c.loop-label.labels n)) (sym same) (IsIn-with_label_new c.loop-label.labels n)
         ]),
       )
       | else-has w ↦ λ x. (

@@ -2,7 +2,7 @@ use Rattle.std.proofs.Common.{◌<◌, ap, arith, get_or, inl, inr, length, set}
 use Rattle.std.proofs.lemmas.List.Elements.{Contains-get_or}
 use Rattle.re_labels.proofs.Membership.{AllByRecursion-contains}
 use Rattle.re_labels.specs.declared.TheConstants.{MAX_LABELS}
-use Rattle.re_flexible.proofs.Building.{read}
+use Rattle.re_labels.proofs.Placing.{read_at}
 use Rattle.re_flexible.proofs.Standing.{noted_more}
 use Rattle.re_flexible.proofs.together.note.Goals as goal
 
@@ -12,7 +12,7 @@ loop-place-preserved c =
     (Contains-get_or c.args.labels.now c.loop-place.place 0 c.loop-place-test.true) in
     let low : get_or c.args.labels.now c.loop-place.place 0 < length c.loop-place.table = (let same = c.loop-place.auto.table in let count = c.requires.count in omega (arith, label, same, count)) in
     noted_more c.args.table.now c.loop-place.table _ c.args.labels.now c.index-table-label.result c.others.result c.loop-place.place low c.loop-place.invariant
-    (read c.loop-place.table (get_or c.args.labels.now c.loop-place.place 0) c.index-table-label.result low c.index-table-label.is)
+    (read_at c.loop-place.table (get_or c.args.labels.now c.loop-place.place 0) c.index-table-label.result low c.index-table-label.is)
     (ap (set c.loop-place.table (get_or c.args.labels.now c.loop-place.place 0)) c.union.ensures) c.others.ensures
 
 pub returns : goal.returns

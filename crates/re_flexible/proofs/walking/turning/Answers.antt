@@ -4,8 +4,8 @@ use Rattle.std.proofs.lemmas.Bool.{false≢true}
 use Rattle.re_labels.proofs.Sets.{IsIn-has, has-IsIn}
 use Rattle.re_labels.proofs.Tests.{not_told}
 use Rattle.re_labels.specs.Sets.{IsIn}
+use Rattle.re_labels.proofs.Placing.{read_at}
 use Rattle.re_problem.specs.NamedProblems.{unnamed}
-use Rattle.re_flexible.proofs.Building.{read}
 use Rattle.re_flexible.proofs.Parts.{AreTested, TurnsIn, tested_all, tested_more, tested_none, tested_past}
 use Rattle.re_flexible.proofs.walking.turning.Goals as goal
 use Rattle.re_flexible.proofs.walking.turning.Goals.{else-has, else-has-via-else-has, else-has-via-then-has+else-not-has, then-has+then-not-has+else-rounds, then-has+then-not-has+then-rounds}
@@ -27,7 +27,7 @@ loop-label-preserved c =
     let n = c.loop-label.label in
     let part = c.index-parts-label.result in
     let low : n < length parts = (let below = c.loop-label-test.true in let same = c.requires.count in omega (arith, below, same)) in
-    let at : part ≡ get_or parts n [] = read parts n part low c.index-parts-label.is in
+    let at : part ≡ get_or parts n [] = read_at parts n part low c.index-parts-label.is in
     let held : c.has.result ≡ true → IsIn n part = λ t. has-IsIn part n (sym c.has.ensures ∙ t) in
     let turns : c.has.result ≡ true → Rounds c.args.walks.now.two.items n ↔ TurnsIn problem sets parts n =
     λ t. c.requires.walks.turns_are n ((c.requires.parts n n).0 (subst (IsIn n) at (held t))) in

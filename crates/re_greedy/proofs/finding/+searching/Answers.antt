@@ -1,7 +1,8 @@
 use Rattle.std.proofs.Common.{◌≡◌, ◌-◌, ◌∙◌, ◌++◌, ◌∷◌, [], List, ℕ, arith, drop, length, subst, sym, take, true}
 use Rattle.std.specs.Prelude.{Contains, IfOk, ◌↔◌}
 use Rattle.std.proofs.lemmas.Result.{IfOk-weaker}
-use Rattle.re_greedy.proofs.Extras.{split_count, split_first}
+use Rattle.re_labels.proofs.Lists.{split_first}
+use Rattle.re_greedy.proofs.Extras.{split_count}
 use Rattle.re_greedy.proofs.Searches.{kept_of, more_of, part_rest, searched_of, whole_greedy, whole_with, whole_without}
 use Rattle.re_greedy.proofs.finding.+searching.Goals as goal
 use Rattle.re_greedy.specs.Findings.{IsNoneBetween, IsRefused, IsReply, IsSearched, IsWhole}

@@ -1,22 +1,23 @@
 use Rattle.std.proofs.Common.{cond, sym, ap, ◌∙◌}
 use Rattle.re_problem.specs.SectionLines.{section_name}
-use Rattle.re_net.specs.RunLines.{section_by, section_of}
+use Rattle.re_net.specs.RunLines.{section_named, section_of}
 use Rattle.re_net.specs.declared.lines.Section.TheVariants.{Other}
 use Rattle.re_net.proofs.lines.read_section.Goals as goal
+use Rattle.std.specs.Option.{option_map_or}
 
 pub returns-then-not-begins_section : goal.returns-then-not-begins_section
 unfolding section_of
 returns-then-not-begins_section c =
-    sym (ap (λ t. cond t (section_by (section_name c.args.line.now)) Other) (sym c.begins_section.ensures.test ∙ c.if-not-begins_section.true))
+    sym (ap (λ t. cond t (option_map_or section_named (section_name c.args.line.now) Other) Other) (sym c.begins_section.ensures.test ∙ c.if-not-begins_section.true))
 
 pub returns-in-Some : goal.returns-in-Some
 unfolding section_of
 returns-in-Some c =
-    c.section_by_name.ensures ∙ sym (ap section_by c.in-Some.ensures)
-    ∙ sym (ap (λ t. cond t (section_by (section_name c.args.line.now)) Other) (sym c.begins_section.ensures.test ∙ c.if-not-begins_section.false))
+    c.section_by_name.ensures ∙ sym (ap (λ name. option_map_or section_named name Other) c.in-Some.ensures)
+    ∙ sym (ap (λ t. cond t (option_map_or section_named (section_name c.args.line.now) Other) Other) (sym c.begins_section.ensures.test ∙ c.if-not-begins_section.false))
 
 pub returns-in-None : goal.returns-in-None
 unfolding section_of
 returns-in-None c =
-    sym (ap section_by c.in-None.ensures)
-    ∙ sym (ap (λ t. cond t (section_by (section_name c.args.line.now)) Other) (sym c.begins_section.ensures.test ∙ c.if-not-begins_section.false))
+    sym (ap (λ name. option_map_or section_named name Other) c.in-None.ensures)
+    ∙ sym (ap (λ t. cond t (option_map_or section_named (section_name c.args.line.now) Other) Other) (sym c.begins_section.ensures.test ∙ c.if-not-begins_section.false))

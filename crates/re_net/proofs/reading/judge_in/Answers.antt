@@ -1,8 +1,9 @@
 use Rattle.std.proofs.Common.{◌∙◌, ap, subst, sym}
 use Rattle.re_net.specs.RunReading.{Fits, Holds, state_of}
-use Rattle.re_net.specs.RunTexts.{degrees_of, judged_in}
+use Rattle.re_net.specs.RunTexts.{judged_in}
 use Rattle.re_net.specs.declared.reading.Place.{Place}
 use Rattle.re_net.proofs.reading.judge_in.Goals as goal
+use Rattle.re_problem.specs.NamedProblems.{degrees_of}
 
 pub returns-in-Behind : goal.returns-in-Behind
 returns-in-Behind c =

@@ -1,5 +1,5 @@
 use Rattle.re_settle.proofs.Known.{count_known}
-use Rattle.re_settle.specs.declared.types.Claim.TheVariants.{MoreThan}
+use Rattle.re_evidence.specs.declared.types.Claim.TheVariants.{MoreThan}
 use Rattle.re_settle.proofs.counting.more_way.Goals as goal
 
 pub returns : goal.returns

@@ -1,4 +1,4 @@
-use Rattle.re_settle.specs.declared.types.Claim.TheVariants.{MoreThan}
+use Rattle.re_evidence.specs.declared.types.Claim.TheVariants.{MoreThan}
 use Rattle.re_settle.specs.GivenWays.{IsKnownGiven}
 use Rattle.re_settle.proofs.counting_given.few_way.Given as goal
 

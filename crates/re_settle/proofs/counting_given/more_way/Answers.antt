@@ -1,4 +1,4 @@
-use Rattle.re_settle.specs.declared.types.Claim.TheVariants.{MoreThan}
+use Rattle.re_evidence.specs.declared.types.Claim.TheVariants.{MoreThan}
 use Rattle.re_settle.proofs.GivenKnown.{count_known}
 use Rattle.re_settle.proofs.counting_given.more_way.Goals as goal
 

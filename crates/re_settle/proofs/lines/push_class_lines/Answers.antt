@@ -1,5 +1,6 @@
 use Rattle.re_settle.proofs.lines.push_class_lines.Goals as goal
-use Rattle.re_settle.specs.Lines.{class_text, shows_lines}
+use Rattle.re_evidence.specs.Lines.{class_text}
+use Rattle.re_settle.specs.Lines.{shows_lines}
 use Rattle.std.proofs.Common.{◌++◌, ◌∙◌, ap, append_assoc}
 use Rattle.std.proofs.lemmas.Result.{on_ok_weaker}
 use Rattle.std.specs.Prelude.{codes}

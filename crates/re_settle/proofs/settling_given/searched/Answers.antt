@@ -1,6 +1,6 @@
 use Rattle.std.proofs.Common.{subst}
 use Rattle.std.specs.Prelude.{IfSome}
-use Rattle.re_settle.specs.declared.types.Claim.TheVariants.{Never}
+use Rattle.re_evidence.specs.declared.types.Claim.TheVariants.{Never}
 use Rattle.re_settle.proofs.GivenTogether.{never_settled}
 use Rattle.re_settle.specs.GivenWays.{IsKnownGiven}
 use Rattle.re_settle.proofs.settling_given.searched.Goals as goal

@@ -3,7 +3,7 @@ use Rattle.std.proofs.lemmas.Result.{IfOk-weaker}
 use Rattle.re_given_words.specs.Counting.{IsCounted}
 use Rattle.re_given_words.specs.declared.counting.Counted.TheVariants as counted
 use Rattle.re_problem.specs.NamedProblems.{unnamed}
-use Rattle.re_settle.specs.declared.types.Claim.TheVariants.{Exactly, MoreThan}
+use Rattle.re_evidence.specs.declared.types.Claim.TheVariants.{Exactly, MoreThan}
 use Rattle.re_settle.proofs.GivenKnown.{at_once, count_known, shown_as, untold_at_once}
 use Rattle.re_settle.proofs.GivenTogether.{exactly_settled}
 use Rattle.re_settle.proofs.settling_given.settle_given.Goals as goal

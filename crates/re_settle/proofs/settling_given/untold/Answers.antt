@@ -1,6 +1,6 @@
 use Rattle.std.proofs.Common.{subst}
 use Rattle.std.specs.Prelude.{IfSome}
-use Rattle.re_settle.specs.declared.types.Claim.TheVariants.{AtMost, Never}
+use Rattle.re_evidence.specs.declared.types.Claim.TheVariants.{AtMost, Never}
 use Rattle.re_settle.specs.declared.types.Shown.{Shown}
 use Rattle.re_settle.proofs.GivenTogether.{most_settled, never_settled}
 use Rattle.re_settle.specs.GivenWays.{IsKnownGiven}

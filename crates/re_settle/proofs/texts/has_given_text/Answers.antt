@@ -1,18 +1,13 @@
-use Rattle.std.proofs.Common.{◌≡◌, ℕ, Bool, true, false, List, length, nat_lt, ap, subst, sym, ◌∙◌, arith, refl}
+use Rattle.std.proofs.Common.{◌≡◌, length, nat_lt, ap, subst, arith, refl}
 use Rattle.std.proofs.lemmas.Bool.Decides.{nat_tests}
-use Rattle.std.specs.Prelude.{if◌then◌else◌}
-use Rattle.re_frame.specs.Outcomes.{Outcome, done, outcome_of, status_of, too_long, within_limit}
+use Rattle.re_frame.specs.Outcomes.{outcome_of, status_of, within_limit}
 use Rattle.re_frame.specs.declared.status.Answer.{Answer}
 use Rattle.re_frame.specs.declared.status.Answer.TheVariants as answers
 use Rattle.re_frame.specs.declared.status.Status.TheVariants as status
 use Rattle.re_io.specs.declared.read.TheConstants.{MAX_BYTES}
 use Rattle.re_chains.specs.GivenTexts.{IsGivenText, given_text}
 use Rattle.re_settle.proofs.texts.has_given_text.Goals as goal
-
--- what is Done is the text
-text_done : (over : Bool) (text : List ℕ) (outcome : Outcome) → outcome ≡ (if over then too_long else done text) → outcome.status ≡ status.Done → outcome.text ≡ text
-text_done true text outcome is finished = absurd (let wrong : status.Limit ≡ status.Done = sym (ap (λ (o : Outcome). o.status) is) ∙ finished in cc)
-text_done false text outcome is finished = ap (λ (o : Outcome). o.text) is
+use Rattle.re_given_words.proofs.TextsThatFit.{not_over, text_done}
 
 pub returns-in-Done-clause-text : goal.returns-in-Done-clause-text
 unfolding within_limit
@@ -21,11 +16,6 @@ returns-in-Done-clause-text c = λ yes.
     let is = text_done (nat_lt MAX_BYTES (length (given_text c.args.certificate.now c.args.input.now))) (given_text c.args.certificate.now c.args.input.now) (outcome_of c.in_ok-output.output)
     c.in_ok-output.ensures.outcome finished in
     subst (IsGivenText c.args.certificate.now c.args.input.now) is (c.in_ok-output.ensures.text finished)
-
--- what is no longer is Done
-not_over : (over : Bool) (text : List ℕ) (outcome : Outcome) → (over ≡ true → ⊥) → outcome ≡ (if over then too_long else done text) → outcome.status ≡ status.Done
-not_over true text outcome short is = absurd (short refl)
-not_over false text outcome short is = ap (λ (o : Outcome). o.status) is
 
 answer_done : (answer : Answer) → status_of answer ≡ status.Done → answer ≡ answers.Done
 answer_done answers.Done is = refl

@@ -1,4 +1,0 @@
-mod Accepted
-mod Behind
-mod Saying
-mod WordCounts

@@ -4,7 +4,7 @@
     tools/wrap.py [PAGE ..]           writes paragraphs and items of lists anew, in lines of at most 120 columns
     tools/wrap.py --check [PAGE ..]   says which lines aren't as they would be written
 
-Without pages: README.md, docs/*.md, bench/README.md and the gallery. Code, tables, headings, pictures and comments stay
+Without pages: README.md, docs/*.md, bench/README.md and those of the examples. Code, tables, headings, pictures and comments stay
 as they are. A piece of code in a line and a link aren't parted.
 """
 import glob
@@ -14,6 +14,7 @@ import sys
 
 TOP = os.path.dirname(os.path.dirname(os.path.abspath(__file__)))
 WIDTH = 120
+EXAMPLES = "catalogue", "gallery", "literature"
 ITEM = re.compile(r"( *)([-*+]|\d+[.)]) +")
 # What would begin a heading, an item or a table at the head of a line.
 HEADS = re.compile(r"([-*+>]|#+|=+|-+|\d+[.)]|\|.*)$")
@@ -77,7 +78,7 @@ def wrapped(page):
 def main(words):
     checks = words[:1] == ["--check"]
     others = sorted(glob.glob("docs/*.md", root_dir=TOP))
-    pages = words[checks:] or ["README.md", *others, "bench/README.md", "examples/gallery/README.md"]
+    pages = words[checks:] or ["README.md", *others, "bench/README.md", *(f"examples/{name}/README.md" for name in EXAMPLES)]
     wrong = 0
     for name in pages:
         path = os.path.join(TOP, name)

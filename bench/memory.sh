@@ -1,7 +1,7 @@
 #!/usr/bin/env bash
 # Refuses memory to the built program, at each of its requests in turn and then from each on: memory.sh PROGRAM FOLDER [explore]
-# For each command it prints how many requests there are, and how many refusals were answered by status 7 with nothing written, by the
-# whole answer, and otherwise. It ends with status 1 where a refusal was answered otherwise, or by the whole answer at more than one
+# For each command it prints how many requests there are, and how many refusals were answered by status 7 with nothing written, or of
+# `settle` with the first lines of the answer, by the whole answer, and otherwise. It ends with status 1 where a refusal was answered otherwise, or by the whole answer at more than one
 # request: `main` asks for room for all of its words ahead, and goes on without it.
 set -eu
 
@@ -58,6 +58,15 @@ refused() {
         "$program" $words < "$input" > "$folder/found" 2> "$folder/errors" || status=$?
 }
 
+# Whether nothing is written, or of `settle` the first lines of the whole answer.
+is_begun() {
+    [ -s "$folder/found" ] || return 0
+    case $words in
+        settle*) head -n "$(wc -l < "$folder/found")" "$folder/sure" | cmp -s - "$folder/found" ;;
+        *) return 1 ;;
+    esac
+}
+
 wrong=0
 # Refuses each request of the words in turn, or from each on.
 try() {
@@ -69,7 +78,7 @@ try() {
         number=$((number + 1))
         refused "$number" "$1"
         [ -e "$folder/refused" ] || break
-        if [ "$status" -eq 7 ] && [ ! -s "$folder/found" ] && [ ! -s "$folder/errors" ]; then
+        if [ "$status" -eq 7 ] && is_begun && [ ! -s "$folder/errors" ]; then
             none=$((none + 1))
         elif [ "$status" -eq "$sure" ] && cmp -s "$folder/found" "$folder/sure" && [ ! -s "$folder/errors" ]; then
             whole=$((whole + 1))

@@ -35,12 +35,14 @@ def bound_of(program, name, text, problem):
 
 def claim_of(lower, upper, graph):
     """The answer, with the rounds of the graph or without."""
-    def hops(number, halves):
-        return f"{number} ({halves} rounds of the graph)" if graph else f"{number}"
+    def hops(says, number, halves):
+        behind = says.removeprefix("exactly ")
+        return f"{says}{number} ({behind}{halves} rounds of the graph)" if graph else f"{says}{number}"
 
     if upper == lower + 1:
-        return f"exactly {hops(upper, (upper + 1) // 2)}"
-    return f"more than {hops(lower, lower // 2)}" + ("" if upper is None else f", at most {hops(upper, (upper + 1) // 2)}")
+        return hops("exactly ", upper, (upper + 1) // 2)
+    most = "" if upper is None else f", {hops('at most ', upper, (upper + 1) // 2)}"
+    return hops("more than ", lower, lower // 2) + most
 
 
 def with_bounds(line, bounds):

@@ -4,6 +4,18 @@
 # A problem of a list as the programs read it.
 problem_text() { printf '%s\n' "$1" | sed 's| / |\n\n|; s| |\n|g' | sed 's/./& /g; s/ $//'; }
 
+# What `settle` answers, on standard input, as a table has it: the claim, the words that show it, the class, and the words that show this behind
+# what the literature says. Words have `; ` between. A note on labels is no answer.
+settled_line() {
+    awk '/^note: / { next }
+        NR == 1 { claim = $0; next }
+        sub(/^with identifiers: /, "") { class = $0; next }
+        { sub(/^by: /, "") }
+        class == "" { by = by (by == "" ? "" : "; ") $0; next }
+        { shown = shown (shown == "" ? "" : "; ") $0 }
+        END { print claim "\t" by "\t" class "\t" shown }'
+}
+
 # Runs the words that a table names, as `explore merge 'A' 'B' | explore closure` or `explore closure with diagram A B`, on standard input.
 run_words() {
     # shellcheck disable=SC2086
@@ -14,6 +26,76 @@ run_words() {
     're '*) "$re" ${1#re };;
     'explore '*) "$explore" ${1#explore };;
     esac
+}
+
+# What has to be said of the answer of these words where they show this claim, or this class, as `order log N`.
+wanted() {
+    case $2 in
+    're zero') echo yes;;
+    'explore rounds '*' given '*) echo 'exactly, given that input';;
+    'explore shortest '*' given '*) echo 'accepted: given that input, solvable';;
+    'explore rounds '*) echo "$1" | sed 's/ ([^)]*)//; s/,.*//';;
+    're upper '* | 'explore shortest '* | *-upper.txt) echo "accepted: solvable in $(echo "$1" | sed 's/ ([^)]*)//g; s/^exactly //; s/.*at most //') rounds";;
+    're lower '* | 'explore longest '* | *-lower.txt)
+        case $1 in
+        exactly*) echo "accepted: not solvable in $(($(echo "$1" | sed 's/^exactly //; s/ .*//') - 1)) or fewer rounds";;
+        *) echo "accepted: not solvable in $(echo "$1" | sed 's/^more than //; s/[ ,].*//') or fewer rounds";;
+        esac;;
+    'explore cover '*) echo 'no: no solution on this graph, so not solvable in any number of rounds';;
+    'explore greedy') echo 'greedy';;
+    'explore flexible')
+        case $1 in
+        not*) echo 'not flexible';;
+        'no solution') echo 'no solution';;
+        'order N') echo 'not flexible: length 1';;
+        'literature: '*) echo "not flexible: length $(echo "$1" | sed 's/.*(1.//; s/).*//')";;
+        *) echo flexible;;
+        esac;;
+    *) echo 'accepted: not solvable in any number of rounds';;
+    esac
+}
+
+# What `check` says of a certificate that is held, where it begins with this problem; for these, and for what it makes, there is a $folder.
+held() {
+    tar -xJOf "$here/certificates.tar.xz" "$2" > "$folder/held"
+    sed '1d; /^==/,$d' "$folder/held" | "$re" read > "$folder/first"
+    "$re" read < "$1" | cmp -s - "$folder/first" && "$re" check < "$folder/held"
+}
+
+# What is said of the answer of these words on the problem in this file, as the line above has it.
+judged() {
+    case $2 in
+    're zero') run_words "$2" < "$1" | sed 's/^yes: .*/yes/';;
+    'explore rounds '*' given '*) run_words "$2" < "$1" | sed 's/^exactly [0-9]*$/exactly, given that input/';;
+    'explore shortest '*' given '*) run_words "$2" < "$1" | "$explore" given | sed 's/ in [0-9]* rounds$//';;
+    'explore rounds '*) run_words "$2" < "$1" | sed 's/,.*//';;
+    'explore cover '*) run_words "$2" < "$1" | "$explore" solve;;
+    'explore greedy') run_words "$2" < "$1" | sed -n '1s/^greedy: .*/greedy/; 1p';;
+    'explore flexible')
+        case $3 in
+        'order N' | literature*) run_words "$2" < "$1";;
+        *) run_words "$2" < "$1" | sed 's/^\(not \)\{0,1\}flexible: .*/\1flexible/';;
+        esac;;
+    certificates/*) held "$1" "$2";;
+    *) run_words "$2" < "$1" | "$re" check;;
+    esac
+}
+
+# Runs the words, with `; ` between, that show a claim or a class of the problem in this file, and writes a line for each that fails, behind
+# this name; counts them in $commands and $failed.
+#     judge_all NAME FILE CLAIM WORDS
+judge_all() {
+    case $3 in 'order N') echo 'explore flexible';; *) echo "$4" | sed 's/; /\n/g';; esac > "$folder/by"
+    told=$3
+    while IFS= read -r words; do
+        case $words in '') continue;; literature:*) told=$words; continue;; esac
+        commands=$((commands + 1))
+        said=$(judged "$2" "$words" "$told") || true
+        if [ "$said" != "$(wanted "$told" "$words")" ]; then
+            failed=$((failed + 1))
+            echo "$1: $3, by $words: $said"
+        fi
+    done < "$folder/by"
 }
 
 # Cuts a list into parts of 50 lines, in the folder TABLE.parts, has `SCRIPT --part PART PROGRAMS` make PART.table of each, by GNU parallel,

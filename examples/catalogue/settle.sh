@@ -19,13 +19,7 @@ line() {
     status=0
     answer=$(problem_text "$2" | "$explore" settle) || status=$?
     [ "$status" -le 1 ] || { echo "settle.sh: problem $1: exit code $status: $answer" >&2; exit 1; }
-    printf '%s\n' "$answer" | awk -v number="$1" -v problem="$2" '
-        NR == 1 { claim = $0; next }
-        sub(/^with identifiers: /, "") { class = $0; next }
-        { sub(/^by: /, "") }
-        class == "" { by = by (by == "" ? "" : "; ") $0; next }
-        { shown = shown (shown == "" ? "" : "; ") $0 }
-        END { print number "\t" problem "\t" claim "\t" by "\t" class "\t" shown }'
+    printf '%s\t%s\t%s\n' "$1" "$2" "$(printf '%s\n' "$answer" | settled_line)"
 }
 
 if [ "${1:-}" = --part ]; then

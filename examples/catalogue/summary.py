@@ -12,9 +12,13 @@ import pathlib
 import re
 import sys
 
+sys.dont_write_bytecode = True
 import paths
 
-HERE = pathlib.Path(__file__).parent
+HERE = pathlib.Path(__file__).resolve().parent
+sys.path.append(str(HERE.parent.parent / "tools"))
+import wrap
+
 NEVER = "not solvable in any number of rounds"
 BETWEEN = "solvable, between two bounds"
 TRIED = ("`rounds 8`, `fixed 4 0`, `closure`, `cover 64`, `closure 2`, `merge X Y | explore closure`, `closure` with each diagram of one edge, where the first "
@@ -22,9 +26,10 @@ TRIED = ("`rounds 8`, `fixed 4 0`, `closure`, `cover 64`, `closure 2`, `merge X 
 INPUTS = ("`both`", "`sides`", "`edges`", "`colouring`, 4")
 HEAD = """# All small problems, up to the names of their labels
 
-`problems.py` writes the problems of some labels in which each label stands on both sides, each once, with its number; `settle.sh` runs
-`explore settle` on them, over many processors or machines; `given.sh` asks what is known given input problems; `check.sh` draws 200 lines and
-has `re check` judge what they name; `summary.py` wrote this page from the tables:
+`problems.py` writes the problems of some labels in which each label stands on both sides, each once, with its number;
+`settle.sh` runs `explore settle` on them, over many processors or machines; `given.sh` asks what is known given input
+problems; `check.sh` draws 200 lines, runs what they name and has it judged; `bounds.py` looks for certificates that say
+more; `summary.py` wrote this page from the tables:
 
     examples/catalogue/problems.py 3 3 2 > LIST
     examples/catalogue/settle.sh EXPLORE LIST examples/catalogue/3-3-2.tsv
@@ -33,21 +38,34 @@ has `re check` judge what they name; `summary.py` wrote this page from the table
     examples/catalogue/check.sh RE EXPLORE
     examples/catalogue/summary.py > examples/catalogue/README.md
 
-A table holds a line for each problem: its number, its active and passive configurations, the first line of the answer (in hops, and in rounds of
-the graph where passive nodes are edges), the words that show it, the class with unique identifiers, and the words that show this. The answer is for
-nodes that know nothing but port numbers, on trees; the class is for nodes with unique identifiers below N, as N grows, on finite forests of N nodes:
-`constant`, `order log* N`, `order log N`, `order N`, or a bound below and one above, of which `at least order log* N` is less a constant. An *at least*
-holds of problems of higher orders, too; which it is, no column says. Bounds above of the order of log N, or of log* N on paths, are those of a flexible
-set of labels: `explore flexible` finds one; `flexible.py` decides it by the definitions, knowing nothing else. But for these and for `order N` the class
-holds on infinite trees, too. All is proved of what `settle` says; where bounds come from certificates, `certificates.py` writes them, as `re check`
-accepts these. What is solved in k hops may use the orientation of each edge that its ports give; from unique identifiers one comes in a round.
+A table holds a line for each problem: its number, its active and passive configurations, the first line of the answer
+(in hops, and in rounds of the graph where passive nodes are edges), the words that show it, the class with unique
+identifiers, and the words that show this. The answer is for nodes that know nothing but port numbers, on trees; the
+class is for nodes with unique identifiers below N, as N grows, on finite forests of N nodes: `constant`,
+`order log* N`, `order log N`, `order N`, or a bound below and one above, of which `at least order log* N` is less a
+constant. An *at least* holds of problems of higher orders, too; which it is, no column says. Bounds above of the order
+of log N, or of log* N on paths, are those of a flexible set of labels: `explore flexible` finds one; `flexible.py`
+decides it by the definitions, knowing nothing else. But for these and for `order N` the class holds on infinite trees,
+too. All is proved of what `settle` says; where bounds come from certificates, `certificates.py` writes them, as
+`re check` accepts these. What is solved in k hops may use the orientation of each edge that its ports give; from unique
+identifiers one comes in a round.
 
-Bounds that no words find stand in `certificates.tar.xz`, and `certificates.py` puts them into the table. An upper one goes from a derived
-problem to a solved problem that is enough for it (`explore fit`), or to sets of its labels at the ports of few nodes; a lower one to a
-problem that it solves in 0 hops (`explore bridge`), and at the last step to sets without a choice.
+Words are those that `settle` names now: a relaxation (`relaxed 16`) where `closure` shows the same later, in degrees
+3 and 2 `greedy` for each class of order log* N, on paths a flexible set. Made before these were tried, the tables had
+other words, and the same answers and classes; of the 7,697 problems of 3 labels and degrees 3 and 2 `flexible.py`
+finds a flexible set in 1,027 of the 1,191 that no number of rounds solves, and one level of labels in the other 164.
+Lines of two tables are those of an earlier run, in the new words: of 3 labels in degrees 3 and 3 the 23 between two
+bounds, of 4 labels on paths about 27,000 that say *exactly*, of which 240 drawn ones were asked again.
 
-Given an input problem (`both`, an orientation by which edges lead into each active node and out of it; two `sides`; a colouring of the `edges`; a
-proper `colouring` with 4 colours), `explore settle` answers, or `explore given` of the fixed point that is known of the problem alone.
+Bounds that no words find stand in `certificates.tar.xz`, and `certificates.py` puts them into the table. An upper one
+goes from a derived problem to a solved problem that is enough for it (`explore bridge`), or to sets of its labels at
+the ports of few nodes; a lower one to a problem that it solves in 0 hops, and at the last step to sets without a
+choice. Of the 15 `bounds.py` makes three again, each in 3 seconds: the upper bounds of 1782 and 4019, by a problem that
+has fewer configurations, and the lower one of 4829. The programs that found the others aren't held.
+
+Given an input problem (`both`, an orientation by which edges lead into each active node and out of it; two `sides`; a
+colouring of the `edges`; a proper `colouring` with 4 colours), `explore settle` answers, or `explore given` of the
+fixed point that is known of the problem alone.
 """
 
 
@@ -62,8 +80,8 @@ def title_of(path):
 
 
 def known_alone(claim):
-    """The answer without rounds of the graph."""
-    return re.sub(r" \([^)]*\)", "", claim)
+    """The answer without rounds of the graph, and without the model, which the head of the column says."""
+    return re.sub(r" \([^)]*\)", "", claim).removesuffix(" with port numbers alone")
 
 
 def kind_of(claim):
@@ -217,7 +235,7 @@ def main(words):
     lines += binary_part([it for it in tables if title_of(it[0])[0] == 2 and title_of(it[0])[1] > 2])
     lines += paths_part([it for it in tables if title_of(it[0])[1:] == (2, 2)])
     lines += open_part(tables)
-    print("\n".join(lines).rstrip("\n"))
+    print(wrap.wrapped("\n".join(lines)).rstrip("\n"))
 
 
 if __name__ == "__main__":

@@ -4,11 +4,17 @@
     examples/literature/table.py EXPLORE [N] > examples/literature/README.md
 
 EXPLORE is the program; N is the number behind `settle`, if any. A row has the problem, who published its class, that class, what `settle` says,
-and the seconds of processor time it took. Where an answer contradicts what is published, the row and the exit code say so.
+the words that show it, the class that it says and the words that show this, and the seconds of processor time it took. Where an answer
+contradicts what is published, the row and the exit code say so.
+
+    examples/literature/table.py --texts FOLDER
+
+writes the problems' texts into a folder.
 
 The published classes are those of deterministic algorithms with unique identifiers on trees, for the degrees of the row: `constant`, `log*` (the
 order of log* n), `easy` (at most that), `log` (at least the order of log n, which problems of order n are too).
 """
+import pathlib
 import re
 import resource
 import subprocess
@@ -270,35 +276,61 @@ def agrees(published, line):
     return any(line == told or told in ("constant", "more than") and line.startswith(told) for told in LINES[published])
 
 
-def settled(explore, words, active, passive):
-    """The lines of the answer, and the seconds of processor time."""
-    text = "\n".join([*active, "", *passive]) + "\n"
+def text_of(active, passive):
+    return "\n".join([*active, "", *passive]) + "\n"
+
+
+def settled(explore, words, text):
+    """The claim, the words that show it, the class and the words that show that, and the seconds of processor time."""
     start = resource.getrusage(resource.RUSAGE_CHILDREN).ru_utime
     run = subprocess.run([explore, "settle", *words], input=text, stdout=subprocess.PIPE, text=True)
     if run.returncode not in (0, 1):
         sys.exit(f"table.py: exit code {run.returncode}: {run.stdout}")
-    return run.stdout.splitlines(), resource.getrusage(resource.RUSAGE_CHILDREN).ru_utime - start
+    seconds = resource.getrusage(resource.RUSAGE_CHILDREN).ru_utime - start
+    claim, shown = run.stdout.split("with identifiers: ")
+    (claim, *by), (known, *known_by) = claim.splitlines(), shown.splitlines()
+    return claim, words_in(by), known, words_in(known_by), seconds
 
 
-def main():
-    if not 2 <= len(sys.argv) <= 3:
-        sys.exit(__doc__)
-    explore, words = sys.argv[1], sys.argv[2:]
+def words_in(lines):
+    return "; ".join(f"`{line.removeprefix('by: ')}`" for line in lines if line.startswith("by: "))
+
+
+def write_texts(folder):
+    for name, _, _, active, passive in PROBLEMS:
+        short = "-".join(re.findall("[a-z0-9]+", name.lower()))
+        (pathlib.Path(folder) / f"{short}.txt").write_text(text_of(active, passive))
+
+
+def write_table(explore, words):
     print("# What is published, and what `settle` says\n")
-    print("Made by `examples/literature/table.py`, which has each problem's text and says what the columns are. Seconds are of processor time.\n")
-    print("| Problem | Published by | Published class | `settle` | with identifiers | s |")
-    print("|---|---|---|---|---|---|")
-    wrong = exact = 0
+    print("Made by `examples/literature/table.py`, which has each problem's text and says what the columns are; `check.sh` beside")
+    print("it runs the words that show an answer. Seconds are of processor time, beside other work.\n")
+    print("| Problem | Published by | Published class | `settle` | by | with identifiers | by | s |")
+    print("|---|---|---|---|---|---|---|---|")
+    wrong, weaker = 0, []
     for name, source, published, active, passive in PROBLEMS:
-        lines, seconds = settled(explore, words, active, passive)
-        line = next(line for line in lines if line.startswith("with identifiers: ")).removeprefix("with identifiers: ")
-        fine = agrees(published, line)
+        claim, by, known, known_by, seconds = settled(explore, words, text_of(active, passive))
+        fine = agrees(published, known)
         wrong += not fine
-        exact += fine and not line.startswith(("more than", "at least order log* N"))
-        shown = line.replace("*", "\\*") + ("" if fine else " **contradicts**")
-        print(f"| {name} | {source} | {SHOWN[published]} | {lines[0]} | {shown} | {seconds:.1f} |", flush=True)
-    print(f"\nProblems: {len(PROBLEMS)}. The class that is published is found for {exact} of them; contradicted: {wrong}.")
-    sys.exit(wrong > 0)
+        if fine and known.startswith(("more than", "at least order log* N")):
+            weaker.append(name)
+        shown = known.replace("*", "\\*") + ("" if fine else " **contradicts**")
+        print(f"| {name} | {source} | {SHOWN[published]} | {claim} | {by} | {shown} | {known_by} | {seconds:.1f} |", flush=True)
+    found = len(PROBLEMS) - wrong - len(weaker)
+    print(f"\nProblems: {len(PROBLEMS)}. The class that is published is found for {found} of them; contradicted: {wrong}.", end="")
+    print(" Weaker than published:\n\n" + "\n".join(f"- {name}" for name in weaker) if weaker else "")
+    sys.exit(1 if wrong else 0)
 
 
-main()
+def main(words):
+    if len(words) == 2 and words[0] == "--texts":
+        write_texts(words[1])
+    elif 1 <= len(words) <= 2 and not words[0].startswith("-"):
+        write_table(words[0], words[1:])
+    else:
+        sys.exit(__doc__)
+
+
+if __name__ == "__main__":
+    main(sys.argv[1:])

@@ -194,3 +194,29 @@ await checked('answers are kept for all words of a question', async checks => {
     for (const [program, words, input] of asked) await engine.ask(program, words, input);
     checks.equal('and none of them again', sent, asked.length);
 });
+
+await checked('what a program writes is told while it runs', async checks => {
+    const told = [], workers = [];
+    globalThis.Worker = class {
+        constructor() { workers.push(this); }
+        addEventListener() {}
+        postMessage(request) { this.request = request; }
+        terminate() {}
+    };
+    const engine = new Engine({}, '', 2), say = (worker, data) => worker.onmessage({data}), onText = text => told.push(text);
+    const job = engine.start('explore', ['settle'], 'A', {onText}), [worker] = workers;
+    checks.check('the worker is asked to tell', worker.request.isTold === true);
+    say(worker, {part: 'more than 2\n'});
+    say(worker, {part: 'by: re lower 2 0\n'});
+    checks.equal('all that was written so far', told, ['more than 2\n', 'more than 2\nby: re lower 2 0\n']);
+    checks.check('it runs on', !job.isOver);
+    say(worker, {status: 1, text: 'the whole'});
+    checks.equal('the answer is the whole', (await job.answer).text, 'the whole');
+    checks.equal('and is kept', (await engine.ask('explore', ['settle'], 'A', {onText})).text, 'the whole');
+    const other = engine.start('explore', ['settle'], 'B', {onText});
+    say(workers.at(-1), {part: 'not'});
+    other.stop();
+    checks.equal('stopped, nothing is kept', [await other.answer.catch(error => error.message), engine.answers.size], ['stopped', 1]);
+    engine.start('explore', ['settle'], 'C');
+    checks.check('nobody is told who didn\'t ask', workers.at(-1).request.isTold === false);
+});

@@ -7,6 +7,7 @@ import {join} from 'path';
 import {PATIENCE, wait} from './browser.mjs';
 import {checked} from './checks.mjs';
 import {answer, example, natively, pageFile} from './place.mjs';
+import {answerSlowly} from './slow.mjs';
 
 const PORT = 9339, profile = mkdtempSync(join(tmpdir(), 'page-firefox-'));
 const child = spawn('firefox-esr', ['--headless', `--remote-debugging-port=${PORT}`, '--profile', profile, '--no-remote'],
@@ -129,6 +130,22 @@ async function inAndOut(checks, {value, until}) {
             JSON.stringify(`settle: ${settled}`)}))`));
     await value(click('#report'));
     checks.equal('the report', await until(`document.querySelector('#report-box pre')?.textContent`), never);
+    await begun(checks, {value, until});
+}
+
+// What a program writes comes while it runs.
+async function begun(checks, {value, until}) {
+    const line = 'not solvable in any number of rounds with port numbers alone',
+          notes = `document.querySelector('.card.last .remarks').textContent`;
+    await value(`bench.notes.set(bench.view(bench.cards.path().at(-1)), [])`);
+    await answerSlowly({until}, 'settle', [{text: `${line}\nby: re fixed 4 0\nwith`, turns: 10 ** 15}]);
+    await value(`[...document.querySelectorAll('.card.last .actions button')].find(node => node.textContent === 'Settle').click()`);
+    checks.check('still searching', (await until(`${notes}.includes('still searching…') && ${notes}`)).includes(`settle: ${line}`));
+    const stop = `document.querySelector('#jobs button[aria-label^="stop settle"]')`;
+    await until(`Boolean(${stop})`);
+    await value(`${stop}.click()`);
+    checks.check('stopped, it stays',
+        (await until(`${notes}.includes('stopped; what it wrote until then stays.') && ${notes}`)).includes(`settle: ${line}`));
 }
 
 let socket = null;

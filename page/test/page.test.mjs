@@ -6,6 +6,7 @@ import {openBrowser, wait} from './browser.mjs';
 import {checked} from './checks.mjs';
 import {User} from './user.mjs';
 import {askedSessions} from './user/asked.mjs';
+import {begunSessions} from './user/begun.mjs';
 import {besideSessions} from './user/beside.mjs';
 import {boundsSessions} from './user/bounds.mjs';
 import {changesSessions} from './user/changes.mjs';
@@ -52,6 +53,7 @@ const picture = async (name, ...selectors) => {
 
 const sessions = {
     ...askedSessions,
+    ...begunSessions,
     ...besideSessions,
     ...boundsSessions,
     ...changesSessions,

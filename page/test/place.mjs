@@ -25,6 +25,10 @@ export const answer = (words, input) => re(words, input).text;
 // The lines of `explore why` behind that of `check`.
 export const whyOf = text => natively('explore', ['why'], text).text.split('\n').slice(1).join('\n').trim();
 
+// A text of a report with its formulas in words, as the page shows it: $C^{T + 1}$ as C^(T + 1).
+export const withoutFormulas = text =>
+    text.split('$').map((part, i) => i % 2 ? part.replace(/\{/g, '(').replace(/\}/g, ')') : part).join('');
+
 export const example = name => readFileSync(join(examples, name), 'utf8');
 export const namesIn = folder => readdirSync(join(examples, folder)).filter(name => name.endsWith('.txt')).sort();
 // The gallery holds graphs too.

@@ -12,7 +12,7 @@ import {bytesOf, lettersOf} from '../src/texts/letters.js';
 import {inOneLine, problemsIn, tableOf} from '../src/texts/lists.js';
 import {findRelaxation, findRenaming} from '../src/texts/maps.js';
 import {blocksOfReport, partsOfText, roundsOfGraph} from '../src/texts/reports.js';
-import {commandsIn, leavesQuestion, nameLabels, readSettled} from '../src/texts/settled.js';
+import {commandsIn, leavesQuestion, nameLabels, readSettled, wholeLines} from '../src/texts/settled.js';
 import {clauseFault} from '../src/texts/certificates.js';
 import {inWords, modelOf} from '../src/views/claims.js';
 import {nameOfJob} from '../src/engine/job_names.js';
@@ -214,6 +214,9 @@ await about('words of help', () => {
                 'settle, settle N: reads a problem, gives ..\ncycle K M N: reads a chain, or one with a line == given and an input problem, gives ..\n')
         ],
         ['settle', 'settle N', 'cycle', 'cycle N', 'cycle given']);
+    is('one that reads graphs',
+        [...wordsIn('describe, describe latex: reads a problem, or one with a line == graph and a graph, gives a report\n')],
+        ['describe', 'describe graph']);
     is('a word that the program lacks', ['words: not a command\nhelp: ..', 'not found: graphs 3\n'].map(text => isUnknown({text})),
         [true, false]);
 });
@@ -354,6 +357,10 @@ await about('reports', () => {
 });
 
 await about('what settles a problem', () => {
+    is('the whole lines of what was written so far', ['', 'more', 'more than 4\n', 'more than 4\nby: re'].map(wholeLines),
+        ['', '', 'more than 4\n', 'more than 4\n']);
+    is('what is evidence of several parts', ['A\n\nA\n=====\nA\n', 'A\n\nA\n', 'A\n\nA\n== graph\n'].map(certificates.isEvidence),
+        [true, false, false]);
     is('lines', readSettled('more than 4, at most 6 (3 rounds of the graph)\nby: re lower 4 0\nby: re upper 6 1\n'),
         [{line: 'more than 4, at most 6 (3 rounds of the graph)', shownBy: ['re lower 4 0', 're upper 6 1']}]);
     is('further lines, each with what shows it, whatever they are',

@@ -3,7 +3,8 @@
 //   'hint', 'fault' {text};
 //   'answer' {what, line, more, input}: what a command answered;
 //   'text' {what, text, input}: a text to copy;
-//   'settled' {text, what, more, input}: what `settle` printed, with a button for each thing that shows it, and its time;
+//   'settled' {text, what, more, input, isBegun}: what `settle` printed, with a button for each thing that shows it, and its time; `isBegun`
+//       where that is a beginning of what it prints;
 //   'graph' {what, line, text, input}: a graph without a solution;
 //   'found' {what, id, input}: cards that were found while the user was elsewhere.
 import {button, copy, element, faulty, hint, replace} from '../views/dom.js';
@@ -34,6 +35,12 @@ export class Notes {
     // Without those that `isOld(note)` holds of.
     replace(view, isOld) { this.set(view, this.of(view.card).filter(note => !isOld(note))); }
 
+    // A note in the place of the first one that `isOld(note)` holds of, and of them all.
+    put(view, note, isOld) {
+        const list = this.of(view.card), at = list.findIndex(isOld);
+        this.set(view, list.flatMap((other, i) => i === at ? [note] : isOld(other) ? [] : [other]));
+    }
+
     remove(view, note) {
         this.replace(view, other => other === note);
         view.node.focus({preventScroll: true});
@@ -45,10 +52,12 @@ export class Notes {
         this.onChange();
     }
 
+    // Where the focus was in a note, the card has it.
     show(view) {
-        const list = this.of(view.card),
+        const list = this.of(view.card), isHere = view.remarks.contains(document.activeElement),
               all = list.length > 1 && button(`Clear all ${list.length} notes`, () => this.set(view, []), {class: 'link clear'});
         replace(view.remarks, list.map(note => this.node(view, note)), all);
+        if (isHere) view.node.focus({preventScroll: true});
     }
 
     node(view, note) {
@@ -67,7 +76,9 @@ const NODES = {
         button('Copy', event => copy(text, event.currentTarget), {class: 'link'}), element('pre', {tabIndex: 0}, text.trim() || '(none)')],
     settled: (note, view, {settled}) => settled(view, note),
     graph: ({what, line, text}, view,
-        {draw}) => [element('strong', {}, what), ' ', claimNodes(line), ' ', button('Draw the graph', () => draw(text))],
+        {draw}) => [element('strong', {}, what), ' ', claimNodes(line), ' ', button('Draw the graph', () => draw(text)), ' ',
+        button('Copy', event => copy(text, event.currentTarget),
+            {class: 'link', title: 'the problem and the graph: what explore solve judges'})],
     found: ({what, id}, view, {cards,
         go}) => [element('strong', {}, what), ' found. ', cards.get(id) ? button('Show', () => go(id)) : hint('The cards are gone.')],
 };

@@ -1,44 +1,57 @@
 // What is known of a problem: the words `settle`, `cover` and `solve` of `explore`, and the commands that show it.
 import {claimNodes} from '../views/claims.js';
 import {button, code, element, hint, seconds} from '../views/dom.js';
+import {openEvidenceDialog} from '../dialogs/evidence_dialog.js';
 import {openGraphDialog} from '../dialogs/graph_view.js';
 import {isGraphText} from '../texts/graphs.js';
 import {Stopped} from '../engine/engine.js';
 import {givenInput, inputCommand, raisedInput} from '../texts/inputs.js';
-import {commandsIn, leavesQuestion, nameLabels, readSettled} from '../texts/settled.js';
+import {commandsIn, leavesQuestion, nameLabels, readSettled, wholeLines} from '../texts/settled.js';
 import {runTask} from '../engine/tasks.js';
 import {isUnknown} from '../engine/words.js';
 
 // The most that `settle` takes.
 const MOST_SETTLE = 64;
 
+// Notes of the same command, given the same.
+const isSame = (note, {what, input}) => note.kind === 'settled' && (note.what || 'settle') === what && (note.input || '') === (input || '');
+
 export class Settling {
     // `searches` adds the cards of what is found, `underNames(card, view, names)` makes a card under other names, and `openText(text, title)` opens a
-    // chain of its own. `running` are the problems of which more is asked at the moment.
+    // chain of its own. `running` says what is asked of problems at the moment.
     constructor({engine, facts, cards, given, notes, tries, words, searches, underNames, openText}) {
-        Object.assign(this, {engine, facts, cards, given, notes, tries, words, searches, underNames, openText, running: new Set()});
+        Object.assign(this, {engine, facts, cards, given, notes, tries, words, searches, underNames, openText, running: new Map()});
     }
 
     // What a word reads behind the problem of a card, as given_view.js has it, where the program reads it, else null.
     inputOf(card, word = 'settle') { return this.words.has(`${word} given`) ? this.given.asked(this.cards.path(card.id), card) : null; }
 
-    // `effort` bounds what is tried: with twice as much the answer may say more.
+    // `effort` bounds what is tried: with twice as much the answer may say more. What is written meanwhile stands there at once.
     async settle(card, view, effort = 1, input = this.inputOf(card)) {
         const words = effort > 1 ? ['settle', String(effort)] : ['settle'], behind = input ? ` given ${input.name}` : '',
               what = `${words.join(' ')}${behind}`, title = `${words.join(' ')} problem ${view.number.textContent}${behind}`,
-              known = this.answers(view, input?.problem)[0];
-        const isHere = view.remarks.contains(document.activeElement), runs = this.keyOf(view, input?.problem);
-        this.running.add(runs);
+              known = this.answers(view, input?.problem)[0], note = {kind: 'settled', what, ...(input && {input: input.problem})};
+        const runs = this.keyOf(view, input?.problem);
+        this.running.set(runs, what);
         this.notes.show(view);
-        if (isHere) view.node.focus({preventScroll: true});
         let time = 0;
         const answer = await runTask(this.engine, title, async task => {
-            task.state = known ? `so far: ${readSettled(known.text)[0].line}` : '';
-            const said = await task.ask('explore', words, input ? givenInput(card.problem, input.problem) : card.problem);
+            const soFar = text => {
+                task.state = `so far: ${readSettled(text)[0].line}`;
+            };
+            const onText = text => {
+                const lines = wholeLines(text);
+                if (!lines) return;
+                soFar(lines);
+                this.begin(view, {...note, text: lines, isBegun: true});
+            };
+            if (known) soFar(known.text);
+            const said = await task.ask('explore', words, input ? givenInput(card.problem, input.problem) : card.problem, {onText});
             time = performance.now() - task.started;
             return said;
         }).catch(error => {
-            view.noteHint(`${title}: ${error instanceof Stopped ? 'stopped.' : error.message}`);
+            this.running.delete(runs);
+            this.endEarly(view, note, title, error);
             return null;
         });
         this.running.delete(runs);
@@ -48,34 +61,84 @@ export class Settling {
             else if (answer) view.complain(answer.text.trim());
             return;
         }
-        for (const {line} of readSettled(answer.text))
-            this.tries.add(view, line.startsWith('with ') ? `${what}, with identifiers` : what, line, {time, input: input?.problem});
-        this.notes.replace(
-            view, note => note.kind === 'settled' && (note.what || 'settle') === what && (note.input || '') === (input?.problem || ''));
-        view.note({kind: 'settled', what, text: answer.text, more: seconds(time), ...(input && {input: input.problem})});
+        this.try(view, note, answer.text, time);
+        const begun = this.notes.of(view.card).find(other => isSame(other, note) && other.isBegun),
+              whole = {...note, text: answer.text, more: seconds(time)};
+        if (begun) {
+            this.notes.put(view, whole, other => isSame(other, note));
+            return;
+        }
+        this.notes.replace(view, other => isSame(other, note));
+        view.note(whole);
+    }
+
+    // Lines that were written while the search goes on; they say no more than a whole answer that stands there.
+    begin(view, note) {
+        const before = this.notes.of(view.card).find(other => isSame(other, note));
+        if (!before) view.note(note);
+        else if (before.isBegun) this.notes.put(view, note, other => isSame(other, note));
+    }
+
+    // A run that was stopped, or failed: what it wrote until then stays.
+    endEarly(view, note, title, error) {
+        const begun = this.notes.of(view.card).find(other => isSame(other, note) && other.isBegun), isStopped = error instanceof Stopped;
+        if (begun) this.try(view, note, begun.text, null);
+        view.noteHint(`${title}: ${isStopped ? `stopped${begun ? '; what it wrote until then stays.' : '.'}` : error.message}`);
+    }
+
+    // The claim, and that on identifiers, among what was tried on the problem.
+    try(view, {what, input}, text, time) {
+        const [claim, ...others] = readSettled(text), identifiers = others.find(({line}) => line.startsWith('with '));
+        this.tries.add(view, what, claim.line, {time, input});
+        if (identifiers) this.tries.add(view, `${what}, with identifiers`, identifiers.line, {time, input});
     }
 
     // Of which problem, and given what, more is asked.
     keyOf(view, input = '') { return `${view.card.problem}\n${input}`; }
 
-    // What was answered on a card given an input, or without one, that with the most effort first.
+    // What was answered as a whole on a card given an input, or without one, that with the most effort first.
     answers(view, input = '') {
         const effortOf = ({what = 'settle'}) => Number(/^settle (\d+)/.exec(what)?.[1] || 1);
         return this.notes.of(view.card)
-            .filter(note => note.kind === 'settled' && (note.input || '') === input)
+            .filter(note => note.kind === 'settled' && (note.input || '') === input && !note.isBegun)
             .map(note => ({...note, effort: effortOf(note)}))
             .sort((a, b) => b.effort - a.effort);
     }
 
     // What `settle` printed: its claim, with what shows it, and below it each further line, as that on unique identifiers.
-    lines(view, {text, what = 'settle', more, input}) {
+    lines(view, {text, what = 'settle', more, input, isBegun}) {
         const asked = input ? {name: what.slice(what.indexOf(' given ') + 7), problem: input} : null;
         return [
-            ...readSettled(text).map(
-                ({line, shownBy}, i) => element('div.settled', {}, i ? null : element('strong', {}, `${what}: `), claimNodes(line), ' ',
-                    this.buttons(view.card, view, shownBy, {input: asked}), i ? null : hint(more))),
-            this.moreEffort(view, what, asked)
+            ...readSettled(text).map(({line, shownBy}, i) => element('div.settled', {}, i ? null : element('strong', {}, `${what}: `),
+                                         line.startsWith('note: ') ? hint(line) : claimNodes(line), ' ',
+                                         this.buttons(view.card, view, shownBy, {input: asked}), i ? null : hint(more))),
+            isBegun
+                ? hint(this.running.get(this.keyOf(view, input)) === what ? 'still searching…' : 'the search ended before it wrote more')
+                : [this.evidenceButton(view, what, asked), this.moreEffort(view, what, asked)]
         ];
+    }
+
+    // Where the program has the words: one text that shows all of it, which anybody can judge.
+    evidenceButton(view, what, input) {
+        const {words} = this, [, number] = /^settle(?: (\d+))?$/.exec(what) || [];
+        if (input || !words.has('evidence') || !words.has('judge') || number && !words.has('evidence N')) return null;
+        const asked = ['evidence', ...(number ? [number] : [])];
+        return button('Evidence', () => this.evidence(view, asked),
+            {title: `explore ${asked.join(' ')}: one text with all that shows it, judged by explore judge`, class: 'evidence'});
+    }
+
+    // The text is shown with what the program says of it.
+    async evidence(view, words) {
+        const title = `${words.join(' ')} problem ${view.number.textContent}`;
+        const found = await runTask(this.engine, title, async task => {
+            const {status, text} = await task.ask('explore', words, view.card.problem);
+            if (status > 1) throw new Error(text.trim());
+            return {text, judged: await task.ask('explore', ['judge'], text)};
+        }).catch(error => {
+            view.noteHint(`${title}: ${error instanceof Stopped ? 'stopped.' : error.message}`);
+            return null;
+        });
+        if (found) openEvidenceDialog(found.text, found.judged);
     }
 
     // Behind the answer with the most effort, while it leaves a question: a button that asks with twice as much.
@@ -173,5 +236,8 @@ export class Settling {
     }
 
     solve(text) { return this.engine.ask('explore', ['solve'], text, {title: 'solve'}); }
-    draw(text) { openGraphDialog(text, now => this.solve(now)); }
+    draw(text) {
+        const describe = (words, now) => this.engine.ask('explore', words, now, {title: 'describe'});
+        openGraphDialog(text, now => this.solve(now), this.words.has('describe graph') ? describe : null);
+    }
 }

@@ -1,5 +1,5 @@
 // Settles the problems of a list, a few at once, and keeps what came out until another list is asked.
-import {readSettled} from '../texts/settled.js';
+import {readSettled, wholeLines} from '../texts/settled.js';
 import {runTask} from '../engine/tasks.js';
 import {Stopped} from '../engine/engine.js';
 
@@ -45,10 +45,15 @@ export class Survey {
 
     stop() { this.task?.stop(); }
 
-    // What the program says of one problem: the fault of its text, or the claims with what shows them.
+    // What the program says of one problem: the fault of its text, or the claims with what shows them; `begun` are those that it writes while it
+    // searches on.
     async settle(task, row, words) {
+        const onText = text => {
+            row.begun = readSettled(wholeLines(text)).filter(({line}) => line);
+            this.onChange(row);
+        };
         const started = performance.now(), ask = async (program, given, text) => {
-            const answer = await task.ask(program, given, text);
+            const answer = await task.ask(program, given, text, program === 'explore' ? {onText} : {});
             if (answer.status > 1 || program === 're' && answer.status) throw new Error(answer.text.trim().split('\n', 1)[0]);
             return answer.text;
         };

@@ -1,6 +1,6 @@
 // The certificate of the chain: the text that was judged, with what is given where something is, its line, and the command that judges it.
 import {claimNodes, scopeOf} from '../views/claims.js';
-import {button, code, copy, cut, download, element, faulty, hint, plural, replace} from '../views/dom.js';
+import {button, code, copy, cut, download, element, faulty, hint, plural, replace, shellLine} from '../views/dom.js';
 import {say} from '../views/messages.js';
 import {identifiersIn, partsOfText} from '../texts/reports.js';
 import {openDialog, openTextDialog} from './dialogs.js';
@@ -63,13 +63,9 @@ class CertificateDialog {
 
     // A line, with the command that prints it of the text.
     lineNode({line, command, file}) {
-        const isGood = line.startsWith('accepted'), shell = `${command} < ${file}`;
+        const isGood = line.startsWith('accepted'), without = this.judgedGiven && command === 're check' ? 'without what is given: ' : '';
         return element('p', {}, claimNodes(line, isGood ? 'span.good.line' : 'span.faulty.line', scopeOf(line)),
-            element('div', {},
-                hint(`${this.judgedGiven && command === 're check' ? 'without what is given: ' : ''}here and on the command line: `),
-                code(shell), ' ',
-                button('Copy the command', event => copy(shell, event.currentTarget),
-                    {class: 'link', 'aria-label': `copy the command ${shell}`})));
+            shellLine(`${without}here and on the command line: `, `${command} < ${file}`));
     }
 
     // What the report says of unique identifiers.

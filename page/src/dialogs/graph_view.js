@@ -2,6 +2,7 @@
 import {faultLine} from '../texts/certificates.js';
 import {claimNodes, scopeOf} from '../views/claims.js';
 import {button, code, copy, download, element, faulty, hint, replace} from '../views/dom.js';
+import {say} from '../views/messages.js';
 import {openWideDialog} from './dialogs.js';
 import {graphInput, graphPlaces, readGraph, readSolution} from '../texts/graphs.js';
 import {NumberedArea} from './numbered_area.js';
@@ -11,12 +12,14 @@ import {inRem, keepReadable, svg} from '../views/pictures.js';
 
 const MARGIN = 30;
 
-// `text` is what `solve` reads; `ask(text)` answers what it prints.
-export function openGraphDialog(text, ask) {
-    const {problem, input, lines, given} = readGraph(text), nodes = areaOf('graph: one line for each passive node', lines),
+// `text` is what `solve` reads; `ask(text)` answers what it prints, and `describe(words, text)` what a report on it prints, where there is one.
+export function openGraphDialog(text, ask, describe = null) {
+    // What was said is no word on a graph that was changed since.
+    const changed = () => replace(line, hint('changed since: Solve asks again'));
+    const {problem, input, lines, given} = readGraph(text), nodes = areaOf('graph: one line for each passive node', lines, changed),
                                   areas = input === null
         ? [nodes]
-        : [nodes, areaOf('what is given: one line for each active node', given.map(row => row.join(' ')))];
+        : [nodes, areaOf('what is given: one line for each active node', given.map(row => row.join(' ')), changed)];
     const rowsOf = area => filledRows(area.value), textsOf = area => rowsOf(area).map(row => row.text);
     const now = () => graphInput(problem, textsOf(nodes), input, areas[1] ? textsOf(areas[1]) : []);
     const line = element('p', {role: 'status', 'aria-label': 'what solve says'}), box = element('div.picture', {});
@@ -48,15 +51,28 @@ export function openGraphDialog(text, ask) {
                 areas[1].node),
         element('footer', {}, button('Solve', draw, {class: 'primary'}),
             button('Copy problem and graph', event => copy(now(), event.currentTarget)),
-            button('Download', () => download('graph.txt', now())),
+            button('Download', () => download('graph.txt', now())), describe && reportButtons(words => describe(words, now())),
             button(
                 'Copy the command', event => copy('explore solve < graph.txt', event.currentTarget), {title: 'explore solve < graph.txt'}),
             pictureButtons('the graph', () => 'graph', () => box.querySelector('svg'))));
     draw();
 }
 
-function areaOf(label, lines) {
-    const area = new NumberedArea({label, fewest: Math.min(10, lines.length + 1), most: 10});
+// Copies of the report on a graph; what the program says where it writes none.
+function reportButtons(describe) {
+    const copyReport = (text, words, title) => button(text, async event => {
+        const from = event.currentTarget, {status, text: said} = await describe(words).catch(error => ({text: error.message}));
+        if (status === 0) copy(said, from);
+        else say(`explore ${words.join(' ')}: ${said.trim().split('\n', 1)[0]}`, true);
+    }, {title});
+    return [
+        copyReport('Copy its report', ['describe'], 'explore describe, of the problem and the graph'),
+        copyReport('Copy its report for LaTeX', ['describe', 'latex'], 'explore describe latex, of the problem and the graph')
+    ];
+}
+
+function areaOf(label, lines, onInput) {
+    const area = new NumberedArea({label, fewest: Math.min(10, lines.length + 1), most: 10, onInput});
     area.value = lines.join('\n');
     return area;
 }

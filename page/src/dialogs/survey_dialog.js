@@ -76,9 +76,10 @@ class SurveyDialog {
     changed(row) {
         const {survey, survey: {rows, count, isRunning}} = this, isStopped = !isRunning && count < rows.length;
         if (row) this.fill(row);
+        else if (isStopped) rows.filter(({begun}) => begun).forEach(other => this.fill(other));
         Object.assign(this.bar, {max: Math.max(1, rows.length), value: count});
         this.bar.hidden = !rows.length;
-        this.out.hidden = !count;
+        this.out.hidden = !count && !rows.some(({begun}) => begun);
         // The focus stays in the window.
         if (!isRunning && document.activeElement === this.end) (count ? this.out.firstChild : this.go).focus();
         this.end.hidden = !isRunning;
@@ -86,11 +87,15 @@ class SurveyDialog {
     }
 
     fill(row) {
-        const {at, name, text, claims, fault, time, problem} = row, line = inOneLine(text), {bench} = this;
-        const said = claims ? claims.map(({line: claim, shownBy}) => element(
-                                             'div', {}, claimNodes(claim), shownBy.length ? hint(` · by ${shownBy.join('; ')}`) : null))
-            : fault ? faulty(fault)
-                    : hint('…');
+        const {at, name, text, claims, begun = [], fault, time, problem} = row, line = inOneLine(text), {bench, survey} = this;
+        const claimNode = ({line: claim, shownBy}) =>
+            element('div', {}, claimNodes(claim), shownBy.length ? hint(` · by ${shownBy.join('; ')}`) : null);
+        const state = !begun.length ? '…'
+            : survey.isRunning      ? 'still searching…'
+                                    : 'stopped here',
+              said = claims ? claims.map(claimNode)
+            : fault         ? faulty(fault)
+                            : [begun.map(claimNode), hint(state)];
         const open = () => {
             this.dialog.close();
             bench.sessions.openText(text, name || undefined);

@@ -25,12 +25,13 @@ export class Engine {
 
     // A run of a program: a job {title, started, isOver, answer, stop()}, its answer a promise of {status, text}.
     // Quiet jobs are those that the page starts by itself; `limit` stops a job after so many milliseconds;
-    // `isPart` says that a task shows it.
-    start(program, words, input = '', {title = words.join(' '), quiet = false, limit = 0, isPart = false} = {}) {
+    // `isPart` says that a task shows it; `onText(text)` is told what was written so far, each time that more is while it runs.
+    start(program, words, input = '', {title = words.join(' '), quiet = false, limit = 0, isPart = false, onText = null} = {}) {
         const key = input.length > LARGEST_KEPT ? null : `${program} ${words.join(' ')}\n${input}`;
         const known = key && this.answers.get(key);
         if (known) return {title, started: 0, isOver: true, answer: Promise.resolve(known), stop() {}};
-        return this.enqueue({request: {program, words, input}, key, title, quiet, limit, isPart});
+        return this.enqueue(
+            {request: {program, words, input, isTold: Boolean(onText)}, key, title, quiet, limit, isPart, onText, written: ''});
     }
 
     ask(program, words, input, options) { return this.start(program, words, input, options).answer; }
@@ -89,11 +90,16 @@ export class Engine {
         return worker;
     }
 
-    take(job, {holds, failure, value, ...answer}) {
+    take(job, {holds, part, failure, value, ...answer}) {
         if (holds) return;
+        if (part !== undefined) {
+            job.written += part;
+            job.onText(job.written);
+            return;
+        }
         if (failure)
             this.end(job, () => job.reject(new Error(job.request.program ? `the program broke off (${failure})` : failure)), false);
-        // Nothing is written where memory ends.
+        // Where memory ends, nothing is written, or a beginning.
         else if (answer.status === NO_MEMORY) this.end(job, () => job.reject(new Error('exit code 7: there is not enough memory')));
         else if (job.request.work) this.end(job, () => job.resolve(value));
         else

@@ -22,8 +22,9 @@ export function runOver({read, write}, module, name, words) {
     return exports.__original_main();
 }
 
-// {status, text}: the exit code, and what was written, of `name words..` with the text `input` on standard input.
-export function runProgram(module, name, words, input) {
+// {status, text}: the exit code, and what was written, of `name words..` with the text `input` on standard input. `onPart(part)` is told of each
+// part as soon as it is written.
+export function runProgram(module, name, words, input, onPart = () => {}) {
     const encoder = new TextEncoder(), taken = encoder.encode(input), given = [], decoder = new TextDecoder();
     let at = 0;
     const read = bytes => {
@@ -33,9 +34,11 @@ export function runProgram(module, name, words, input) {
         return part.length;
     };
     const write = bytes => {
-        given.push(bytes.slice());
+        const part = decoder.decode(bytes, {stream: true});
+        given.push(part);
+        onPart(part);
         return bytes.length;
     };
     const status = runOver({read, write}, module, name, words.map(word => encoder.encode(word)));
-    return {status, text: given.map(part => decoder.decode(part, {stream: true})).join('') + decoder.decode()};
+    return {status, text: given.join('') + decoder.decode()};
 }

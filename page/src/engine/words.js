@@ -1,7 +1,7 @@
 // The words of the program `explore`, as its own help tells them: what it lacks isn't offered.
 
 // A line of help begins with the forms of its word, as `settle, settle N: reads a problem, ..`. Beside the word stand `settle N`, where a
-// form has a number behind it, and `longest given`, where it reads an input problem too.
+// form has a number behind it, and `longest given` and `describe graph`, where it reads an input problem, or a graph, too.
 export function wordsIn(help) {
     const words = new Set();
     for (const line of help.split('\n')) {
@@ -9,7 +9,8 @@ export function wordsIn(help) {
         if (!word) continue;
         words.add(word);
         if (/ [A-Z]/.test(forms)) words.add(`${word} N`);
-        if (says.includes('== given')) words.add(`${word} given`);
+        for (const part of ['given', 'graph'])
+            if (says.includes(`== ${part}`)) words.add(`${word} ${part}`);
     }
     return words;
 }

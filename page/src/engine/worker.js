@@ -47,9 +47,9 @@ function hold(name) {
     });
 }
 
-async function answer({program, words, input, work, args}) {
+async function answer({program, words, input, isTold, work, args}) {
     if (work) return {value: await WORK[work](...args)};
-    return runProgram(modules.get(program), program, words, input);
+    return runProgram(modules.get(program), program, words, input, isTold ? part => self.postMessage({part}) : undefined);
 }
 
 self.onmessage = async ({data}) => {

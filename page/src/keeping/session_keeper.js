@@ -1,8 +1,9 @@
 // Texts that come in (problems, certificates, graphs, sessions), and the session that goes out: in the address, or as a file.
 import {$, button, download, element, faulty, plural, replace} from '../views/dom.js';
 import {askDialog} from '../dialogs/dialogs.js';
+import {openEvidenceDialog} from '../dialogs/evidence_dialog.js';
 import {say} from '../views/messages.js';
-import {faultLine} from '../texts/certificates.js';
+import {faultLine, isEvidence} from '../texts/certificates.js';
 import {titleOf} from '../cards/chains.js';
 import {isGraphText, readGraph} from '../texts/graphs.js';
 import {inputOfKind, isOfItsKind} from '../engine/input_kinds.js';
@@ -35,6 +36,7 @@ export class Sessions {
             const shared = sharedIn(text);
             if (shared) await this.openSession(await this.unpacked(shared));
             else if (isSession(text)) await this.openSession(text);
+            else if (isEvidence(text) && this.workbench.words.has('judge')) return await this.openEvidence(text);
             else if (isGraphText(text) && this.workbench.words.has('solve')) return await this.openGraph(text, title);
             else return await this.openWithInput(text, title);
             return null;
@@ -86,6 +88,14 @@ export class Sessions {
     }
 
     // A problem and a graph, as `explore cover` prints them: the problem becomes a card, with what it is given, and the graph is drawn.
+    // Evidence adds no card: it is shown with what the program says of it, once the window where it was opened is closed.
+    async openEvidence(text) {
+        const judged = await this.engine.ask('explore', ['judge'], text);
+        if (judged.status > 1) return {fault: judged.text.trim(), line: faultLine(judged.text)};
+        setTimeout(() => openEvidenceDialog(text, judged));
+        return null;
+    }
+
     async openGraph(text, title) {
         const {engine, workbench} = this, {status, text: answer} = await engine.ask('explore', ['solve'], text);
         if (status > 1) return {fault: answer.trim(), line: faultLine(answer)};

@@ -38,7 +38,8 @@ const COLUMNS = ['number', 'problem', 'answer', 'shown by', 'with identifiers', 
 export function tableOf(rows) {
     const cell = text => String(text ?? '').replace(/\s+/g, ' ').trim(), commands = claim => claim?.shownBy.join('; ');
     return [
-        COLUMNS, ...rows.map(({name, text, claims: [claim, ...others] = [], fault, time}, i) => {
+        COLUMNS, ...rows.map(({name, text, begun = [], claims = begun, fault, time}, i) => {
+            const [claim, ...others] = claims;
             const behind = others.find(({line}) => line.startsWith('with identifiers: '));
             return [
                 name || i + 1, inOneLine(text), claim?.line || fault, commands(claim), behind?.line.slice(18), commands(behind),

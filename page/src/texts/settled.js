@@ -2,6 +2,9 @@
 // claims, as that on algorithms with unique identifiers, each with its own.
 import {isLabel} from './texts.js';
 
+// What was written so far, without a line that isn't ended.
+export const wholeLines = text => text.slice(0, text.lastIndexOf('\n') + 1);
+
 // [{line, shownBy}], the claim first.
 export function readSettled(text) {
     const [line, ...rest] = text.trim().split('\n'), parts = [{line, shownBy: []}];

@@ -31,6 +31,10 @@ export const hint = (...children) => element('span.hint', {}, ...children);
 export const code = (...children) => element('span.code', {}, ...children);
 export const faulty = (...children) => element('span.faulty', {}, ...children);
 
+// A command as a shell takes it, to copy.
+export const shellLine = (said, command) => element('div', {}, hint(said), code(command), ' ',
+    button('Copy the command', event => copy(command, event.currentTarget), {class: 'link', 'aria-label': `copy the command ${command}`}));
+
 export function replace(node, ...children) {
     node.replaceChildren(...present(children));
     return node;

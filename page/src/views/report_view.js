@@ -2,6 +2,7 @@
 import {lineText} from './claims.js';
 import {$, button, code, copy, download, element, faulty, hint, intoView, replace} from './dom.js';
 import {blocksOfReport, partsOfText} from '../texts/reports.js';
+import {givenInput} from '../texts/inputs.js';
 import {fileNameOf} from '../texts/texts.js';
 import {titleOf} from '../cards/chains.js';
 
@@ -10,7 +11,7 @@ const MOST_BLOCKS = 1500;
 
 export class ReportView {
     constructor(workbench) {
-        Object.assign(this, {workbench, isOpen: false, text: '', latex: ''});
+        Object.assign(this, {workbench, isOpen: false, text: '', latex: '', isWithInput: false});
         this.content = element('div.paper', {tabIndex: 0, role: 'group', 'aria-label': 'the report'});
         const give = run => event => {
             if (this.text) run(event.currentTarget);
@@ -50,30 +51,39 @@ export class ReportView {
         if (!path?.length && this.isOpen) this.open(false);
         if (!this.isOpen || !path?.length) return;
         const turn = this.turn = {}, {claim, engine} = this.workbench;
-        this.text = this.latex = '';
+        Object.assign(this, {text: '', latex: '', isWithInput: false});
         this.latexButton.disabled = true;
         replace(this.content, hint(verdict ? 'asking…' : 'The chain is not judged yet.'));
         if (!verdict) return;
-        const ask = words => claim.forThis(engine.start('explore', words, verdict.certificate || path[0].problem, {title: 'describe'}))
-                                 .catch(error => ({status: 1, text: error.message}));
-        const answer = await ask(['describe']);
+        const ask = (words, text) =>
+            claim.forThis(engine.start('explore', words, text, {title: 'describe'})).catch(error => ({status: 1, text: error.message}));
+        // Of the bound with its input, where the program reads that and doesn't refuse it; else of the bound alone.
+        const alone = verdict.certificate || path[0].problem, withInput = this.textWithInput(path, verdict);
+        let text = withInput || alone, answer = await ask(['describe'], text);
+        if (withInput && answer.status !== 0 && turn === this.turn) answer = await ask(['describe'], text = alone);
         if (turn !== this.turn) return;
         if (answer.status !== 0) {
             replace(this.content, faulty(answer.text.trim()));
             return;
         }
-        this.text = answer.text;
+        Object.assign(this, {text: answer.text, isWithInput: text === withInput});
         this.draw();
-        const latex = await ask(['describe', 'latex']);
+        const latex = await ask(['describe', 'latex'], text);
         if (turn !== this.turn || latex.status !== 0) return;
         this.latex = latex.text;
         this.latexButton.disabled = false;
     }
 
-    // What is given, and the line of `explore given`, as the last part of the report.
+    // The bound with what is given behind it, where something is, and the program reports on that.
+    textWithInput(path, {certificate}) {
+        const {given, words} = this.workbench, input = given.of(path);
+        return certificate && input && words.has('describe given') ? givenInput(certificate, input.problem) : null;
+    }
+
+    // What is given, and the line of `explore given`, as the last part of a report that says nothing of it.
     get givenPart() {
         const {given} = this.workbench, input = this.path && given.of(this.path);
-        if (!input) return '';
+        if (!input || this.isWithInput) return '';
         const code = text => text.trim().split('\n').map(row => `    ${row}`).join('\n');
         const said = given.said ? `\n\nWhat \`explore given\` says of the bound with that input:\n\n${code(given.said.line)}` : '';
         return `\n## What is given\n\nThe nodes know a solution of this problem (${given.nameOf(input)}):\n\n${code(input.problem)}${
@@ -83,7 +93,7 @@ export class ReportView {
     // The same for a paper.
     get givenLatex() {
         const {given} = this.workbench, input = this.path && given.of(this.path);
-        if (!input) return '';
+        if (!input || this.isWithInput) return '';
         const code = text => `\\begin{verbatim}\n${text.trim()}\n\\end{verbatim}\n`;
         const said = given.said ? `\nWhat \\texttt{explore given} says of the bound with that input:\n\n${code(given.said.line)}` : '';
         return `\n\\subsection*{What is given}\n\nThe nodes know a solution of this problem (${given.nameOf(input)}):\n\n${

@@ -1,5 +1,5 @@
 // What stands beside a verdict, what runs, and what is seen in small windows.
-import {answer, example, natively} from '../place.mjs';
+import {answer, example, natively, withoutFormulas} from '../place.mjs';
 import {explored, hold, isHeld, letGo, teach} from '../teaching.mjs';
 import {cardsAre, drawn, MIS} from '../user.mjs';
 import {wait} from '../browser.mjs';
@@ -35,7 +35,7 @@ export const besideSessions = {
         checks.check('in the window of the certificate', (await page.until(textOf('dialog'))).includes(SCOPE));
         if (explored.has('describe')) {
             const report = natively('explore', ['describe'], await user.certificate()).text,
-                  [sentence] = /^With unique identifiers .*?(?= \()/m.exec(report);
+                  sentence = withoutFormulas(/^With unique identifiers .*?(?= \()/m.exec(report)[0]);
             checks.check(
                 `on identifiers, as describe says it: ${sentence}`, await page.until(`${textOf('dialog')}.includes(${quoted(sentence)})`));
         }

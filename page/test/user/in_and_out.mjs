@@ -1,6 +1,6 @@
 // Texts that come in from the clipboard and by dropping, and the report that goes out, on the page and on paper.
-import {answer, example, natively} from '../place.mjs';
-import {explored, hold, isHeld, letGo} from '../teaching.mjs';
+import {answer, example, natively, withoutFormulas} from '../place.mjs';
+import {explored, hold, isHeld, letGo, teach} from '../teaching.mjs';
 import {cardsAre, drawn, MIS} from '../user.mjs';
 
 const fixed = example('first/sinkless-fixed.txt'), quoted = value => JSON.stringify(value);
@@ -75,7 +75,8 @@ export const inAndOutSessions = {
         checks.equal('the LaTeX is that of describe latex', await user.copied(),
             natively('explore', ['describe', 'latex'], await user.certificate()).text);
         const words = text => text.replace(/[#`*\s-]/g, '');
-        checks.equal('all of it is shown', words(await page.value(`document.querySelector('.paper').textContent`)), words(report));
+        checks.equal(
+            'all of it is shown', words(await page.value(`document.querySelector('.paper').textContent`)), words(withoutFormulas(report)));
         checks.check('cards and report stand side by side',
             await page.value(
                 `document.querySelector('.card.last').getBoundingClientRect().right <= document.querySelector('#report-box').getBoundingClientRect().left`));
@@ -87,6 +88,8 @@ export const inAndOutSessions = {
 
     async 'what is given, in the report and on paper'(user, page, checks) {
         if (!explored.has('given')) return;
+        // Of a program that reports on the bound alone.
+        await page.value(`bench.words.delete('describe given')`);
         await user.openProblem(...MIS);
         await user.step(2);
         await page.choose('#given-kind', 'a colouring');
@@ -121,6 +124,45 @@ export const inAndOutSessions = {
         checks.check(`a late line: ${late}`, (await page.value(shown)).includes(late));
         await page.choose('#given-kind', 'nothing');
         await page.until(`!document.querySelector('.paper').textContent.includes('What is given')`);
+    },
+
+    async 'a report that has what is given'(user, page, checks) {
+        if (!explored.has('given')) return;
+        const report = '# Report on a bound\n\n    accepted: given that input, not solvable in 1 or fewer rounds\n';
+        await teach(page, {describe: [0, report], 'describe latex': [0, 'LaTeX\n']}, ['describe given']);
+        await user.openProblem(...MIS);
+        await user.step(2);
+        await page.choose('#given-kind', 'a colouring');
+        await page.until(`document.querySelector('#given-line .line')`);
+        await user.watchCopies();
+        await page.click('#report');
+        await page.until(`document.querySelector('.paper h3')`);
+        const whole = await page.value('bench.given.said.text');
+        checks.equal('what was sent: the bound, and what is given',
+            await page.value(`sent.findLast(([words]) => words.startsWith('describe'))[1]`), whole);
+        checks.check(
+            'which is what was judged', whole.includes('== given') && natively('explore', ['given'], whole).text.startsWith('accepted'));
+        await page.click('#report-box button', 'Copy Markdown');
+        checks.equal('nothing is added', await user.copied(), report);
+        await page.click('#report-box button', 'Copy LaTeX');
+        checks.equal('nor here', await user.copied(), 'LaTeX\n');
+        await page.click('#report-box .close');
+        // Where the program refuses it, the report is of the bound alone, and what is given stands behind.
+        await page.go();
+        await page.value(`bench.words.add('describe given')`);
+        const refuse =
+            `(() => { const start = engine.start.bind(engine); engine.start = (program, words, input, options) => words[0] === 'describe' && input.includes('== given') ?
+            {title: 'describe', started: 0, isOver: true, stop() {}, answer: Promise.resolve({status: 1, text: 'refused: given that input, clause END'})} : start(program, words, input, options); })()`;
+        await page.value(refuse);
+        await user.openProblem(...MIS);
+        await user.step(2);
+        await page.choose('#given-kind', 'the two sides');
+        await page.until(`document.querySelector('#given-line .line')?.textContent.startsWith('refused')`);
+        await page.click('#report');
+        await page.until(`document.querySelector('.paper')?.textContent.includes('What is given')`);
+        checks.check(
+            'the report of the bound', (await page.value(`document.querySelector('.paper').textContent`)).includes(await user.verdict()));
+        await page.click('#report-box .close');
     },
 
     async 'the chain on paper'(user, page, checks) {

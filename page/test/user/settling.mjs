@@ -28,6 +28,51 @@ export const settlingSessions = {
         await user.says('accepted: solvable in 1 rounds');
     },
 
+    async 'a report on a graph'(user, page, checks) {
+        const
+            text = `${answer(['read'], MIS.join('\n\n'))}== graph\n${MIS_GRAPH}\n`,
+            reports =
+                `[...document.querySelectorAll('dialog footer button')].map(button => button.textContent).filter(text => text.includes('report'))`;
+        await teach(page, {solve: [1, `${NO}\n`], describe: [0, '# Report on a graph\n'], 'describe latex': [1, 'yes\n']});
+        await page.value(`bench.words.delete('describe graph')`);
+        await user.watchCopies();
+        await page.value(`bench.settling.draw(${quoted(text)})`);
+        await page.until(`document.querySelector('dialog svg.graph')`);
+        checks.equal('none where the program has no such report', await page.value(reports), []);
+        await page.click('dialog button.close');
+        await page.value(`bench.words.add('describe graph'), bench.settling.draw(${quoted(text)})`);
+        await page.until(`document.querySelector('dialog svg.graph')`);
+        await page.click('dialog footer button', 'Copy its report');
+        checks.equal('its report', await user.copied(), '# Report on a graph\n');
+        checks.equal('of the problem and the graph', await page.value(`sent.find(([words]) => words === 'describe')[1]`), text);
+        await page.click('dialog footer button', 'Copy its report for LaTeX');
+        checks.equal('what the program says',
+            await page.until(
+                `document.querySelector('#message').textContent.includes('latex') && document.querySelector('#message').textContent`),
+            'explore describe latex: yes');
+    },
+
+    async 'labels that fit no tree, and no solution'(user, page, checks) {
+        if (!explored.has('settle')) return;
+        const tried =
+            `[...document.querySelectorAll('.card.last .tried tr')].map(row => [row.cells[0].textContent, row.cells[1].textContent.trim()])`;
+        await user.openProblem('A^3\nB^3', 'A A\nB C');
+        await user.act('Settle');
+        const said = natively('explore', ['settle'], await user.problem()).text.trim().split('\n'), last = said.at(-1);
+        checks.equal('what settle says last', last, 'note: labels that fit no tree: B C');
+        await page.until(`${note}?.includes(${quoted(last)})`);
+        checks.equal('it is no claim',
+            await page.value(
+                `[...document.querySelectorAll('.card.last .note .line')].some(node => node.textContent.startsWith('note: '))`),
+            false);
+        checks.equal('the claims are what was tried', await page.value(tried),
+            [['settle', said[0]], ['settle, with identifiers', said.find(line => line.startsWith('with '))]]);
+        await user.openProblem('A^3\nB^3', 'C D');
+        await user.act('Settle');
+        checks.check('no solution', (await page.until(note)).startsWith('settle: no solution'));
+        checks.equal('is what was tried', await page.value(tried), [['settle', 'no solution']]);
+    },
+
     async 'never, by a fixed point'(user, page, checks) {
         await teachMissing(page, {settle: [0, 'not solvable in any number of rounds\nby: explore closure\n']});
         await user.openProblem('1^3\n2^3\n3^3', '1 2\n1 3\n2 3');
@@ -66,8 +111,75 @@ export const settlingSessions = {
         await user.watchCopies();
         await page.click('dialog button', 'Copy problem and graph');
         checks.equal('what solve reads', await user.copied(), `${problem}== graph\n${lines.join('\n')}\n`);
+        await page.fill('dialog textarea', `${lines.join('\n')}\n`);
+        checks.check('changed, nothing is said of it',
+            (await page.until(
+                 `!document.querySelector('dialog p[role=status] .line') && document.querySelector('dialog p[role=status]').textContent`))
+                .includes('Solve asks again'));
+        await page.click('dialog button', 'Solve');
+        checks.equal('asked again', await page.until(`document.querySelector('dialog p[role=status] .line')?.textContent`), NO);
         await page.click('dialog button.close');
         checks.check('on the card', (await page.until(note)).includes(NO));
+        await page.click('.card.last .note button', 'Copy');
+        checks.equal('and its text', await user.copied(), `${problem}== graph\n${lines.join('\n')}\n`);
+    },
+
+    async 'evidence leaves whole'(user, page, checks) {
+        const buttons = `[...document.querySelectorAll('.card.last .note .evidence')].map(button => button.title.split(':')[0])`,
+              claim = 'not solvable in any number of rounds with port numbers alone',
+              parts = `${answer(['read'], MIS.join('\n\n'))}== graph\n${MIS_GRAPH}\n=====\n${
+                  answer(['read'], MIS.join('\n\n'))}== greedy\n..\n`,
+              holds = [`holds: ${claim}`, 'holds: with identifiers: order log* N'];
+        const answered = `${claim}\nby: explore cover 3\nwith identifiers: order log* N\nby: explore greedy\n`;
+        await teach(page, {settle: [0, answered]});
+        await page.value(`['evidence', 'evidence N', 'judge'].forEach(word => bench.words.delete(word))`);
+        await user.openProblem(...MIS);
+        await user.act('Settle');
+        await page.until(note);
+        checks.equal('none where the program has no such words', await page.value(buttons), []);
+        await teach(page, {settle: [0, answered], evidence: [0, parts], judge: [0, `${holds.join('\n')}\n`]});
+        await user.act('Settle');
+        await page.until(`${buttons}.length`);
+        checks.equal('its command', await page.value(buttons), ['explore evidence']);
+        await page.click('.card.last .note .evidence');
+        await page.until(`document.querySelector('dialog textarea')`);
+        checks.equal('what was sent: the problem, and the whole text to be judged',
+            await page.value(`['evidence', 'judge'].map(word => sent.find(([words]) => words === word)[1])`),
+            [answer(['read'], MIS.join('\n\n')), parts]);
+        checks.equal('each line that was said',
+            await page.value(
+                `[...document.querySelectorAll('dialog .line')].map(node => [node.textContent, node.classList.contains('good')])`),
+            holds.map(line => [line, true]));
+        checks.equal('the command', await page.value(`document.querySelector('dialog .code').textContent`), 'explore judge < evidence.txt');
+        await user.watchCopies();
+        await page.click('dialog footer button', 'Copy');
+        checks.equal('the text', await user.copied(), parts);
+        await page.click('dialog button', 'Copy the command');
+        checks.equal('and its command', await user.copied(), 'explore judge < evidence.txt');
+        await page.key('Escape');
+        await page.until(`!document.querySelector('dialog')`);
+        // The same text opened.
+        await user.openText(parts);
+        await page.until(`document.querySelectorAll('dialog').length === 1 && document.querySelector('dialog .line')`);
+        checks.equal('opened, it is judged', await page.value(`document.querySelector('dialog .line').textContent`), holds[0]);
+        await page.key('Escape');
+        await page.until(`!document.querySelector('dialog')`);
+        await teach(page, {judge: [3, 'input: line 4: not a list of items\n']});
+        await user.openText(`${parts}=====\n`);
+        checks.equal('a fault stands in the window where it was opened',
+            await page.until(`document.querySelector('dialog .state .faulty')?.textContent`), 'input: line 4: not a list of items');
+        checks.equal('at its line', await page.value(`document.querySelector('dialog .area').style.getPropertyValue('--fault')`), '4');
+        await page.key('Escape');
+        await page.until(`!document.querySelector('dialog')`);
+        // Refused, and where there is no text.
+        await teach(page, {evidence: [0, parts], judge: [1, 'part 2: not greedy\n']});
+        await page.click('.card.last .note .evidence');
+        checks.equal('a refused one', await page.until(`document.querySelector('dialog .faulty.line')?.textContent`), 'part 2: not greedy');
+        await page.key('Escape');
+        await page.until(`!document.querySelector('dialog')`);
+        await teach(page, {evidence: [4, 'limit: more than 16777216 bytes\n']});
+        await page.click('.card.last .note .evidence');
+        await page.until(`${note}.startsWith('evidence problem 0: limit: more than 16777216 bytes')`);
     },
 
     async 'graphs of many forms are drawn'(user, page, checks) {

@@ -98,8 +98,12 @@ export const wordsSessions = {
             `[...document.querySelectorAll('#rounds-of-graph, .paper')].map(node => [node.textContent.split('1 rounds').length - 1, node.querySelectorAll('.caret').length])`;
         await page.click('#report');
         await page.until(`document.querySelector('.paper h3') && document.querySelector('#rounds-of-graph')`);
-        for (const [rounds, carets] of await page.value(letters))
-            checks.check(`the graph and the report: ${rounds}`, rounds > 0 && carets === rounds);
+        // Sentences of the report say `1 round` by themselves; the line of `check` in it is as it was printed.
+        const [graph, paper] = await page.value(letters);
+        checks.equal('the sentence on the graph', graph, [0, 0]);
+        checks.check('which says it in words',
+            (await page.value(`document.querySelector('#rounds-of-graph').textContent`)).includes('in 1 round of the graph'));
+        checks.check(`the report: ${paper}`, paper[0] > 0 && paper[1] === paper[0]);
         await page.click('#report-box .close');
     },
 

@@ -95,7 +95,7 @@ export const wordsSessions = {
         await page.key('Escape');
         if (!explored.has('describe')) return;
         const letters =
-            `[...document.querySelectorAll('#rounds-of-graph, .paper')].map(node => [node.textContent.split('1 rounds').length - 1, node.querySelectorAll('.caret').length])`;
+            `['#rounds-of-graph', '.paper'].map(name => document.querySelector(name)).map(node => [node.textContent.split('1 rounds').length - 1, node.querySelectorAll('.caret').length])`;
         await page.click('#report');
         await page.until(`document.querySelector('.paper h3') && document.querySelector('#rounds-of-graph')`);
         // Sentences of the report say `1 round` by themselves; the line of `check` in it is as it was printed.

@@ -1,4 +1,4 @@
-//! What the beam searches for long lower bounds and for short upper bounds share.
+//! The beam searches for long lower bounds and for short upper bounds.
 //!
 //! **Beams.** There is a beam for each number of labels from 2 to 32, and for 48, 64, 96 and 128: a search on its own, over problems of at
 //! most so many labels. Those up to the number that is wanted go one after another, the least first.
@@ -14,14 +14,99 @@
 //! **Given an input problem** a path ends at a problem that is solvable in 0 rounds given it: given the input problem with its sides
 //! exchanged as often as there are steps from the chain's first problem. `re_fit::find_fit` tells whether it is; where its tries don't suffice, it
 //! counts as not known.
+//!
+//! # Long lower bounds
+//!
+//! The longest path of all beams is the answer, the first of several. Before them stands the path of the derived problem, its derived problem and
+//! so on, as long as these have no more labels than are wanted. So with more labels, or more steps, the answer is never shorter.
+//!
+//! **Level.** A derived problem is left out where it passes a limit or is solvable without communication. The inner beam is one of merges: each of
+//! its problems is followed by those that merge the two ends of an edge of its passive diagram (the one label weaker than the other with no label
+//! strictly between, or both equally strong), without those that are solvable without communication; the `INNER_WIDTH` with the fewest active
+//! configurations stay, until none is left.
+//!
+//! **Which stay.** The rank is the number of active configurations; `WIDTH` stay in all. Among problems of as many labels and the same degrees,
+//! fewest means: the least share of all multisets of labels; such a problem has lost least. The derived problem of the derived problem and so on of
+//! the chain's last problem stays besides, as long as it has no more labels than the beam's number.
+//!
+//! **Where it ends.** With as many levels as are wanted, or at a level without candidates. Where a derived problem passed a limit there,
+//! the level before is built again with fewer labels, at most `MAX_BUILDS` levels in all. Its longest path is what a beam gives.
+//!
+//! **Merges to begin with.** Where that is shorter than wanted, the same beams go once more, and begin not with the chain's last problem but with
+//! what merges of two of its labels make of it, whichever two these are: without those that are solvable without communication, the `WIDTH`
+//! with the fewest active configurations. Only a longer path counts. Its first step goes to the derived problem of the merged one, by rows; so
+//! there is no such path where the chain has maps by sets.
+//!
+//! **Numbers.** `WIDTH` is 30, `INNER_WIDTH` 6, `MAX_BUILDS` 128.
+//!
+//! **What is kept.** What merges make of a derived problem is kept for the other beams: the derived problem, the problems of the last inner
+//! beam, and of those before it the labels that the derived problem's have become, the number and the rank. Where they are 256 derived problems,
+//! or these have more than a million configurations together, all are forgotten. Where no problem had more labels than a beam's number,
+//! the beams behind it would find the same, and are passed over.
+//!
+//! **Memory.** At most `3 * WIDTH` candidates of one level, `2 * INNER_WIDTH` problems of the inner beam, `WIDTH + 1` problems of each
+//! level before, and what is kept. It uses no clock and no random numbers.
+//!
+//! **Given an input problem.** Problems that are solvable without communication are left out as above. Of the candidates of a level, in the order
+//! in which they would stay, those stay that are told not to be solvable given the input problem. So each path is a bound.
+//!
+//! # Short upper bounds
+//!
+//! The answer is the shortest path of all beams to a problem that is solvable without communication, the first of several; each beam looks for a
+//! shorter one than those before it. So with more labels, or more steps, the answer is never longer, and never lost.
+//!
+//! **Level.** A derived problem is left out where it passes a limit. The first one that is solvable without communication ends the beam: its labels
+//! are left out but those of the first active configuration that shows it, and where these are more than the beam's number it is left out. Each
+//! other one is made thin first: while it has more than three labels for each one of the beam's number, a quarter of those that are too many, or
+//! one more, goes, those of the least chance. In the inner beam each problem is followed by those that leave one of its labels out, and with it each
+//! label that stands in no active configuration any more; the four of the greatest chance stay.
+//!
+//! **Chance.** Let each active node take one of the active configurations at random, and turn it at random: the chance of a problem is that
+//! of a passive node to have one of its configurations around it, and the chance of a label that of a passive node which has this label. A
+//! problem of high chance is near to one that is solvable without communication, whose passive nodes are content where all active nodes
+//! take one configuration. Chances are counted in whole numbers of at most 60 bits.
+//!
+//! **Which stay.** Those of the greatest chance come first, 20 stay in all.
+//!
+//! **Patterns.** Where the passive degree is 2 and the active one, d, is 3 or 5, further searches come first, one for each number of labels
+//! from twice the pairs of ports on, and the beams look for a shorter path. A pattern is a row in which one set of labels stands at all
+//! places but one. Two steps are taken at once. The labels of the first stand for 4, 8, 12 or 16 sets, each with its opposite, which is all
+//! that goes with each of its labels: those that have the most choices of two labels. The active configurations of the second are good rows:
+//! patterns in which a right-closed set stands at all places but one. Two of them go together where a passive node takes any two of their
+//! sets but the two that stand once, and each with itself where it takes two of the same. Where as many patterns go together as there are
+//! pairs of ports, two steps more are the last: a passive node has the label of the pair of its ports, and an active node takes a pattern
+//! that it has at one port alone. As each pattern is at two ports at most, and d is odd, there is one (after Naor and Stockmeyer 1995, and
+//! Mayer, Naor and Stockmeyer 1995, for weak colourings). Else those of the most choices stay, as many as have few enough labels, and two
+//! steps follow. In degree 5, where derived problems are dear, no beam has more than 8 labels if patterns of 20 labels lead to the end,
+//! however many steps and labels are wanted.
+//!
+//! **Given an input problem.** A path ends also at a problem that is told to be solvable given it. Each derived problem that isn't solvable without
+//! communication is asked first. Where it is told to be solvable, with a set of its labels for each input label, its labels are left out but those
+//! of these sets; where these are no more than the beam's number, the beam ends. Where they are more, or it isn't known, the candidates that stay
+//! and are made of it are asked, and the first that is told to be solvable ends the beam.
 #![tactic(auto)]
 
 mod candidates;
+mod chance;
+mod closed_sets;
+mod finding;
 mod given;
+mod longest_beam;
+mod longest_levels;
+mod losses;
+mod merges;
+mod opposites;
+mod pairing;
+mod patterns;
+mod shortening;
+mod shortest_beam;
+mod shortest_levels;
 mod sizes;
+mod spreads;
+mod starts;
 mod states;
+mod steps;
+mod thinning;
 
-pub use candidates::{Candidates, Kept, first_kept};
-pub use given::{Given, Told};
-pub use sizes::next_size;
-pub use states::{State, has_mark};
+pub use finding::find_longest;
+pub use shortening::{Shortest, find_shortest};

@@ -1,5 +1,5 @@
 -- Lists that grow piece by piece, and what they say.
-use Rattle.std.proofs.Common.{◌≡◌, ℕ, zero, suc, ◌<◌, ◌≤◌, ◌+◌, take, drop, length, get_or, Bool, true, false, List, [], ◌∷◌, ◌++◌, Some, flat_map, refl, sym, ap, ◌∙◌, subst, append_assoc, add-one, arith}
+use Rattle.std.proofs.Common.{◌≡◌, ℕ, ◌<◌, ◌+◌, take, drop, length, get_or, Bool, true, false, List, [], ◌∷◌, ◌++◌, Some, flat_map, refl, sym, ap, ◌∙◌, subst, append_assoc, add-one, arith}
 use Rattle.std.specs.Prelude.{nat_lt}
 use Rattle.std.specs.List.{AllByRecursion, list_all}
 use Rattle.std.proofs.lemmas.Bool.Decides.{nat_tests}
@@ -10,12 +10,10 @@ use Rattle.re_changes.proofs.Counted.{flat_map-next}
 use Rattle.re_labels.specs.Lists.{IsRising, count_from}
 use Rattle.re_labels.specs.Sets.{IsLabelSet, first_of, without_label}
 use Rattle.re_problem.specs.Steps.{SetEntry}
-use Rattle.re_cert.specs.Bounds.{Bound}
 use Rattle.re_describe.specs.Meanings.{Means}
 use Rattle.re_describe.specs.Pieces.{listed, shown}
-use Rattle.re_describe.specs.Reports.{Says, Writes}
 use Rattle.re_describe.specs.Steps.{AreMeant}
-use Rattle.re_describe.specs.declared.blocks.Block.{Block}
+use Rattle.re_describe.specs.Writing.{WritesBy}
 use Rattle.re_describe.specs.declared.steps.Meant.{Meant}
 
 -- one piece more
@@ -41,12 +39,6 @@ side_made t0 t1 t2 w d l n e f = more t0 t1 t2 (w ++ (d ++ l)) n e f ∙ ap (λ 
 pub counted_next : {A : Type 0} (front : List A) (f : ℕ → List A) (n : ℕ) (old new : List A) → old ≡ front ++ flat_map f (count_from 0 n) → new ≡ old ++ f n → new ≡ front ++ flat_map f (count_from 0 (n + 1))
 counted_next front f n old new e g = more front old new (flat_map f (count_from 0 n)) (f n) e g ∙ ap (λ t. front ++ t) (sym (flat_map-next f n))
 
-pub counted_behind : {A : Type 0} (front middle : List A) (f : ℕ → List A) (n : ℕ) (old new : List A) → old ≡ front ++ (middle ++ flat_map f (count_from 0 n)) → new ≡ old ++ f n
-    → new ≡ front ++ (middle ++ flat_map f (count_from 0 (n + 1)))
-counted_behind front middle f n old new e g =
-    more front old new (middle ++ flat_map f (count_from 0 n)) (f n) e g
-    ∙ ap (λ t. front ++ t) (append_assoc middle (flat_map f (count_from 0 n)) (f n) ∙ ap (λ t. middle ++ t) (sym (flat_map-next f n)))
-
 -- a set of labels below n fits
 pub fits_all : (n : ℕ) (set : List ℕ) → AllByRecursion (λ x. x < n) set → list_all (λ label. nat_lt label n) set ≡ true
 fits_all n [] all = refl
@@ -56,8 +48,9 @@ pub not_fitting : (n : ℕ) (set : List ℕ) (fits : Bool) {G : Type 0} → fits
 not_fitting n set fits is lacks fit = absurd (let bad : false ≡ true = sym lacks ∙ is ∙ fits_all n set fit.1 in cc)
 
 -- no block is left
-pub written_all : (bound : Bound) (blocks left : List Block) (text : List ℕ) → ((rest : List ℕ) → Writes bound left rest → Writes bound blocks (text ++ rest)) → left ≡ [] → Writes bound blocks text
-written_all bound blocks left text all none = subst (Writes bound blocks) (append-nil text) (all [] (subst (λ bs. Writes bound bs []) (sym none) refl))
+pub written_all : {B : Type 0} (Says : B → List ℕ → Type 0) (blocks left : List B) (text : List ℕ) → ((rest : List ℕ) → WritesBy Says left rest → WritesBy Says blocks (text ++ rest)) → left ≡ []
+    → WritesBy Says blocks text
+written_all Says blocks left text all none = subst (WritesBy Says blocks) (append-nil text) (all [] (subst (λ bs. WritesBy Says bs []) (sym none) refl))
 
 -- a set with its first label in front
 pub listed_made : (names : List (List ℕ)) (index between set rest : List ℕ) (label : ℕ) (old mid new : List ℕ) → IsRising (λ x y. x < y) set → first_of set ≡ Some label → rest ≡ without_label set label
@@ -87,8 +80,8 @@ pub drop_next : {A : Type 0} (xs : List A) (i : ℕ) (d : A) → i < length xs �
 drop_next xs i d l = drop-cons xs i d l ∙ ap (λ j. get_or xs i d ∷ drop j xs) (sym (add-one i))
 
 -- one block more
-pub written_next : (bound : Bound) (blocks left later : List Block) (block : Block) (old said new : List ℕ) → ((rest : List ℕ) → Writes bound left rest → Writes bound blocks (old ++ rest))
-    → left ≡ block ∷ later → Says bound block said → new ≡ old ++ said → (rest : List ℕ) → Writes bound later rest → Writes bound blocks (new ++ rest)
-written_next bound blocks left later block old said new all is says grown rest writes =
-    let whole : Writes bound blocks (old ++ (said ++ rest)) = all (said ++ rest) (subst (λ bs. Writes bound bs (said ++ rest)) (sym is) (said, rest, says, writes, refl)) in
-    subst (Writes bound blocks) (sym (append_assoc old said rest) ∙ ap (λ t. t ++ rest) (sym grown)) whole
+pub written_next : {B : Type 0} (Says : B → List ℕ → Type 0) (blocks left later : List B) (block : B) (old said new : List ℕ) → ((rest : List ℕ) → WritesBy Says left rest → WritesBy Says blocks (old ++ rest))
+    → left ≡ block ∷ later → Says block said → new ≡ old ++ said → (rest : List ℕ) → WritesBy Says later rest → WritesBy Says blocks (new ++ rest)
+written_next Says blocks left later block old said new all is says grown rest writes =
+    let whole : WritesBy Says blocks (old ++ (said ++ rest)) = all (said ++ rest) (subst (λ bs. WritesBy Says bs (said ++ rest)) (sym is) (said, rest, says, writes, refl)) in
+    subst (WritesBy Says blocks) (sym (append_assoc old said rest) ∙ ap (λ t. t ++ rest) (sym grown)) whole

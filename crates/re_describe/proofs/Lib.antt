@@ -3,4 +3,8 @@ pub mod Grouping
 pub mod Growing
 pub mod Lines
 pub mod Thinning
+mod Drawn
+mod PartsSaid
+mod Reported
 mod Saying
+mod Solved

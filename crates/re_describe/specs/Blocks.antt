@@ -53,11 +53,14 @@ step_blocks verdict number = Step number ∷ (step_mark verdict number ++ (Label
 abbrev pub back_blocks : Verdict → Kind → List Block
 back_blocks verdict kind = if is_fixed kind then WayBack ∷ back_mark verdict else []
 
--- the blocks of a report on a bound of this kind, with so many steps and this verdict, whose first problem has passive nodes of this degree
+-- the problems of a bound of this kind, with so many steps and this verdict, the steps between them, and the way back
+abbrev pub body_blocks : Verdict → ℕ → Kind → List Block
+body_blocks verdict steps kind =
+    problem_blocks 0 ++ (flat_map (λ place. step_blocks verdict (place + 1)) (count_from 0 steps) ++ (end_mark verdict ++ back_blocks verdict kind))
+
+-- the blocks of a report on such a bound, whose first problem has passive nodes of this degree
 abbrev pub blocks_with : Verdict → ℕ → ℕ → Kind → List Block
-blocks_with verdict passive steps kind =
-    front_blocks verdict passive ++ (problem_blocks 0 ++ (flat_map (λ place. step_blocks verdict (place + 1)) (count_from 0 steps)
-    ++ (end_mark verdict ++ (back_blocks verdict kind ++ Check ∷ []))))
+blocks_with verdict passive steps kind = front_blocks verdict passive ++ (body_blocks verdict steps kind ++ Check ∷ [])
 
 -- the report on a bound
 abbrev pub report_of : Bound → List Block

@@ -53,8 +53,8 @@ fewer_claim active steps =
     codes "\nOn finite forests of $N$ nodes, whose identifiers are the numbers below $N$, no deterministic algorithm of $T$ rounds solves it, " ++ (up_to (steps - 1)
     ++ ((codes " and each $N$ from $" ++ (decimal (active + 1)
     ++ codes " C^{T + 2}$ on (`re_forests::link_law`, `re_forests::fewer_on_forests_law`).\n\nRandomised algorithms, in which each active node of these trees also draws a private random string: "))
-    ++ (up_to (steps - 1)
-    ++ codes ", each $N$ from $B^{T + 1}$ on and each $q$ from $2^{D^{T + 1}}$ on, each such algorithm of $T$ rounds has port numbers and different identifiers with which it fails at some node with a probability of at least $1/q$. The numbers $B$ and $D$ depend on the degrees and the greatest number of labels of a problem alone (`re_given_bounds::identified_bound_law`).\n")))
+    ++ (up_to steps
+    ++ codes ", each $N$ from $B^{T + 1}$ on and each $q$ from $2^{D^{T + 1}}$ on, each such algorithm of $T$ rounds has port numbers and different identifiers with which it fails at some node with a probability of at least $1/q$. The numbers $B$ and $D$ depend on the degrees and the number of labels of the last problem alone (`re_given_bounds::whole_randomised_law`).\n")))
 
 -- what a verdict says of algorithms whose nodes have unique identifiers, and of such that are randomised, where active nodes have this degree
 abbrev pub identifiers_claim : ℕ → Verdict → List ℕ

@@ -1,5 +1,5 @@
 -- What each block of a report says, and reports in Markdown.
-use Rattle.std.specs.Prelude.{◌≡◌, ℕ, ◌-◌, List, [], ◌∷◌, ◌++◌, codes, flat_map, length, MatchOption, Option, Some, None, slice_get}
+use Rattle.std.specs.Prelude.{◌≡◌, ℕ, ◌-◌, List, [], ◌++◌, codes, flat_map, length, MatchOption, Option, Some, None, slice_get}
 use Rattle.std.specs.Fmt.{decimal}
 use Rattle.re_cert.specs.Bounds.{Bound, last_problem, problem_at}
 use Rattle.re_check.specs.Verdicts.{verdict_of}
@@ -18,6 +18,7 @@ use Rattle.re_describe.specs.Heads.{claim, graph_claim, identifiers_claim, model
 use Rattle.re_describe.specs.Pieces.{index_of, items_text, listed, shown}
 use Rattle.re_describe.specs.Spelling.{Condenses}
 use Rattle.re_describe.specs.Steps.{SaysStep}
+use Rattle.re_describe.specs.Writing.{WritesBy}
 use Rattle.re_describe.specs.declared.blocks.Block.{Block}
 use Rattle.re_describe.specs.declared.blocks.Block.TheVariants.{Active, Check, Claim, Fails, Graph, Identifiers, Labels, Line, Model, Notation, Order, Passive, Problem, Step, Title, WayBack}
 
@@ -122,8 +123,7 @@ Says bound Check text = text ≡ check_text (verdict_of bound)
 
 -- the text is what the blocks say, one behind the other
 abbrev pub Writes : Bound → List Block → List ℕ → Type 0
-Writes bound [] text = text ≡ []
-Writes bound (block ∷ blocks) text = (said : List ℕ) × (rest : List ℕ) × Says bound block said × Writes bound blocks rest × (text ≡ said ++ rest)
+Writes bound blocks text = WritesBy (Says bound) blocks text
 
 -- the text is a report on the bound in Markdown
 abbrev pub IsMarkdown : Bound → List ℕ → Type 0

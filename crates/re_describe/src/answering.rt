@@ -1,99 +1,126 @@
-//! The words, and what they answer.
+//! What the words answer.
 ghost use Rattle.re_chains.specs.ChainTexts.{chain_fault, text_bound};
-ghost use Rattle.re_describe.specs.DescribeWords.{IsGivenBy, IsLatexReport, IsReport, MayDescribe, describe_help, describe_word_of};
+ghost use Rattle.re_chains.specs.TwoTexts.{back_problem, front_bound, has_line as has_named, two_fault};
+ghost use Rattle.re_describe.specs.ClassReports.{is_evidence as has_evidence};
+ghost use Rattle.re_describe.specs.DescribeWords.{GroupsBy, IsReport, IsSame, MayDescribe, OrFault, ReportsBy, ReportsText, WritesBoth, WritesSame, written};
+ghost use Rattle.re_describe.specs.Reports.{IsMarkdown};
 ghost use Rattle.re_frame.specs.Outcomes.{outcome_of};
 ghost use Rattle.re_io.specs.declared.read.TheConstants.{MAX_BYTES};
-ghost use Rattle.std.specs.Prelude.{◌≡◌, ◌≤◌, IfOk, None, length, map, string_bytes};
+ghost use Rattle.std.specs.Prelude.{◌≡◌, ◌≤◌, IfOk, codes, length};
 
+use crate::class_answering::{evidence_output, is_evidence};
+use crate::given_answering::given_output;
+use crate::graph_answering::graph_output;
 use crate::groups::in_groups;
+use crate::groups_given::in_groups_given;
+use crate::labelled_answering::labelled_output;
 use crate::latex::in_latex;
 use crate::report;
+use crate::words::{DescribeWord, ReportForm};
 use re_cert::Certificate;
-use re_chains::read_bound;
+use re_chains::{has_line, read_bound, read_two};
 use re_frame::{Finding, Output, done, fault_output};
+use re_given_words::GIVEN;
 use re_labels::NoMemory;
 use re_problem::TextFault;
 use std::alloc::Global;
 
-/// The word `describe`, by the form of the report, and the word `condense`. Each reads a certificate or a problem as a whole. It takes the
-/// time of `crate::report`, or that of `crate::condensed` for each constraint.
-#[derive(Clone, Copy, Debug, PartialEq, Eq)]
-pub enum DescribeWord {
-    /// In Markdown.
-    Markdown,
-    /// In LaTeX, a part of a document.
-    Latex,
-    /// No report, but the same certificate or problem with its configurations in groups.
-    Groups,
-}
+// The name of the line in front of a graph.
+const GRAPH: &[u8] = b"graph";
 
-/// The word that the words are.
-#[tactic(auto, unfolding(crate::specs::DescribeWords::describe_word_of))]
-pub fn describe_word(words: &[String]) -> Option<DescribeWord>
-    ensures { result ≡ describe_word_of (map string_bytes words.now) }
+/// A text in Markdown, written in this form.
+pub(crate) fn in_form(
+    alloc: Global,
+    form: ReportForm,
+    markdown: Vec<u8>,
+) -> Result<Vec<u8>, NoMemory>
+    ensures { IfOk result (λ text. text.items ≡ written form markdown.items) }
 {
-    match words {
-        [word] => {
-            if "describe" == word.as_str() {
-                Some(DescribeWord::Markdown)
-            } else if "condense" == word.as_str() {
-                Some(DescribeWord::Groups)
-            } else {
-                None
-            }
-        }
-        [word, form] => {
-            if "describe" == word.as_str() && "latex" == form.as_str() {
-                Some(DescribeWord::Latex)
-            } else {
-                None
-            }
-        }
-        _ => None,
+    match form {
+        ReportForm::Markdown => Ok(markdown),
+        ReportForm::Latex => in_latex(alloc, markdown.as_slice()),
     }
 }
 
-/// The lines of help.
-#[tactic(auto, unfolding(crate::specs::DescribeWords::describe_help))]
-pub fn describe_help() -> &'static str
-    ensures { result.now ≡ describe_help }
+// The report on a certificate or problem.
+fn bound_report(alloc: Global, form: ReportForm, bound: &Certificate) -> Result<Output, NoMemory>
+    ensures { IfOk result (λ output. IsReport form (IsMarkdown bound.now) (outcome_of output)) }
 {
-    "describe, describe latex: reads a certificate or a problem, gives a report on it in Markdown, or in LaTeX\ncondense: reads a certificate or a problem, gives the same with its configurations in groups\n"
+    let markdown = report(alloc, bound)?;
+    Ok(done(in_form(alloc, form, markdown)?))
 }
 
-// The report on the certificate, in Markdown.
-fn markdown_report(alloc: Global, certificate: &Certificate) -> Result<Output, NoMemory>
-    ensures { IfOk result (λ output. IsReport certificate.now (outcome_of output)) }
+// The report on the certificate or problem of a text.
+fn bound_output(alloc: Global, form: ReportForm, text: &[u8]) -> Result<Output, NoMemory>
+    requires { length text.now ≤ MAX_BYTES }
+    ensures { IfOk result (λ output. OrFault (chain_fault text.now) (IsReport form (IsMarkdown (text_bound text.now)) (outcome_of output)) (outcome_of output)) }
 {
-    let text = report(alloc, certificate)?;
-    Ok(done(text))
+    match read_bound(alloc, text) {
+        Ok(bound) => bound_report(alloc, form, &bound),
+        Err(TextFault::Bad(fault)) => Ok(fault_output(alloc, fault)?),
+        Err(TextFault::NoMemory) => Err(NoMemory),
+    }
 }
 
-// The report on the certificate, in LaTeX.
-fn latex_report(alloc: Global, certificate: &Certificate) -> Result<Output, NoMemory>
-    ensures { IfOk result (λ output. IsLatexReport certificate.now (outcome_of output)) }
+// The report on what a text writes.
+fn report_output(alloc: Global, form: ReportForm, text: &[u8]) -> Result<Output, NoMemory>
+    requires { length text.now ≤ MAX_BYTES }
+    ensures { IfOk result (λ output. ReportsBy (has_named (codes "graph") text.now) (has_named (codes "given") text.now) form text.now (outcome_of output)) }
 {
-    let text = report(alloc, certificate)?;
-    let latex = in_latex(alloc, text.as_slice())?;
-    Ok(done(latex))
+    match (has_line(GRAPH, text), has_line(GIVEN, text)) {
+        (true, true) => labelled_output(alloc, form, text),
+        (true, false) => graph_output(alloc, form, text),
+        (false, true) => given_output(alloc, form, text),
+        (false, false) => bound_output(alloc, form, text),
+    }
 }
 
-// What the word gives to the text of this certificate.
-fn given(
-    alloc: Global,
-    word: DescribeWord,
-    text: &[u8],
-    certificate: &Certificate,
-) -> Result<Output, NoMemory>
-    requires short { length text.now ≤ MAX_BYTES }
-    requires right { chain_fault text.now ≡ None }
-    requires written { text_bound text.now ≡ certificate.now }
-    ensures { IfOk result (λ output. IsGivenBy word text.now certificate.now (outcome_of output)) }
+// The report on a text, also on evidence.
+fn any_report(alloc: Global, form: ReportForm, text: &[u8]) -> Result<Output, NoMemory>
+    requires { length text.now ≤ MAX_BYTES }
+    ensures { IfOk result (λ output. ReportsText (has_evidence text.now) form text.now (outcome_of output)) }
 {
-    match word {
-        DescribeWord::Markdown => markdown_report(alloc, certificate),
-        DescribeWord::Latex => latex_report(alloc, certificate),
-        DescribeWord::Groups => Ok(done(in_groups(alloc, text, certificate)?)),
+    if is_evidence(text) {
+        evidence_output(alloc, form, text)
+    } else {
+        report_output(alloc, form, text)
+    }
+}
+
+// The certificate or problem of a text in groups.
+fn groups_alone(alloc: Global, text: &[u8]) -> Result<Output, NoMemory>
+    requires { length text.now ≤ MAX_BYTES }
+    ensures { IfOk result (λ output. OrFault (chain_fault text.now) (IsSame (WritesSame text.now (text_bound text.now)) (outcome_of output)) (outcome_of output)) }
+{
+    match read_bound(alloc, text) {
+        Ok(bound) => Ok(done(in_groups(alloc, text, &bound)?)),
+        Err(TextFault::Bad(fault)) => Ok(fault_output(alloc, fault)?),
+        Err(TextFault::NoMemory) => Err(NoMemory),
+    }
+}
+
+// The same with an input problem behind it.
+fn groups_given(alloc: Global, text: &[u8]) -> Result<Output, NoMemory>
+    requires { length text.now ≤ MAX_BYTES }
+    ensures { IfOk result (λ output. OrFault (two_fault (codes "given") text.now)
+        (IsSame (WritesBoth text.now (front_bound (codes "given") text.now) (back_problem (codes "given") text.now)) (outcome_of output)) (outcome_of output)) }
+{
+    match read_two(alloc, GIVEN, text) {
+        Ok(texts) => Ok(done(in_groups_given(alloc, text, &texts)?)),
+        Err(TextFault::Bad(fault)) => Ok(fault_output(alloc, fault)?),
+        Err(TextFault::NoMemory) => Err(NoMemory),
+    }
+}
+
+// What a text writes, in groups.
+fn groups_output(alloc: Global, text: &[u8]) -> Result<Output, NoMemory>
+    requires { length text.now ≤ MAX_BYTES }
+    ensures { IfOk result (λ output. GroupsBy (has_named (codes "given") text.now) text.now (outcome_of output)) }
+{
+    if has_line(GIVEN, text) {
+        groups_given(alloc, text)
+    } else {
+        groups_alone(alloc, text)
     }
 }
 
@@ -103,22 +130,20 @@ fn text_output(alloc: Global, word: DescribeWord, text: &[u8]) -> Result<Output,
     requires { length text.now ≤ MAX_BYTES }
     ensures { IfOk result (λ output. MayDescribe word text.now (outcome_of output)) }
 {
-    match read_bound(alloc, text) {
-        Ok(certificate) => given(alloc, word, text, &certificate),
-        Err(TextFault::Bad(fault)) => Ok(fault_output(alloc, fault)?),
-        Err(TextFault::NoMemory) => Err(NoMemory),
+    match word {
+        DescribeWord::Report(form) => any_report(alloc, form, text),
+        DescribeWord::Groups => groups_output(alloc, text),
     }
 }
 
 impl Finding for DescribeWord {
-    ghost use Rattle.re_describe.specs.DescribeWords.{MayDescribe};
-    ghost use Rattle.std.specs.Prelude.{false};
+    ghost use Rattle.re_describe.specs.DescribeWords.{MayDescribe, may_refuse};
 
     ghost fits = { λ _. Unit {0} };
 
     ghost may = { MayDescribe };
 
-    ghost judging = { λ _. false };
+    ghost judging = { may_refuse };
 
     fn find(&self, alloc: Global, text: Vec<u8>) -> Result<Output, NoMemory> {
         text_output(alloc, *self, text.as_slice())

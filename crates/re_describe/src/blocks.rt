@@ -1,6 +1,6 @@
 //! The blocks of a report: what it says, of which problem or step of a certificate.
 ghost use Rattle.re_check.specs.Verdicts.{verdict_of};
-ghost use Rattle.re_describe.specs.Blocks.{back_blocks, back_mark, blocks_with, end_mark, front_blocks, graph_blocks, identifier_blocks, problem_blocks, report_of, step_blocks, step_mark};
+ghost use Rattle.re_describe.specs.Blocks.{back_blocks, back_mark, blocks_with, body_blocks, end_mark, front_blocks, graph_blocks, identifier_blocks, problem_blocks, report_of, step_blocks, step_mark};
 ghost use Rattle.std.specs.Prelude.{◌≡◌, ◌≤◌, ◌++◌, ◌∷◌, [], IfOk, OnOk};
 
 use re_cert::{Certificate, Kind};
@@ -162,7 +162,27 @@ fn push_back(blocks: &mut Vec<Block>, verdict: Verdict, kind: Kind) -> Result<()
     }
 }
 
-// The blocks of a report on a certificate of this kind, with so many steps, and this verdict.
+/// The problems of a certificate of this kind, with so many steps and this verdict, the steps between them, and the way back.
+pub(crate) fn body_blocks(
+    alloc: Global,
+    verdict: Verdict,
+    steps: u8,
+    kind: Kind,
+) -> Result<Vec<Block>, NoMemory>
+    requires { steps ≤ 64 }
+    ensures { IfOk result (λ blocks. blocks.items ≡ body_blocks verdict steps kind) }
+{
+    let mut blocks = Vec::new(alloc);
+    push_problem(&mut blocks, 0)?;
+    for place in 0..steps {
+        push_step(&mut blocks, verdict, place + 1)?;
+    }
+    push_end_mark(&mut blocks, verdict)?;
+    push_back(&mut blocks, verdict, kind)?;
+    Ok(blocks)
+}
+
+// The blocks of a report on such a certificate.
 fn blocks_with(
     alloc: Global,
     verdict: Verdict,
@@ -173,14 +193,10 @@ fn blocks_with(
     requires { steps ≤ 64 }
     ensures { IfOk result (λ blocks. blocks.items ≡ blocks_with verdict passive steps kind) }
 {
+    let body = body_blocks(alloc, verdict, steps, kind)?;
     let mut blocks = Vec::new(alloc);
     push_front(&mut blocks, verdict, passive)?;
-    push_problem(&mut blocks, 0)?;
-    for place in 0..steps {
-        push_step(&mut blocks, verdict, place + 1)?;
-    }
-    push_end_mark(&mut blocks, verdict)?;
-    push_back(&mut blocks, verdict, kind)?;
+    blocks.extend_from_slice(body.as_slice())?;
     blocks.push(Block::Check)?;
     Ok(blocks)
 }

@@ -66,8 +66,8 @@ fn push_lines(
     Ok(())
 }
 
-// Appends the text of the problem with its configurations in groups.
-fn push_grouped(text: &mut Vec<u8>, problem: &Problem) -> Result<(), NoMemory> {
+/// Appends the text of the problem with its configurations in groups.
+pub(crate) fn push_grouped(text: &mut Vec<u8>, problem: &Problem) -> Result<(), NoMemory> {
     let alloc = *text.allocator();
     let names = problem.names();
     let labels = names.len() as u8;
@@ -114,8 +114,12 @@ fn grouped_certificate(alloc: Global, certificate: &Certificate) -> Result<Vec<u
     Ok(text)
 }
 
-// The certificate in this form, or the first problem alone, with the configurations in groups.
-fn grouped(alloc: Global, certificate: &Certificate, is_whole: bool) -> Result<Vec<u8>, NoMemory> {
+/// The certificate in this form, or the first problem alone, with the configurations in groups.
+pub(crate) fn grouped(
+    alloc: Global,
+    certificate: &Certificate,
+    is_whole: bool,
+) -> Result<Vec<u8>, NoMemory> {
     if is_whole {
         return grouped_certificate(alloc, certificate);
     }
@@ -148,8 +152,8 @@ fn writes(alloc: Global, text: &[u8], certificate: &Certificate) -> Result<bool,
     }
 }
 
-// The same text.
-fn copied(alloc: Global, text: &[u8]) -> Result<Vec<u8>, NoMemory>
+/// The same text.
+pub(crate) fn copied(alloc: Global, text: &[u8]) -> Result<Vec<u8>, NoMemory>
     ensures { IfOk result (λ copy. copy.items ≡ text.now) }
 {
     let mut copy = Vec::new(alloc);

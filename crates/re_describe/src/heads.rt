@@ -30,8 +30,13 @@ fn push_in_all(text: &mut Vec<u8>, rounds: usize) -> Result<(), NoMemory>
     push_words(text, if rounds == 1 { " round" } else { " rounds" })
 }
 
-// Words, a number of rounds or fewer, and words.
-fn push_fewer(text: &mut Vec<u8>, words: &str, rounds: usize, more: &str) -> Result<(), NoMemory>
+/// Words, a number of rounds or fewer, and words.
+pub(crate) fn push_fewer(
+    text: &mut Vec<u8>,
+    words: &str,
+    rounds: usize,
+    more: &str,
+) -> Result<(), NoMemory>
     ensures { OnOk result (text.new.items ≡ text.old.items ++ (words.now ++ (at_most rounds ++ more.now))) }
 {
     push_words(text, words)?;
@@ -39,8 +44,13 @@ fn push_fewer(text: &mut Vec<u8>, words: &str, rounds: usize, more: &str) -> Res
     push_words(text, more)
 }
 
-// Words, a number of rounds, and words.
-fn push_rounds(text: &mut Vec<u8>, words: &str, rounds: usize, more: &str) -> Result<(), NoMemory>
+/// Words, a number of rounds, and words.
+pub(crate) fn push_rounds(
+    text: &mut Vec<u8>,
+    words: &str,
+    rounds: usize,
+    more: &str,
+) -> Result<(), NoMemory>
     ensures { OnOk result (text.new.items ≡ text.old.items ++ (words.now ++ (in_all rounds ++ more.now))) }
 {
     push_words(text, words)?;
@@ -165,10 +175,10 @@ fn push_fewer_claim(text: &mut Vec<u8>, active: u8, steps: u8) -> Result<(), NoM
         active as usize + 1,
         " C^{T + 2}$ on (`re_forests::link_law`, `re_forests::fewer_on_forests_law`).\n\nRandomised algorithms, in which each active node of these trees also draws a private random string: ",
     )?;
-    push_up_to(text, steps as usize - 1)?;
+    push_up_to(text, steps as usize)?;
     push_words(
         text,
-        ", each $N$ from $B^{T + 1}$ on and each $q$ from $2^{D^{T + 1}}$ on, each such algorithm of $T$ rounds has port numbers and different identifiers with which it fails at some node with a probability of at least $1/q$. The numbers $B$ and $D$ depend on the degrees and the greatest number of labels of a problem alone (`re_given_bounds::identified_bound_law`).\n",
+        ", each $N$ from $B^{T + 1}$ on and each $q$ from $2^{D^{T + 1}}$ on, each such algorithm of $T$ rounds has port numbers and different identifiers with which it fails at some node with a probability of at least $1/q$. The numbers $B$ and $D$ depend on the degrees and the number of labels of the last problem alone (`re_given_bounds::whole_randomised_law`).\n",
     )
 }
 

@@ -31,8 +31,8 @@ fn line(alloc: Global, verdict: Verdict) -> Result<Vec<u8>, NoMemory>
     Ok(text)
 }
 
-// What the verdict says.
-fn claim_text(alloc: Global, verdict: Verdict) -> Result<Vec<u8>, NoMemory>
+/// What the verdict says.
+pub(crate) fn claim_text(alloc: Global, verdict: Verdict) -> Result<Vec<u8>, NoMemory>
     ensures { IfOk result (λ text. text.items ≡ claim verdict) }
 {
     let mut text = Vec::new(alloc);
@@ -40,7 +40,8 @@ fn claim_text(alloc: Global, verdict: Verdict) -> Result<Vec<u8>, NoMemory>
     Ok(text)
 }
 
-fn graph_text(alloc: Global, verdict: Verdict) -> Result<Vec<u8>, NoMemory>
+/// The same in rounds of the graph.
+pub(crate) fn graph_text(alloc: Global, verdict: Verdict) -> Result<Vec<u8>, NoMemory>
     ensures { IfOk result (λ text. text.items ≡ graph_claim verdict) }
 {
     let mut text = Vec::new(alloc);
@@ -56,7 +57,8 @@ fn identifiers_text(alloc: Global, active: u8, verdict: Verdict) -> Result<Vec<u
     Ok(text)
 }
 
-fn model_text(alloc: Global, active: u8, passive: u8) -> Result<Vec<u8>, NoMemory>
+/// Where algorithms run, and what a round is.
+pub(crate) fn model_text(alloc: Global, active: u8, passive: u8) -> Result<Vec<u8>, NoMemory>
     ensures { IfOk result (λ text. text.items ≡ model active passive) }
 {
     let mut text = Vec::new(alloc);
@@ -104,8 +106,8 @@ fn passive_block(alloc: Global, certificate: &Certificate, number: u8) -> Result
     constraint_text(alloc, "\nPassive constraint", names, problem.passive())
 }
 
-// A block that the certificate's verdict and degrees alone decide, or that is the same in each report.
-fn said(
+/// What a block says of a certificate.
+pub(crate) fn said(
     alloc: Global,
     certificate: &Certificate,
     verdict: Verdict,

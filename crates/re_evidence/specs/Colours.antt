@@ -1,17 +1,17 @@
 -- Proper colourings with few colours.
-use Rattle.std.specs.Prelude.{◌≡◌, true, false, ℕ, ◌+◌, ◌-◌, ◌*◌, Option, None, Some}
+use Rattle.std.specs.Prelude.{◌≡◌, true, false, ℕ, ◌+◌, ◌-◌, ◌*◌, ◌↔◌, Option, None, Some}
 use Rattle.re_classes.specs.Laws.{IsSolvableColoured}
 use Rattle.re_given.specs.InputExamples.{edge_colouring}
 use Rattle.re_given.specs.Inputs.{IsInput}
 use Rattle.re_given.specs.Unavoidable.{colouring}
-use Rattle.re_given_bounds.specs.EdgeClasses.{IsSolvableEdgeColoured}
+use Rattle.re_given_bounds.specs.EdgeClasses.{IsSolvableBothColoured, IsSolvableEdgeColoured}
 use Rattle.re_inputs.specs.NamedInputs.{fits, input_of}
 use Rattle.re_inputs.specs.declared.kinds.InputKind.{InputKind}
 use Rattle.re_inputs.specs.declared.kinds.InputKind.TheVariants.{Colouring, Edges}
 use Rattle.re_labels.specs.declared.sides.Side.{Side}
 use Rattle.re_labels.specs.declared.sides.Side.TheVariants.{Active, Passive}
 use Rattle.re_problem.specs.NamedProblems.{NamedProblem, unnamed}
-use Rattle.re_problem.specs.Problems.{Problem}
+use Rattle.re_problem.specs.Problems.{IsProblem, Problem}
 
 -- one colour more than a node of a side meets others of it, where active nodes have degree a and passive ones p
 abbrev pub few_colours : Side → ℕ → ℕ → ℕ
@@ -27,6 +27,12 @@ colours_of Passive problem colours = edge_colouring problem.active.degree proble
 abbrev pub IsSolvableGivenFew : Side → Problem → Type 0
 IsSolvableGivenFew Active problem = IsSolvableColoured problem
 IsSolvableGivenFew Passive problem = IsSolvableEdgeColoured problem
+
+-- few colours of the active nodes give few of the passive ones, so they are the one condition: what is solvable given few colours of the passive nodes is
+-- solvable given few of the active ones, and given both at once exactly what is given these
+abbrev pub OneConditionLaw : Type 0
+OneConditionLaw = (problem : Problem) → IsProblem problem →
+    (IsSolvableEdgeColoured problem → IsSolvableColoured problem) × (IsSolvableBothColoured problem ↔ IsSolvableColoured problem)
 
 -- the kind of input problems that it is
 abbrev pub input_kind : Side → InputKind

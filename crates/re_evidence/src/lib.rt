@@ -7,6 +7,7 @@ mod colours;
 mod lines;
 mod types;
 
+ghost use Rattle.re_evidence.specs.Colours.{OneConditionLaw};
 ghost use Rattle.re_evidence.specs.GraphRounds.{GraphLaw, GraphRoundsLaw};
 
 pub use claims::{bounded_class, is_final, most_of, within};
@@ -25,4 +26,10 @@ pub fn graph_rounds_law()
 /// k or fewer hops isn't in the half of k or fewer rounds, rounded down; what is solvable in k hops is in the half of k, rounded up.
 pub fn graph_law()
     ensures { GraphLaw }
+{}
+
+/// To be solvable given few colours of the active nodes is the one condition: what is solvable given few colours of the passive nodes, which are edges
+/// where they have two ends, or given both, is so too.
+pub fn one_condition_law()
+    ensures { OneConditionLaw }
 {}

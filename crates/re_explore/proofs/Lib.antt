@@ -4,3 +4,5 @@ pub mod Said
 pub mod TextsWorth
 mod Undone
 mod WorthIn
+mod Evidences
+mod PartProblems

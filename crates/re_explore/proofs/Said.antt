@@ -65,3 +65,7 @@ joined_seven a b c d e f g = append_assoc ((((a ++ b) ++ c) ++ d) ++ e) f g ∙ 
 -- eight texts one behind the other
 pub joined_eight : (a b c d e f g h : List ℕ) → ((((((a ++ b) ++ c) ++ d) ++ e) ++ f) ++ g) ++ h ≡ a ++ (b ++ (c ++ (d ++ (e ++ (f ++ (g ++ h))))))
 joined_eight a b c d e f g h = append_assoc (((((a ++ b) ++ c) ++ d) ++ e) ++ f) g h ∙ joined_seven a b c d e f (g ++ h)
+
+-- nine texts one behind the other
+pub joined_nine : (a b c d e f g h i : List ℕ) → (((((((a ++ b) ++ c) ++ d) ++ e) ++ f) ++ g) ++ h) ++ i ≡ a ++ (b ++ (c ++ (d ++ (e ++ (f ++ (g ++ (h ++ i)))))))
+joined_nine a b c d e f g h i = append_assoc ((((((a ++ b) ++ c) ++ d) ++ e) ++ f) ++ g) h i ∙ joined_eight a b c d e f g (h ++ i)

@@ -41,6 +41,7 @@ use Rattle.re_search_words.specs.declared.relaxed_words.RelaxedWord.{RelaxedWord
 use Rattle.re_search_words.specs.MayGive.{IsFound, MayFind, MayFindBy, MayFindElse, MayGive, MayGiveAt, MayGiveRead, MayGiveSound, word_chain}
 use Rattle.re_search_words.specs.declared.words.SearchWord.{SearchWord}
 use Rattle.re_search_words.specs.declared.words.SearchWord.TheVariants.{Cycle, Longest, Shortest}
+use Rattle.re_explore.proofs.Evidences.{evidence_worth}
 use Rattle.re_explore.proofs.Refusals.{declined_undone, fault_undone, refusal_undone}
 use Rattle.re_explore.proofs.Undone.{stop_undone, undone}
 use Rattle.re_explore.proofs.WorthIn.{accepted, gives_text, no_more, one_less}
@@ -48,7 +49,7 @@ use Rattle.re_explore.specs.Commands.{IsOutcome}
 use Rattle.re_explore.specs.TextWords.{MayGiveWord}
 use Rattle.re_explore.specs.Worth.{IsAccepted, SearchWorth, TextWordWorth, TextWorth}
 use Rattle.re_explore.specs.declared.command.Command.{Command}
-use Rattle.re_explore.specs.declared.command.Command.TheVariants.{Beside, Chains, Describes, Explains, Forests, Help, HelpOn, Inputs, Reads, Relaxes}
+use Rattle.re_explore.specs.declared.command.Command.TheVariants.{Beside, Chains, Describes, Explains, Forests, Help, HelpOn, Inputs, Judges, Reads, Relaxes, Shows}
 use Rattle.re_explore.specs.declared.text_words.TextWord.{TextWord}
 use Rattle.re_explore.specs.declared.text_words.TextWord.TheVariants.{Bridges, Closes, Givens, Graphs, Searches, Settles}
 
@@ -231,7 +232,9 @@ worth_of words (Some (Beside beside)) bytes outcome is finished =
 worth_of words (Some (Relaxes word)) bytes outcome is finished = relaxed_worth word bytes outcome (within _ bytes outcome is finished) finished
 worth_of words (Some Explains) bytes outcome is finished = tt
 worth_of words (Some (Describes word)) bytes outcome is finished = tt
+worth_of words (Some Judges) bytes outcome is finished = tt
 worth_of words (Some (Inputs word)) bytes outcome is finished = tt
+worth_of words (Some (Shows word)) bytes outcome is finished = evidence_worth bytes outcome (within _ bytes outcome is finished) finished
 worth_of words (Some (Forests word)) bytes outcome is finished = tt
 worth_of words (Some Help) bytes outcome is finished = tt
 worth_of words (Some HelpOn) bytes outcome is finished = tt

@@ -7,16 +7,20 @@ use Rattle.re_bridge_words.specs.Answers.{bridge_help, bridge_word_of}
 use Rattle.re_chain_words.specs.Answers.{MayGive as MayGiveChain, is_judging as chain_judges}
 use Rattle.re_chain_words.specs.ChainWords.{chain_help, chain_word_of}
 use Rattle.re_closure.specs.ClosureWords.{closure_help, closure_word_of}
-use Rattle.re_describe.specs.DescribeWords.{MayDescribe, describe_help, describe_word_of}
+use Rattle.re_describe.specs.DescribeWords.{MayDescribe, describe_help, describe_word_of, may_refuse}
 use Rattle.re_forest_words.specs.GreedyAnswers.{MayGive as MayGiveForest}
 use Rattle.re_forest_words.specs.Words.{IsForestWord, forest_help, forest_word_of}
 use Rattle.re_frame.specs.Answers.{MayAnswer}
 use Rattle.re_given_words.specs.Words.{given_help, given_word_of}
 use Rattle.re_graph_words.specs.Words.{graph_help, graph_word_of}
 use Rattle.re_inputs.specs.InputWords.{IsInputWord, input_help, input_outcome, input_word_of}
+use Rattle.re_judging.specs.Judging.{MayJudge}
+use Rattle.re_judging.specs.Words.{judge_help, names_judge}
 use Rattle.re_search_words.specs.RelaxedWords.{MayGive as MayGiveRelaxed, relaxed_help, relaxed_word_of}
 use Rattle.re_search_words.specs.Words.{search_help, search_word_of}
 use Rattle.re_settle.specs.Words.{settle_help, settle_word_of}
+use Rattle.re_explore.specs.Evidence.{MayShow}
+use Rattle.re_explore.specs.EvidenceWords.{IsEvidenceWord, evidence_help, evidence_word_of}
 use Rattle.re_why.specs.Explaining.{explaining_outcome, names_why, why_help}
 use Rattle.re_asking.specs.Beside.{MayGiveBeside}
 use Rattle.re_asking.specs.BesideWords.{named_input, own_words}
@@ -25,7 +29,7 @@ use Rattle.re_asking.specs.declared.beside.FrontText.{FrontText}
 use Rattle.re_asking.specs.declared.beside_words.NamedInput.{NamedInput}
 use Rattle.re_explore.specs.TextWords.{IsTextWord, MayGiveWord, front_of}
 use Rattle.re_explore.specs.declared.command.Command.{Command}
-use Rattle.re_explore.specs.declared.command.Command.TheVariants.{Beside, Chains, Describes, Explains, Forests, Help, HelpOn, Inputs, Reads, Relaxes}
+use Rattle.re_explore.specs.declared.command.Command.TheVariants.{Beside, Chains, Describes, Explains, Forests, Help, HelpOn, Inputs, Judges, Reads, Relaxes, Shows}
 use Rattle.re_explore.specs.declared.text_words.TextWord.{TextWord}
 use Rattle.re_explore.specs.declared.text_words.TextWord.TheVariants.{Bridges, Closes, Givens, Graphs, Searches, Settles}
 
@@ -50,9 +54,10 @@ command_over_chains words =
     (or_else (reading (option_map Closes (closure_word_of words)))
     (or_else (option_map Relaxes (relaxed_word_of words)) (reading (option_map Bridges (bridge_word_of words))))))
 
--- the command that tells of a certificate
+-- the command that tells of a certificate, or of texts of evidence
 abbrev pub command_over_certificates : List (List ℕ) → Option Command
-command_over_certificates words = if names_why words then Some Explains else option_map Describes (describe_word_of words)
+command_over_certificates words =
+    if names_why words then Some Explains else or_else (option_map Describes (describe_word_of words)) (if names_judge words then Some Judges else None)
 
 -- the command that tells of a problem, alone or beside an input problem or a graph
 abbrev pub command_over_problems : List (List ℕ) → Option Command
@@ -60,7 +65,8 @@ command_over_problems words =
     or_else (option_map Forests (forest_word_of words))
     (or_else (reading (option_map Graphs (graph_word_of words)))
     (or_else (reading (option_map Givens (given_word_of words)))
-    (or_else (option_map Inputs (input_word_of words)) (reading (option_map Settles (settle_word_of words))))))
+    (or_else (option_map Inputs (input_word_of words))
+    (or_else (reading (option_map Settles (settle_word_of words))) (option_map Shows (evidence_word_of words))))))
 
 -- the command that these words name without an input problem behind them
 unfoldable pub command_alone : List (List ℕ) → Option Command
@@ -79,11 +85,12 @@ command_beside command input = None
 abbrev pub is_chain_word : List ℕ → Bool
 is_chain_word word =
     has_line_of word chain_help || (has_line_of word why_help || (has_line_of word search_help || (has_line_of word closure_help
-    || (has_line_of word relaxed_help || (has_line_of word bridge_help || has_line_of word describe_help)))))
+    || (has_line_of word relaxed_help || (has_line_of word bridge_help || (has_line_of word describe_help || has_line_of word judge_help))))))
 
 abbrev pub is_problem_word : List ℕ → Bool
 is_problem_word word =
-    has_line_of word settle_help || (has_line_of word forest_help || (has_line_of word graph_help || (has_line_of word given_help || has_line_of word input_help)))
+    has_line_of word settle_help || (has_line_of word evidence_help || (has_line_of word forest_help || (has_line_of word graph_help
+    || (has_line_of word given_help || has_line_of word input_help))))
 
 -- `help` behind such a word
 abbrev pub is_help_on : List (List ℕ) → Bool
@@ -109,15 +116,17 @@ Fits (Chains word) = Unit {0}
 Fits Explains = Unit {0}
 Fits (Relaxes word) = Unit {0}
 Fits (Describes word) = Unit {0}
+Fits Judges = Unit {0}
+Fits (Shows word) = IsEvidenceWord word
 Fits (Forests word) = IsForestWord word
 
 -- the lines of help of the words over chains and certificates
 unfoldable pub chain_lines : List ℕ
-chain_lines = chain_help ++ why_help ++ search_help ++ closure_help ++ relaxed_help ++ bridge_help ++ describe_help
+chain_lines = chain_help ++ why_help ++ search_help ++ closure_help ++ relaxed_help ++ bridge_help ++ describe_help ++ judge_help
 
 -- and of those over problems
 unfoldable pub problem_lines : List ℕ
-problem_lines = settle_help ++ forest_help ++ graph_help ++ given_help ++ input_help
+problem_lines = settle_help ++ evidence_help ++ forest_help ++ graph_help ++ given_help ++ input_help
 
 -- and those of the words of `re`, a block of its own, and a hint
 unfoldable pub lines_of_re : List ℕ
@@ -155,6 +164,8 @@ IsOutcome words (Some (Reads word)) bytes outcome = MayAnswer (MayGiveWord word)
 IsOutcome words (Some (Beside beside)) bytes outcome = MayAnswer (MayGiveBeside (MayGiveWord beside.word) beside.front beside.input) bytes outcome
 IsOutcome words (Some (Relaxes word)) bytes outcome = MayAnswer (MayGiveRelaxed word) bytes outcome
 IsOutcome words (Some (Describes word)) bytes outcome = MayAnswer (MayDescribe word) bytes outcome
+IsOutcome words (Some Judges) bytes outcome = MayAnswer MayJudge bytes outcome
+IsOutcome words (Some (Shows word)) bytes outcome = MayAnswer MayShow bytes outcome
 IsOutcome words (Some (Forests word)) bytes outcome = MayAnswer (MayGiveForest word) bytes outcome
 IsOutcome words (Some (Inputs word)) bytes outcome = outcome ≡ input_outcome word
 
@@ -166,6 +177,8 @@ is_reading (Some (Reads word)) = true
 is_reading (Some (Beside beside)) = true
 is_reading (Some (Relaxes word)) = true
 is_reading (Some (Describes word)) = true
+is_reading (Some Judges) = true
+is_reading (Some (Shows word)) = true
 is_reading (Some (Forests word)) = true
 is_reading (Some (Inputs word)) = false
 is_reading (Some Help) = false
@@ -179,9 +192,11 @@ is_judging (Some Explains) = true
 is_judging (Some (Reads word)) = true
 is_judging (Some (Beside beside)) = true
 is_judging (Some (Relaxes word)) = true
+is_judging (Some (Shows word)) = true
 is_judging (Some (Forests word)) = true
 is_judging (Some (Inputs word)) = false
-is_judging (Some (Describes word)) = false
+is_judging (Some (Describes word)) = may_refuse word
+is_judging (Some Judges) = true
 is_judging (Some Help) = false
 is_judging (Some HelpOn) = false
 is_judging None = false

@@ -1,4 +1,7 @@
 pub mod Commands
+pub mod Evidence
+pub mod EvidenceLevels
+pub mod EvidenceWords
 pub mod Expected
 pub mod Telling
 pub mod TextWords

@@ -19,11 +19,13 @@ use Rattle.re_given_words.specs.declared.setting.Setting.{Setting}
 use Rattle.re_given_words.specs.declared.setting.Setting.TheVariants.{Alone, Given}
 use Rattle.re_given_words.specs.declared.words.BoundWord.TheVariants as word
 use Rattle.re_labels.specs.declared.TheConstants.{MAX_LABELS}
+use Rattle.re_problem.specs.ProblemTexts.{lines_of, problem_of}
 use Rattle.re_search_words.specs.MayGive.{word_chain}
 use Rattle.re_search_words.specs.declared.words.SearchWord.{SearchWord}
 use Rattle.re_search_words.specs.declared.words.SearchWord.TheVariants.{Cycle, Longest, Shortest}
+use Rattle.re_explore.specs.Evidence.{IsEvidence}
 use Rattle.re_explore.specs.declared.command.Command.{Command}
-use Rattle.re_explore.specs.declared.command.Command.TheVariants.{Beside, Chains, Describes, Explains, Forests, Help, HelpOn, Inputs, Reads, Relaxes}
+use Rattle.re_explore.specs.declared.command.Command.TheVariants.{Beside, Chains, Describes, Explains, Forests, Help, HelpOn, Inputs, Judges, Reads, Relaxes, Shows}
 use Rattle.re_explore.specs.declared.text_words.TextWord.{TextWord}
 use Rattle.re_explore.specs.declared.text_words.TextWord.TheVariants.{Bridges, Closes, Givens, Graphs, Searches, Settles}
 
@@ -64,6 +66,8 @@ TextWorth (Some (Beside beside)) bytes text = TextWordWorth beside.word (text_be
 TextWorth (Some (Relaxes word)) bytes text = IsAccepted Alone Fixed MAX_STEPS MAX_LABELS (text_chain bytes) text
 TextWorth (Some Explains) bytes text = Unit {0}
 TextWorth (Some (Describes word)) bytes text = Unit {0}
+TextWorth (Some Judges) bytes text = Unit {0}
+TextWorth (Some (Shows word)) bytes text = IsEvidence (problem_of (lines_of bytes)) text
 TextWorth (Some (Forests word)) bytes text = Unit {0}
 TextWorth (Some (Inputs word)) bytes text = Unit {0}
 TextWorth (Some Help) bytes text = Unit {0}

@@ -4,6 +4,7 @@ ghost use Rattle.re_explore.specs.Commands.{Fits, bad_text, bad_words, chain_lin
 ghost use Rattle.re_frame.specs.Outcomes.{done as done_with, outcome_of};
 ghost use Rattle.std.specs.Prelude.{◌≡◌, ◌++◌, IfOk, IfSome, OnOk, map, string_bytes};
 
+use crate::evidence_words::{EvidenceWord, evidence_help, evidence_word};
 use crate::text_words::{TextWord, front_of};
 use re_asking::{
     Beside, NamedInput, has_own_line, named_input, own_words, push_own_lines, wrong_word,
@@ -17,6 +18,7 @@ use re_frame::{Answer, Output, begun, done, push_words};
 use re_given_words::{given_help, given_word};
 use re_graph_words::{graph_help, graph_word};
 use re_inputs::{InputWord, input_help, input_word};
+use re_judging::{judge_help, names_judge};
 use re_labels::NoMemory;
 use re_search_words::{RelaxedWord, relaxed_help, relaxed_word, search_help, search_word};
 use re_settle::{settle_help, settle_word};
@@ -37,6 +39,10 @@ pub(crate) enum Command {
     Relaxes(RelaxedWord),
     /// A report on a certificate.
     Describes(DescribeWord),
+    /// Texts of evidence of one problem.
+    Judges,
+    /// Evidence of what is found of a problem.
+    Shows(EvidenceWord),
     /// A problem on finite forests: flexible sets of labels, or nodes one after another.
     Forests(ForestWord),
     /// An input problem that has a name.
@@ -79,7 +85,7 @@ fn command_over_chains(words: &[String]) -> Option<Command>
     None
 }
 
-// The command that tells of a certificate.
+// The command that tells of a certificate, or of texts of evidence.
 fn command_over_certificates(words: &[String]) -> Option<Command>
     ensures command { result ≡ command_over_certificates (map string_bytes words.now) }
     ensures fits { IfSome result Fits }
@@ -89,6 +95,9 @@ fn command_over_certificates(words: &[String]) -> Option<Command>
     }
     if let Some(word) = describe_word(words) {
         return Some(Command::Describes(word));
+    }
+    if names_judge(words) {
+        return Some(Command::Judges);
     }
     None
 }
@@ -112,6 +121,9 @@ fn command_over_problems(words: &[String]) -> Option<Command>
     }
     if let Some(word) = settle_word(words) {
         return Some(Command::Reads(TextWord::Settles(word)));
+    }
+    if let Some(word) = evidence_word(words) {
+        return Some(Command::Shows(word));
     }
     None
 }
@@ -158,12 +170,14 @@ fn is_chain_word(word: &[u8]) -> bool
         || has_own_line(word, relaxed_help().as_bytes())
         || has_own_line(word, bridge_help().as_bytes())
         || has_own_line(word, describe_help().as_bytes())
+        || has_own_line(word, judge_help().as_bytes())
 }
 
 fn is_problem_word(word: &[u8]) -> bool
     ensures { result ≡ is_problem_word word.now }
 {
     has_own_line(word, settle_help().as_bytes())
+        || has_own_line(word, evidence_help().as_bytes())
         || has_own_line(word, forest_help().as_bytes())
         || has_own_line(word, graph_help().as_bytes())
         || has_own_line(word, given_help().as_bytes())
@@ -217,6 +231,7 @@ fn push_chain_lines(text: &mut Vec<u8>) -> Result<(), NoMemory>
     push_words(text, relaxed_help())?;
     push_words(text, bridge_help())?;
     push_words(text, describe_help())?;
+    push_words(text, judge_help())?;
     Ok(())
 }
 
@@ -226,6 +241,7 @@ fn push_problem_lines(text: &mut Vec<u8>) -> Result<(), NoMemory>
     ensures { OnOk result (text.new.items ≡ text.old.items ++ problem_lines) }
 {
     push_words(text, settle_help())?;
+    push_words(text, evidence_help())?;
     push_words(text, forest_help())?;
     push_words(text, graph_help())?;
     push_words(text, given_help())?;

@@ -16,6 +16,7 @@ use crate::text_words::TextWord;
 use re_frame::{Output, OutputFault, Status, answer_input, find_input};
 use re_inputs::input_output;
 use re_io::{MAX_BYTES, Sink, Source};
+use re_judging::Judge;
 use re_settle::Telling;
 use re_why::Why;
 use std::alloc::Global;
@@ -47,6 +48,8 @@ fn output_from<S: Source>(
         Some(Command::Beside(beside)) => find_input(alloc, &beside, source),
         Some(Command::Relaxes(word)) => find_input(alloc, &word, source),
         Some(Command::Describes(word)) => find_input(alloc, &word, source),
+        Some(Command::Judges) => find_input(alloc, &Judge, source),
+        Some(Command::Shows(word)) => find_input(alloc, &word, source),
         Some(Command::Forests(word)) => find_input(alloc, &word, source),
         Some(Command::Inputs(word)) => Ok(input_output(alloc, word)?),
     }

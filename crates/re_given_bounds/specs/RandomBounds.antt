@@ -1,16 +1,16 @@
 -- What certificates of bounds say of randomised algorithms.
-use Rattle.std.specs.Prelude.{◌≡◌, ℕ, ◌^◌, ◌≤◌, ◌<◌, true}
+use Rattle.std.specs.Prelude.{◌≡◌, ℕ, ◌^◌, ◌≤◌, ◌<◌, length, true}
 use Rattle.std.specs.List.{AllByRecursion}
-use Rattle.re_cert.specs.Bounds.{Bound, is_bound, next_problems}
+use Rattle.re_cert.specs.Bounds.{Bound, is_bound, last_problem, next_problems}
 use Rattle.re_cert.specs.declared.certificate.Kind.TheVariants.{Fixed, Lower, Upper}
 use Rattle.re_check.specs.Verdicts.{verdict_of}
 use Rattle.re_check.specs.declared.verdict.Verdict.{Verdict}
 use Rattle.re_check.specs.declared.verdict.Verdict.TheVariants.{Accepted, Refused}
-use Rattle.re_given_bounds.specs.GivenBounds.{HasFewLabels}
+use Rattle.re_given_bounds.specs.GivenBounds.{HasFewLabels, IsOver}
 use Rattle.re_problem.specs.NamedProblems.{IsNamedProblem, unnamed}
 use Rattle.re_problem.specs.Problems.{Problem}
 use Rattle.re_classes.specs.RandomLaws.{IsBeyondIdentified, IsBeyondDoublePower, random_base}
-use Rattle.re_local.specs.SeparatingLaws.{identifier_base}
+use Rattle.re_local.specs.SeparatingLaws.{identifier_base, virtual_base}
 
 -- what a verdict says of randomised algorithms: after a fixed point, for each T, each of them of T rounds fails on the first problem at some node,
 -- for some port numbering, with a probability of at least 1 / q, where q is 2 ^ (D ^ (T + 1)) or more; after a lower bound, for each T below its
@@ -44,3 +44,12 @@ IdentifiedBoundLaw = (bound : Bound) (n d l : ℕ) → is_bound bound ≡ true �
     AllByRecursion IsNamedProblem (next_problems bound.steps) → HasFewLabels n bound →
     let a : ℕ = bound.first.active.degree in let p : ℕ = bound.first.passive.degree in
     a ≤ d → p ≤ d → identifier_base a p n ≤ 2 ^ l → MeansIdentified (verdict_of bound) (unnamed bound.first) (identifier_base a p n) (random_base d l)
+
+-- what is accepted as a lower bound of k steps excludes randomised algorithms of T rounds also where T is k, without identifiers and with them,
+-- where its last problem has no more than n labels, and no node more than d ports
+abbrev pub WholeRandomisedLaw : Type 0
+WholeRandomisedLaw = (bound : Bound) (n d l T : ℕ) → IsOver bound → verdict_of bound ≡ Accepted Lower (length bound.steps) →
+    length (last_problem bound).names ≤ n → T ≤ length bound.steps →
+    let a : ℕ = bound.first.active.degree in let p : ℕ = bound.first.passive.degree in
+    a ≤ d → p ≤ d → virtual_base a p n ≤ 2 ^ l →
+    IsBeyondDoublePower (unnamed bound.first) (random_base d l) T × IsBeyondIdentified (unnamed bound.first) (virtual_base a p n) (random_base d l) T

@@ -14,7 +14,7 @@ ghost use Rattle.re_given_bounds.specs.FewColoursBounds.{UpperBoundLocalLaw};
 ghost use Rattle.re_given_bounds.specs.GivenBounds.{BesideLaw, ColouredBoundLaw, EvenBoundLaw, FixedBoundLaw, OddBoundLaw, UpperBoundLaw, ValidGivenLaw};
 ghost use Rattle.re_given_bounds.specs.LocalBounds.{LocalBoundLaw, LogarithmicBoundLaw, UniqueIdentifiersLaw, WholeLowerBoundLaw};
 ghost use Rattle.re_given_bounds.specs.OnlyUnavoidable.{OnlyUnavoidableLaw};
-ghost use Rattle.re_given_bounds.specs.RandomBounds.{IdentifiedBoundLaw, RandomisedBoundLaw};
+ghost use Rattle.re_given_bounds.specs.RandomBounds.{IdentifiedBoundLaw, RandomisedBoundLaw, WholeRandomisedLaw};
 
 pub use input_laws::{
     both_coloured_law, edge_coloured_law, edges_coloured_law, few_edge_colours_law,
@@ -127,4 +127,10 @@ pub fn only_unavoidable_law()
 /// its last problem has no more than n labels.
 pub fn whole_lower_bound_law()
     ensures { WholeLowerBoundLaw }
+{}
+
+/// It excludes randomised algorithms of as many rounds too, without identifiers and with so many, where the probability of failure at a node is below
+/// 1 / q, and q is at least `2 ^ (D ^ (T + 1))`.
+pub fn whole_randomised_law()
+    ensures { WholeRandomisedLaw }
 {}

@@ -14,6 +14,7 @@ ghost use Rattle.std.specs.Prelude.{◌≡◌, ◌≤◌, IfOk, length};
 use crate::fitting::{fitting_lower, fitting_upper, three_quarters};
 use crate::lines::{searched_limit, searched_output};
 use crate::words::SearchWord;
+use re_beams::{Shortest, find_shortest};
 use re_cert::{Certificate, Kind};
 use re_chains::{Chain, LowerChain, UpperChain, is_certificate_text, judged_chain};
 use re_cycle::{Cycle, find_cycle};
@@ -27,7 +28,6 @@ use re_given_words::{
 };
 use re_labels::NoMemory;
 use re_problem::TextFault;
-use re_shortest::{Shortest, find_shortest};
 use std::alloc::Global;
 
 // What `longest` gives to a chain that is taken.

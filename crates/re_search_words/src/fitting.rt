@@ -7,12 +7,11 @@ ghost use Rattle.re_problem.specs.NamedProblems.{unnamed};
 ghost use Rattle.re_search_words.specs.MayGive.{IsFound};
 ghost use Rattle.std.specs.Prelude.{◌≡◌, ◌≤◌, ◌<◌, IfOk, IfSome};
 
+use re_beams::{Shortest, find_longest, find_shortest};
 use re_chains::{LowerChain, UpperChain};
 use re_frame::Output;
 use re_given_words::{Setting, has_text_in, is_done, print_in};
 use re_labels::NoMemory;
-use re_longest::find_longest;
-use re_shortest::{Shortest, find_shortest};
 use std::alloc::Global;
 
 /// With how many labels a search is tried again behind one with so many: three quarters of them.

@@ -26,9 +26,9 @@ use Rattle.re_given_words.specs.Counting.{IsCounted, MayTell}
 use Rattle.re_given_words.specs.declared.counting.Counted.{Counted}
 use Rattle.re_given_words.specs.declared.counting.Counted.TheVariants as counted
 use Rattle.re_given_words.specs.declared.setting.Setting.TheVariants as setting
-use Rattle.re_shortest.specs.Answers as shortest
+use Rattle.re_beams.specs.ShortestAnswers as shortest
 use Rattle.re_shaping.specs.Extensions.{GoesOn}
-use Rattle.re_shortest.specs.declared.shortening.Shortest.TheVariants as shortest_answer
+use Rattle.re_beams.specs.declared.shortening.Shortest.TheVariants as shortest_answer
 use Rattle.re_problem.specs.NamedProblems.{NamedProblem, unnamed}
 use Rattle.re_problem.specs.Zero.{zero_place}
 use Rattle.re_laws.specs.Algorithms.{Solvable}

@@ -15,6 +15,7 @@ use crate::measures::{
 };
 use crate::texts::has_text;
 use crate::types::{Shown, Way};
+use re_beams::{Shortest, find_shortest};
 use re_cert::{Certificate, Kind};
 use re_chains::{LowerChain, UpperChain};
 use re_evidence::Claim;
@@ -22,7 +23,6 @@ use re_given_words::Setting;
 use re_labels::NoMemory;
 use re_problem::Problem;
 use re_search::{FindFault, Search, find_lower, find_upper};
-use re_shortest::{Shortest, find_shortest};
 use std::alloc::Global;
 
 /// How many configurations a problem in degree 5 has for which patterns are looked for.

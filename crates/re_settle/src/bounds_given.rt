@@ -14,11 +14,11 @@ use crate::measures::{
 use crate::never::grows_little;
 use crate::texts::has_given_text;
 use crate::types::{Shown, Way};
+use re_beams::Shortest;
 use re_chains::LowerChain;
 use re_evidence::Claim;
 use re_labels::NoMemory;
 use re_problem::Problem;
-use re_shortest::Shortest;
 use std::alloc::Global;
 
 /// Up to how many configurations the first derived problems have of a problem whose longest lower bound is looked for.

@@ -8,11 +8,11 @@ use crate::finders::shortest_given;
 use crate::measures::{coloured_steps, doublings, greatest_degree, is_small, shortest_labels};
 use crate::texts::has_given_text;
 use crate::types::{Coloured, ColouredWay};
+use re_beams::Shortest;
 use re_evidence::{colouring_of, few_colours};
 use re_given_words::{Counted, RoundsTexts, count_within};
 use re_labels::{NoMemory, Side};
 use re_problem::Problem;
-use re_shortest::Shortest;
 use std::alloc::Global;
 
 /// Up to how many rounds are counted given colours.

@@ -8,17 +8,16 @@ ghost use Rattle.re_given_words.specs.declared.setting.Setting.TheVariants.{Give
 ghost use Rattle.re_problem.specs.NamedProblems.{unnamed};
 ghost use Rattle.re_problem.specs.Zero.{zero_place};
 ghost use Rattle.re_shaping.specs.Extensions.{GoesOn};
-ghost use Rattle.re_shortest.specs.Answers.{MayAnswer};
+ghost use Rattle.re_beams.specs.ShortestAnswers.{MayAnswer};
 ghost use Rattle.std.specs.Prelude.{◌≡◌, ◌↔◌, IfOk, IsTrue, None};
 
+use re_beams::{Shortest, find_longest, find_shortest};
 use re_cert::Certificate;
 use re_chains::{LowerChain, UpperChain};
 use re_cycle::{Cycle, find_cycle};
 use re_given_words::{Setting, is_taken, taken_alone_law};
 use re_labels::NoMemory;
-use re_longest::find_longest;
 use re_problem::Problem;
-use re_shortest::{Shortest, find_shortest};
 use std::alloc::Global;
 
 // The setting in which a solution of the input problem is given.

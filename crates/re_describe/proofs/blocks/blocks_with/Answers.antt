@@ -1,9 +1,0 @@
-use Rattle.re_describe.proofs.Growing.{counted_behind}
-use Rattle.re_describe.specs.Blocks.{front_blocks, problem_blocks, step_blocks}
-use Rattle.std.proofs.Common.{◌+◌}
-use Rattle.re_describe.proofs.blocks.blocks_with.Goals as goal
-
-pub loop-place-preserved : goal.loop-place-preserved
-loop-place-preserved c =
-    counted_behind (front_blocks c.args.verdict c.args.passive) (problem_blocks 0) (λ place. step_blocks c.args.verdict (place + 1)) c.loop-place.place c.loop-place.blocks.items c.push_step.new.blocks.items
-    c.loop-place.invariant c.in_ok-push_step.ensures

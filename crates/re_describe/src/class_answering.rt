@@ -1,0 +1,101 @@
+//! What `describe` answers to evidence of several parts, or of one that `judge` alone decides.
+ghost use Rattle.re_describe.specs.ClassReports.{IsClassMarkdown, is_evidence, is_judged_alone};
+ghost use Rattle.re_describe.specs.DescribeWords.{IsReport, ReportsEvidence, ReportsHeld, is_done};
+ghost use Rattle.re_frame.specs.Outcomes.{outcome_of, status_of};
+ghost use Rattle.re_io.specs.declared.read.TheConstants.{MAX_BYTES};
+ghost use Rattle.std.specs.Prelude.{◌≡◌, ◌≤◌, IfOk, length};
+
+use crate::answering::in_form;
+use crate::class_reporting::class_report;
+use crate::graph_answering::withheld;
+use crate::words::ReportForm;
+use re_frame::{Answer, Output, done};
+use re_judging::{Judged, PartKind, first_part, joint_at, judge, judge_part, kind_of};
+use re_labels::NoMemory;
+use re_problem::Problem;
+use std::alloc::Global;
+
+// Whether `judge` alone decides such a part.
+fn is_judged_alone(kind: PartKind) -> bool
+    ensures { result ≡ is_judged_alone kind }
+{
+    match kind {
+        PartKind::Certificate => false,
+        PartKind::Given => false,
+        PartKind::Graph => false,
+        PartKind::Length => true,
+        PartKind::Flexible => true,
+        PartKind::Greedy => true,
+    }
+}
+
+/// Whether a text is evidence of several parts, or of one that `judge` alone decides.
+pub(crate) fn is_evidence(text: &[u8]) -> bool
+    requires { length text.now ≤ MAX_BYTES }
+    ensures { result ≡ is_evidence text.now }
+{
+    joint_at(text).is_some() || is_judged_alone(kind_of(text))
+}
+
+// Whether the answer is Done.
+fn is_done(answer: Answer) -> bool
+    ensures { result ≡ is_done (status_of answer) }
+{
+    match answer {
+        Answer::Done => true,
+        Answer::No => false,
+        Answer::BadWords => false,
+        Answer::BadInput => false,
+        Answer::Limit => false,
+    }
+}
+
+// The report on evidence on this problem, of which `judge` answers this.
+fn class_output(
+    alloc: Global,
+    form: ReportForm,
+    text: &[u8],
+    problem: &Problem,
+    told: &Output,
+) -> Result<Output, NoMemory>
+    requires { length text.now ≤ MAX_BYTES }
+    ensures { IfOk result (λ output. IsReport form (IsClassMarkdown text.now problem.now (outcome_of told.now)) (outcome_of output)) }
+{
+    let markdown = class_report(alloc, text, problem, told)?;
+    Ok(done(in_form(alloc, form, markdown)?))
+}
+
+// What is given where this comes of its first part.
+fn held_output(
+    alloc: Global,
+    form: ReportForm,
+    text: &[u8],
+    told: Output,
+    judged: Judged,
+) -> Result<Output, NoMemory>
+    requires { length text.now ≤ MAX_BYTES }
+    ensures { IfOk result (λ output. ReportsHeld form text.now (outcome_of told) judged (outcome_of output)) }
+{
+    match judged {
+        Judged::Holds(part) => class_output(alloc, form, text, &part.problem, &told),
+        Judged::Refused(_) => Ok(withheld(told)),
+    }
+}
+
+/// What is given to evidence.
+pub(crate) fn evidence_output(
+    alloc: Global,
+    form: ReportForm,
+    text: &[u8],
+) -> Result<Output, NoMemory>
+    requires { length text.now ≤ MAX_BYTES }
+    ensures { IfOk result (λ output. ReportsEvidence form text.now (outcome_of output)) }
+{
+    let told = judge(alloc, text)?;
+    if is_done(told.answer) {
+        let judged = judge_part(alloc, first_part(text))?;
+        held_output(alloc, form, text, told, judged)
+    } else {
+        Ok(told)
+    }
+}

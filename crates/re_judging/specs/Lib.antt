@@ -1,0 +1,9 @@
+pub mod Facts
+pub mod GreedyParts
+pub mod Joints
+pub mod Judging
+pub mod LabelLines
+pub mod PartAnswers
+pub mod PartVerdicts
+pub mod Turns
+pub mod Words

@@ -1,0 +1,54 @@
+//! The word `judge`: texts of evidence of what is said of a problem, part by part, and what follows from the parts together.
+//!
+//! `judge_law` says that where the answer is Done each line is true of the problem of the first part. What has to be believed of it is what its words say:
+//! - what a problem is, and when an algorithm of so many rounds solves one with port numbers alone: `re_problem`, `re_laws`;
+//! - what identifiers and finite forests add: `re_local`, `re_classes`, `re_forests`;
+//! - what a claim and a class say of a problem, and in which words: `Holds`, `ClassHolds`, `ClassOnForests`, `claim_text` and `class_text` of `re_evidence`;
+//! - how a text is cut into parts, and which problem a part is on: `Joints`, and the readers of problems and of certificates that `PartVerdicts` names.
+//! How a part is judged, what it says and what follows from all of them needs no belief: each step between is proved.
+//!
+//! No call from here searches for a bound, or computes a step of round elimination. Bounds are checked clause by clause, given an input problem too; flexible
+//! sets and levels of labels are computed from the problem; solutions of a graph, sets by which an upper step leads to an input problem, and what a node may
+//! see are tried, with limits. Libraries below have other words that do search or compute steps, so the list of crates is longer: `re_frame` names
+//! `re_step` for lines of limits, `re_given_words` names `re_step`, `re_shaping` and `re_search` for `rounds` and for bounds that go on, and `re_fit` and
+//! `re_graph` walk with what `re_bridge`, `re_walks` and `re_algo` have.
+#![tactic(auto)]
+
+mod bound_parts;
+mod facts;
+mod flexible_parts;
+mod graph_parts;
+mod greedy_parts;
+mod joints;
+mod judging;
+mod label_lines;
+mod level_parts;
+mod parts;
+mod same;
+mod types;
+mod words;
+
+ghost use Rattle.re_judging.specs.Facts.{KnownLaw, TrueLaw};
+
+pub use joints::{behind_joint, first_part, joint_at};
+pub use judging::{judge, judge_law};
+pub use parts::{judge_part, kind_of};
+use re_gap::{above_log_on_views_law, not_flexible_law};
+pub use same::are_same;
+pub use types::{Fact, Judged, Known, Part, PartKind};
+pub use words::{Judge, judge_help, names_judge};
+
+/// What is known is true with one fact more that is.
+pub fn known_law()
+    ensures { KnownLaw }
+{
+    not_flexible_law();
+    above_log_on_views_law();
+}
+
+/// What follows from true facts together, as claim and as class, is true.
+pub fn true_law()
+    ensures { TrueLaw }
+{
+    not_flexible_law();
+}

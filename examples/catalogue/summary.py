@@ -28,8 +28,8 @@ HEAD = """# All small problems, up to the names of their labels
 
 `problems.py` writes the problems of some labels in which each label stands on both sides, each once, with its number;
 `settle.sh` runs `explore settle` on them, over many processors or machines; `given.sh` asks what is known given input
-problems; `check.sh` draws 200 lines, runs what they name and has it judged; `bounds.py` looks for certificates that say
-more; `summary.py` wrote this page from the tables:
+problems; `check.sh` draws 200 lines, runs what they name and has it judged; `bounds.py` and `hops.py` look for
+certificates that say more; `summary.py` wrote this page from the tables:
 
     examples/catalogue/problems.py 3 3 2 > LIST
     examples/catalogue/settle.sh EXPLORE LIST examples/catalogue/3-3-2.tsv
@@ -60,8 +60,10 @@ bounds, of 4 labels on paths about 27,000 that say *exactly*, of which 240 drawn
 Bounds that no words find stand in `certificates.tar.xz`, and `certificates.py` puts them into the table. An upper one
 goes from a derived problem to a solved problem that is enough for it (`explore bridge`), or to sets of its labels at
 the ports of few nodes; a lower one to a problem that it solves in 0 hops, and at the last step to sets without a
-choice. Of the 15 `bounds.py` makes three again, each in 3 seconds: the upper bounds of 1782 and 4019, by a problem that
-has fewer configurations, and the lower one of 4829. The programs that found the others aren't held.
+choice. Of the 18 `bounds.py` makes three again, each in 3 seconds: the upper bounds of 1782 and 4019, by a problem that
+has fewer configurations, and the lower one of 4829. `hops.py` makes three more, in 10 to 30 seconds, with a SAT solver
+that tells of 1, 2 or 3 hops of a derived problem: the lower bound of 7144 and the upper ones of 4828 and 5368. The
+programs that found the other 12 aren't held.
 
 Given an input problem (`both`, an orientation by which edges lead into each active node and out of it; two `sides`; a
 colouring of the `edges`; a proper `colouring` with 4 colours), `explore settle` answers, or `explore given` of the

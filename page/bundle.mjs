@@ -89,11 +89,13 @@ function programsGiven() {
     return Object.entries(programsIn(held)).map(([name, wasm]) => ({name, wasm: unpacked(wasm), built: sourceIn(held, name)}));
 }
 const programs = programsGiven();
-const main = safe(scriptOf('main.js')), style = shortStyle(source('style.css'));
+const start = safe(scriptOf('start.js')), main = scriptOf('main.js'), style = shortStyle(source('style.css'));
 const parts = {
     'STYLE': style,
     'STYLE HASH': sha256(style, 'base64'),
-    'MAIN': main,
+    'START': start,
+    'START HASH': sha256(start, 'base64'),
+    'MAIN': packed(main),
     'MAIN HASH': sha256(main, 'base64'),
     'WORKER': packed(scriptOf('engine/worker.js')),
     'EXAMPLES': packed(JSON.stringify(examplesHeld())),

@@ -18,12 +18,11 @@ import {Workbench} from './workbench.js';
 
 // The programs that the page holds, packed: {name: {module, bytes}}.
 async function readPrograms() {
-    const programs = {};
-    for (const [name, packed] of Object.entries(JSON.parse($('#programs').textContent))) {
+    const read = async ([name, packed]) => {
         const bytes = await unpacked(packed).arrayBuffer();
-        programs[name] = {module: await WebAssembly.compile(bytes), bytes};
-    }
-    return programs;
+        return [name, {module: await WebAssembly.compile(bytes), bytes}];
+    };
+    return Object.fromEntries(await Promise.all(Object.entries(JSON.parse($('#programs').textContent)).map(read)));
 }
 
 // The editor of first problems; answers how a text with a title is put into it.

@@ -231,15 +231,23 @@ export class Workbench {
 
     async copyProblem(card, from) { copy(await writtenText(this.facts, card), from); }
     async copyLatex(card, from) { copy(latexOf(await this.linesOf(card)), from); }
+    // With what is given at the card, where something is and the program reports on that, and doesn't refuse it; else of the problem alone.
     async copyReport(card, from) {
-        const {status, text} =
-            await this.engine.ask('explore', ['describe', 'latex'], await writtenText(this.facts, card), {title: 'describe'});
-        if (status === 0) copy(text, from);
-        else say(`explore describe latex: ${text.trim()}`, true);
+        const alone = await writtenText(this.facts, card), withInput = this.words.has('describe given') && await this.givenText(card),
+              ask = text => this.engine.ask('explore', ['describe', 'latex'], text, {title: 'describe'}),
+              said = ({text}) => `explore describe latex: ${text.trim()}`;
+        const first = await ask(withInput || alone), isRefused = withInput && first.status !== 0,
+              answer = isRefused ? await ask(alone) : first;
+        if (answer.status === 0) await copy(answer.text, from);
+        if (isRefused) say(`${said(first)}. ${answer.status === 0 ? 'Copied without what is given.' : ''}`, true);
+        else if (answer.status !== 0) say(said(answer), true);
     }
-    async copyGiven(card, from) {
-        copy(givenInput(await writtenText(this.facts, card), this.given.at(this.cards.path(card.id), card)), from);
+    // The problem, and behind it what is given at the card; null where nothing is.
+    async givenText(card) {
+        const input = this.given.at(this.cards.path(card.id), card);
+        return input ? givenInput(await writtenText(this.facts, card), input) : null;
     }
+    async copyGiven(card, from) { copy(await this.givenText(card), from); }
     async downloadProblem(card, name) { download(`${name}.txt`, await writtenText(this.facts, card)); }
     async toEditor(card) {
         await this.editor.setText(await writtenText(this.facts, card));

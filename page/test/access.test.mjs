@@ -2,6 +2,7 @@
 import {openBrowser, wait} from './browser.mjs';
 import {checked} from './checks.mjs';
 import {answer, example} from './place.mjs';
+import {teach} from './teaching.mjs';
 import {cardsAre, drawn, MIS, User} from './user.mjs';
 
 // Runs in the page: what is at fault in what is shown now.
@@ -134,6 +135,11 @@ async function look(page, user, checks, theme) {
     await page.click('dialog footer button', 'Settle all');
     await page.until('[...document.querySelectorAll("dialog [role=status]")].some(node => node.textContent === "2 of 2 problems")');
     await faults('a list that is settled');
+    await page.key('Escape');
+    await teach(page, {judge: [1, 'part 2: no: not flexible\n']});
+    await user.openText('A^2\n\nA A\n== graph\n1.1 1.2\n=====\nA^2\n\nA A\n== flexible\nA\n');
+    await page.until('document.querySelector("dialog .parts")');
+    await faults('evidence that is refused');
     await page.key('Escape');
     await page.choose('#gallery', 'orientation 3 upper');
     await page.until(`!document.querySelector('#algorithm').hidden`);

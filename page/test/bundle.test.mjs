@@ -96,10 +96,14 @@ await checked('the catalogue is that of the examples', checks => {
 await checked('the policy: no network, no other scripts', checks => {
     // The policy that the browser keeps: no network, no other scripts.
     const policy = /Content-Security-Policy" content="([^"]*)"/.exec(text)[1],
-          main = /<script type="module">([^]*)<\/script>\n<\/body>/.exec(text)[1];
+          start = /<script type="module">([^]*)<\/script>\n<\/body>/.exec(text)[1],
+          main = unpacked(/<script [^>]*id="main">([^]*?)<\/script>/.exec(text)[1]).toString();
     checks.check('nothing by default', policy.startsWith("default-src 'none'; "));
     checks.check('no address in the policy', !/https?:|\*/.test(policy));
-    checks.check('the script that may run', policy.includes(`'sha256-${createHash('sha256').update(main).digest('base64')}'`));
+    const hashes = [...policy.matchAll(/'sha256-([^']*)'/g)].map(([, hash]) => hash),
+          hashOf = script => createHash('sha256').update(script).digest('base64');
+    checks.equal('the scripts that may run, and the style', hashes, [start, main, /<style>([^]*?)<\/style>/.exec(text)[1]].map(hashOf));
+    checks.check(`the first one only unpacks the other: ${start.length}`, start.length < 3000 && main.length > 100000);
     checks.check('no other inline script', !policy.includes('unsafe-inline') && !policy.includes("'unsafe-eval'"));
 });
 

@@ -62,7 +62,9 @@ async function drive(socket) {
 
 const ready = `document.body.classList.contains('ready')`, cardsAre = n => `document.querySelectorAll('.card').length === ${n}`;
 const click = selector => `document.querySelector('${selector}').click()`;
-const step = `[...document.querySelectorAll('.card.last .actions button')].find(node => node.textContent === 'Step')`;
+// A card has its buttons once it is near to what is seen.
+const buttonOf = text => `[...document.querySelectorAll('.card.last .actions button')].find(node => node.textContent === '${text}')`,
+      step = buttonOf('Step'), settle = buttonOf('Settle');
 
 async function session(checks, {value, until, go, reload}) {
     await go(`file://${pageFile}`);
@@ -122,7 +124,8 @@ async function inAndOut(checks, {value, until}) {
     await value(
         `(() => { const list = document.querySelector('#given-kind'); list.value = 'nothing'; list.dispatchEvent(new Event('change')); })()`);
     await until(`!document.querySelector('#given-line .line')`);
-    await value(`[...document.querySelectorAll('.card.last .actions button')].find(node => node.textContent === 'Settle').click()`);
+    await until(`Boolean(${settle})`);
+    await value(`${settle}.click()`);
     const problem = await value('bench.cards.path().at(-1).problem'),
           [settled] = natively('explore', ['settle'], problem).text.split('\n', 1);
     checks.check(`settle: ${settled}`,
@@ -139,7 +142,8 @@ async function begun(checks, {value, until}) {
           notes = `document.querySelector('.card.last .remarks').textContent`;
     await value(`bench.notes.set(bench.view(bench.cards.path().at(-1)), [])`);
     await answerSlowly({until}, 'settle', [{text: `${line}\nby: re fixed 4 0\nwith`, turns: 10 ** 15}]);
-    await value(`[...document.querySelectorAll('.card.last .actions button')].find(node => node.textContent === 'Settle').click()`);
+    await until(`Boolean(${settle})`);
+    await value(`${settle}.click()`);
     checks.check('still searching', (await until(`${notes}.includes('still searching…') && ${notes}`)).includes(`settle: ${line}`));
     const stop = `document.querySelector('#jobs button[aria-label^="stop settle"]')`;
     await until(`Boolean(${stop})`);

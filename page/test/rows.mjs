@@ -1,6 +1,7 @@
 // Runs of the programs, {program, words, input, name}: all examples with all words, the problems inside of certificates, and texts that
 // are none. What `explore` is asked depends on the words that it has.
 import {wordsIn} from '../src/engine/words.js';
+import {partsOfEvidence} from '../src/texts/evidence.js';
 import {example, namesIn, natively} from './place.mjs';
 
 const EACH = Number(process.env.EACH || 1);
@@ -27,8 +28,10 @@ const ofProblems = some([
     'begin lower', 'begin upper', 'last', 'step', 'longest 2 8', 'cycle 2 0 100', 'closure', 'closure 1', 'merge A B', 'merge O I',
     'settle', 'solve', 'cover 2'
 ]);
-// Words that read an input problem behind the first text.
-const ofGiven = some(['fit', 'given', 'rounds 2', 'product']);
+const ofReports = ['describe', 'describe latex'], reading = (list, part) => words(list).filter(([word]) => explored.has(`${word} ${part}`));
+// Words that read an input problem behind the first text, and those that read a graph there.
+const ofGiven = [...some(['fit', 'given', 'rounds 2', 'product']), ...reading([...ofReports, 'condense'], 'given')],
+      ofGraphs = [...some(['solve']), ...reading(ofReports, 'graph')];
 // Graphs of degrees 3 and 2, and one that lacks an end.
 const GRAPHS =
     explored.has('solve') ? ['== graph\n1.1 1.2\n1.3 2.1\n2.2 2.3\n', '== graph\n1.1 2.1\n1.2 2.2\n1.3 2.3\n', '== graph\n1.1 1.2\n'] : [];
@@ -43,7 +46,8 @@ function* runsOf(input, name) {
         for (const [i, behind] of INPUTS.entries())
             yield {program: 'explore', words: given, input: input + behind, name: `${name} with input ${i}`};
     for (const [i, behind] of isProblem ? GRAPHS.entries() : [])
-        yield {program: 'explore', words: ['solve'], input: input + behind, name: `${name} with graph ${i}`};
+        for (const given of ofGraphs) yield {program: 'explore', words: given, input: input + behind, name: `${name} with graph ${i}`};
+    if (isProblem && name.startsWith('first/')) yield* runsOfEvidence(input, name);
     if (isProblem) return;
     // A certificate in which a row, an entry or a configuration lacks is refused, mostly.
     const lines = input.split('\n');
@@ -56,6 +60,17 @@ function* runsOf(input, name) {
         };
     for (const [, part] of input.matchAll(/== (?:certificate .*|step)\n([^=]*)/g))
         for (const given of [...short, ['step', '1']]) yield {program: 're', words: given, input: part, name: `a problem of ${name}`};
+}
+
+// The evidence for what is known of a problem, its parts alone, and what lacks a line.
+function* runsOfEvidence(input, name) {
+    if (!explored.has('evidence') || !explored.has('judge')) return;
+    yield {program: 'explore', words: ['evidence'], input, name};
+    const {text} = natively('explore', ['evidence'], input), lines = text.split('\n');
+    const texts = [text, ...partsOfEvidence(text).map(part => part.text), text + input, `${text}=====\n${input}`];
+    for (let at = 1; at < Math.min(lines.length, 60); at += 5) texts.push(lines.filter((_, i) => i !== at).join('\n'));
+    for (const [i, evidence] of texts.entries())
+        yield {program: 'explore', words: ['judge'], input: evidence, name: `${name}, evidence ${i}`};
 }
 
 // The rows of one program. `EACH=n` takes each n-th one, for a machine that is busy.

@@ -12,9 +12,10 @@ import {bytesOf, lettersOf} from '../src/texts/letters.js';
 import {inOneLine, problemsIn, tableOf} from '../src/texts/lists.js';
 import {findRelaxation, findRenaming} from '../src/texts/maps.js';
 import {blocksOfReport, partsOfText, roundsOfGraph} from '../src/texts/reports.js';
+import {claimsBeyond, isEvidence, partsOfEvidence, refusedPart} from '../src/texts/evidence.js';
 import {commandsIn, leavesQuestion, nameLabels, readSettled, wholeLines} from '../src/texts/settled.js';
 import {clauseFault} from '../src/texts/certificates.js';
-import {inWords, modelOf} from '../src/views/claims.js';
+import {inWords, modelOf, scopeOf} from '../src/views/claims.js';
 import {nameOfJob} from '../src/engine/job_names.js';
 import {sharedIn} from '../src/keeping/sessions.js';
 import * as kept from '../src/keeping/kept.js';
@@ -31,6 +32,67 @@ const is = (what, found, wanted) => checks.equal(what, found, wanted), about = (
     return run();
 });
 const filled = text => texts.filledLines(text);
+
+await about('parts of evidence', () => {
+    const problem = 'A\n\nA\n', flexible = `${problem}== flexible\nA\n`, graph = `${problem}== graph\n1.1\n`,
+          lower = `== certificate 1 lower\n${problem}== end\n`, given = `${lower}== given\n${problem}`,
+          greedy = `${problem}== greedy\nactive\nA\n`, all = [flexible, graph, lower, given, greedy, problem], text = all.join('=====\n'),
+          parts = partsOfEvidence(text);
+    is('what it is', [text, `${problem}=====\n`, flexible, greedy, `${problem}== length\n1\n`].map(isEvidence),
+        [true, true, true, true, true]);
+    is('and what not', [problem, graph, lower, given, `${problem}======\n`, `% =====\n${problem}`].map(isEvidence), Array(6).fill(false));
+    is('the bytes of each', parts.map(part => part.text), all);
+    const lines = text.split('\n'), shown = parts.map(({first, last}) => `${lines.slice(first - 1, last).join('\n')}\n`);
+    is('their lines', shown, all);
+    is('what they hold', parts.map(({holds, isOpened}) => [holds, isOpened]), [
+        ['a flexible set of labels', false], ['a graph', true], ['a lower bound', true], ['a bound given an input', true],
+        ['labels for one node after another', false], ['no part that judge knows', false]
+    ]);
+    is('upper bounds and fixed points', ['upper', 'fixed 0'].map(kind => partsOfEvidence(lower.replace('lower', kind))[0].holds),
+        ['an upper bound', 'a fixed point']);
+    is('how many levels', partsOfEvidence(`${problem}== length\n1\n`)[0].holds, 'the number of its levels of labels');
+    is('an empty part, and one without an end',
+        partsOfEvidence(`=====\n${problem}=====\nA`).map(({first, last, text}) => [first, last, text]),
+        [[1, 1, ''], [2, 4, problem], [6, 6, 'A']]);
+    is('lines with other bytes are no joints',
+        ['===== ', ' =====', '======', '=====\r', '===='].map(line => partsOfEvidence(`${problem}${line}\n${problem}`).length),
+        [1, 1, 1, 1, 1]);
+    is('the part that is refused', refusedPart('part 2: no: solvable\n', parts), {number: 2, line: parts[1].first});
+    is('a fault at its line of the whole text', refusedPart('part 4: input: line 3: not a list of items\n', parts),
+        {number: 4, line: parts[3].first + 2});
+    const settled =
+        'more than 3, at most 4\nby: re lower 3 0\nwith identifiers: constant, more than 3, at most 4\nliterature: order N\nnote: labels that fit no tree: B\n';
+    is('what no part shows',
+        [
+            'holds: at most 4\nholds: with identifiers: constant, at most 4\n',
+            'holds: more than 3, at most 4\nholds: with identifiers: constant, more than 3, at most 4\n', 'nothing follows\n'
+        ].map(said => claimsBeyond(settled, said)),
+        [settled.split('\n').filter((_, i) => i % 2 === 0).slice(0, 2), [], settled.split('\n').filter((_, i) => i % 2 === 0).slice(0, 2)]);
+    is('without a solution there is nothing more',
+        claimsBeyond('no solution\nby: explore flexible\n', 'holds: with identifiers: no solution\n'), []);
+    is('what is said of no part',
+        ['limit: more than 16 parts\n', 'holds: more than 1\n', 'part 7: no\n', ''].map(said => refusedPart(said, parts)),
+        [null, null, null, null]);
+});
+
+await about('the model and the class beside a line', () => {
+    const ports = 'with port numbers alone, by deterministic algorithms on infinite trees';
+    for (const [line, scope] of Object.entries({
+             'holds: not solvable in any number of rounds with port numbers alone': 'by deterministic algorithms on infinite trees',
+             'holds: more than 3 (more than 1 rounds of the graph)': ports,
+             'holds: more than 1, at most 4': ports,
+             'holds: exactly 2 (1 rounds of the graph)': ports,
+             'holds: at most 4': ports,
+             'holds: with identifiers: order log* N': 'by deterministic algorithms with identifiers below N on finite forests of N nodes',
+             'holds: given that input, not solvable in 1 or fewer rounds':
+                 'with port numbers and that input, by deterministic algorithms on infinite trees',
+             'accepted: not solvable in 1 or fewer rounds': ports,
+             'accepted: solvable in 1 rounds': '',
+             'nothing follows': '',
+             'part 2: no: not flexible': '',
+         }))
+        is(line, scopeOf(line), scope);
+});
 
 await about('texts in TikZ', () => {
     is('powers are raised', texText('M^3 [PO]^12'), 'M\\textsuperscript{3} [PO]\\textsuperscript{12}');
@@ -359,8 +421,6 @@ await about('reports', () => {
 await about('what settles a problem', () => {
     is('the whole lines of what was written so far', ['', 'more', 'more than 4\n', 'more than 4\nby: re'].map(wholeLines),
         ['', '', 'more than 4\n', 'more than 4\n']);
-    is('what is evidence of several parts', ['A\n\nA\n=====\nA\n', 'A\n\nA\n', 'A\n\nA\n== graph\n'].map(certificates.isEvidence),
-        [true, false, false]);
     is('lines', readSettled('more than 4, at most 6 (3 rounds of the graph)\nby: re lower 4 0\nby: re upper 6 1\n'),
         [{line: 'more than 4, at most 6 (3 rounds of the graph)', shownBy: ['re lower 4 0', 're upper 6 1']}]);
     is('further lines, each with what shows it, whatever they are',

@@ -114,31 +114,31 @@ export class Settling {
                                          this.buttons(view.card, view, shownBy, {input: asked}), i ? null : hint(more))),
             isBegun
                 ? hint(this.running.get(this.keyOf(view, input)) === what ? 'still searching…' : 'the search ended before it wrote more')
-                : [this.evidenceButton(view, what, asked), this.moreEffort(view, what, asked)]
+                : [this.evidenceButton(view, {what, text}, asked), this.moreEffort(view, what, asked)]
         ];
     }
 
     // Where the program has the words: one text that shows all of it, which anybody can judge.
-    evidenceButton(view, what, input) {
+    evidenceButton(view, {what, text}, input) {
         const {words} = this, [, number] = /^settle(?: (\d+))?$/.exec(what) || [];
         if (input || !words.has('evidence') || !words.has('judge') || number && !words.has('evidence N')) return null;
         const asked = ['evidence', ...(number ? [number] : [])];
-        return button('Evidence', () => this.evidence(view, asked),
+        return button('Evidence', () => this.evidence(view, asked, text),
             {title: `explore ${asked.join(' ')}: one text with all that shows it, judged by explore judge`, class: 'evidence'});
     }
 
-    // The text is shown with what the program says of it.
-    async evidence(view, words) {
+    // The text is shown with what the program says of it, and what `settle` said.
+    async evidence(view, words, settled) {
         const title = `${words.join(' ')} problem ${view.number.textContent}`;
         const found = await runTask(this.engine, title, async task => {
             const {status, text} = await task.ask('explore', words, view.card.problem);
-            if (status > 1) throw new Error(text.trim());
+            if (status !== 0) throw new Error(text.trim());
             return {text, judged: await task.ask('explore', ['judge'], text)};
         }).catch(error => {
             view.noteHint(`${title}: ${error instanceof Stopped ? 'stopped.' : error.message}`);
             return null;
         });
-        if (found) openEvidenceDialog(found.text, found.judged);
+        if (found) openEvidenceDialog(found.text, found.judged, this.openText, settled);
     }
 
     // Behind the answer with the most effort, while it leaves a question: a button that asks with twice as much.

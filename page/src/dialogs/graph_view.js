@@ -1,7 +1,7 @@
 // A finite graph as a picture: squares are active nodes, circles passive ones, small numbers are ports. And its window.
 import {faultLine} from '../texts/certificates.js';
 import {claimNodes, scopeOf} from '../views/claims.js';
-import {button, code, copy, download, element, faulty, hint, replace} from '../views/dom.js';
+import {button, code, copy, download, element, faulty, hint, intoView, replace} from '../views/dom.js';
 import {say} from '../views/messages.js';
 import {openWideDialog} from './dialogs.js';
 import {graphInput, graphPlaces, readGraph, readSolution} from '../texts/graphs.js';
@@ -9,20 +9,25 @@ import {NumberedArea} from './numbered_area.js';
 import {filledRows} from '../texts/texts.js';
 import {pictureButtons} from '../views/picture_files.js';
 import {inRem, keepReadable, svg} from '../views/pictures.js';
+import {reportNodes} from '../views/report_view.js';
 
 const MARGIN = 30;
 
 // `text` is what `solve` reads; `ask(text)` answers what it prints, and `describe(words, text)` what a report on it prints, where there is one.
 export function openGraphDialog(text, ask, describe = null) {
     // What was said is no word on a graph that was changed since.
-    const changed = () => replace(line, hint('changed since: Solve asks again'));
+    const changed = () => {
+        replace(line, hint('changed since: Solve asks again'));
+        paper.hidden = true;
+    };
     const {problem, input, lines, given} = readGraph(text), nodes = areaOf('graph: one line for each passive node', lines, changed),
                                   areas = input === null
         ? [nodes]
         : [nodes, areaOf('what is given: one line for each active node', given.map(row => row.join(' ')), changed)];
     const rowsOf = area => filledRows(area.value), textsOf = area => rowsOf(area).map(row => row.text);
     const now = () => graphInput(problem, textsOf(nodes), input, areas[1] ? textsOf(areas[1]) : []);
-    const line = element('p', {role: 'status', 'aria-label': 'what solve says'}), box = element('div.picture', {});
+    const line = element('p', {role: 'status', 'aria-label': 'what solve says'}), box = element('div.picture', {}),
+          paper = element('div.paper', {hidden: true, tabIndex: 0, role: 'group', 'aria-label': 'the report on the graph'});
     // A fault at a line of the text that was sent is shown at the line that stands here: {area, line, text}.
     const faultOf = said => {
         const first = now().split('\n').indexOf('== graph') + 1, sent = faultLine(said) - first - 1, count = rowsOf(nodes).length;
@@ -51,23 +56,32 @@ export function openGraphDialog(text, ask, describe = null) {
                 areas[1].node),
         element('footer', {}, button('Solve', draw, {class: 'primary'}),
             button('Copy problem and graph', event => copy(now(), event.currentTarget)),
-            button('Download', () => download('graph.txt', now())), describe && reportButtons(words => describe(words, now())),
+            button('Download', () => download('graph.txt', now())), describe && reportButtons(describe, now, paper),
             button(
                 'Copy the command', event => copy('explore solve < graph.txt', event.currentTarget), {title: 'explore solve < graph.txt'}),
-            pictureButtons('the graph', () => 'graph', () => box.querySelector('svg'))));
+            pictureButtons('the graph', () => 'graph', () => box.querySelector('svg'))),
+        paper);
     draw();
 }
 
-// Copies of the report on a graph; what the program says where it writes none.
-function reportButtons(describe) {
-    const copyReport = (text, words, title) => button(text, async event => {
-        const from = event.currentTarget, {status, text: said} = await describe(words).catch(error => ({text: error.message}));
-        if (status === 0) copy(said, from);
-        else say(`explore ${words.join(' ')}: ${said.trim().split('\n', 1)[0]}`, true);
+// The report on the graph that stands there by `now()`, to be read in `paper` or copied; what the program says where it writes none.
+function reportButtons(describe, now, paper) {
+    const read = said => {
+        replace(paper, reportNodes(said));
+        paper.hidden = false;
+        intoView(paper, 'start');
+    };
+    const act = (text, words, title, take) => button(text, async event => {
+        const from = event.currentTarget, asked = now(), answer = await describe(words, asked).catch(error => ({text: error.message}));
+        // It is no report on a graph that was changed since.
+        if (asked !== now()) return;
+        if (answer.status === 0) take(answer.text, from);
+        else say(`explore ${words.join(' ')}: ${answer.text.trim().split('\n', 1)[0]}`, true);
     }, {title});
+    const plain = 'explore describe, of the problem and the graph';
     return [
-        copyReport('Copy its report', ['describe'], 'explore describe, of the problem and the graph'),
-        copyReport('Copy its report for LaTeX', ['describe', 'latex'], 'explore describe latex, of the problem and the graph')
+        act('Read its report', ['describe'], plain, read), act('Copy its report', ['describe'], plain, copy),
+        act('Copy its report for LaTeX', ['describe', 'latex'], 'explore describe latex, of the problem and the graph', copy)
     ];
 }
 

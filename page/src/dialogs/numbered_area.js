@@ -58,7 +58,11 @@ export class NumberedArea {
         this.numbered = count;
         this.node.classList.toggle('faulty', fault > 0);
         this.node.style.setProperty('--fault', fault);
-        if (fault > 0 && count > this.text.rows)
-            this.text.scrollTop = this.gutter.scrollTop = Math.max(0, (fault - 4) * parseFloat(getComputedStyle(this.text).lineHeight));
+        if (fault > 0 && count > this.text.rows) this.show(fault - 3);
+    }
+
+    // Scrolls to a line: it is the first one that is seen, if so many stand behind it.
+    show(line) {
+        this.text.scrollTop = this.gutter.scrollTop = Math.max(0, (line - 1) * parseFloat(getComputedStyle(this.text).lineHeight));
     }
 }

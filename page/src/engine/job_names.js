@@ -15,6 +15,7 @@ const JOB_NAMES = {
     'why': 'asking why it is refused',
     'describe': 'writing the report',
     'given': 'judging the bound with what is given',
+    'judge': 'judging evidence',
     'fit': 'asking for 0 rounds with what is given',
     'product': 'making the product',
     'solve': 'solving a graph',

@@ -3,7 +3,8 @@ import {$, button, download, element, faulty, plural, replace} from '../views/do
 import {askDialog} from '../dialogs/dialogs.js';
 import {openEvidenceDialog} from '../dialogs/evidence_dialog.js';
 import {say} from '../views/messages.js';
-import {faultLine, isEvidence} from '../texts/certificates.js';
+import {faultLine} from '../texts/certificates.js';
+import {isEvidence, partsOfEvidence, refusedPart} from '../texts/evidence.js';
 import {titleOf} from '../cards/chains.js';
 import {isGraphText, readGraph} from '../texts/graphs.js';
 import {inputOfKind, isOfItsKind} from '../engine/input_kinds.js';
@@ -87,15 +88,15 @@ export class Sessions {
         return null;
     }
 
-    // A problem and a graph, as `explore cover` prints them: the problem becomes a card, with what it is given, and the graph is drawn.
     // Evidence adds no card: it is shown with what the program says of it, once the window where it was opened is closed.
     async openEvidence(text) {
         const judged = await this.engine.ask('explore', ['judge'], text);
-        if (judged.status > 1) return {fault: judged.text.trim(), line: faultLine(judged.text)};
-        setTimeout(() => openEvidenceDialog(text, judged));
+        if (judged.status > 1) return {fault: judged.text.trim(), line: refusedPart(judged.text, partsOfEvidence(text))?.line};
+        setTimeout(() => openEvidenceDialog(text, judged, (part, title) => this.openText(part, title)));
         return null;
     }
 
+    // A problem and a graph, as `explore cover` prints them: the problem becomes a card, with what it is given, and the graph is drawn.
     async openGraph(text, title) {
         const {engine, workbench} = this, {status, text: answer} = await engine.ask('explore', ['solve'], text);
         if (status > 1) return {fault: answer.trim(), line: faultLine(answer)};

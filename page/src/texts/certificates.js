@@ -1,9 +1,6 @@
 // Certificate texts: cut into their sections, and written. Only `re check` judges them.
 import {filledLines, itemsOf, labelsIn, placesOf, setKey, setText} from './texts.js';
 
-// Parts that show something together, as `explore judge` reads them.
-export const isEvidence = text => /^=====[ \t\r]*$/m.test(text);
-
 export const isCertificate = text => /^\s*==\s+certificate\b/.test(text.slice(0, 2000));
 
 // The sections of a text: {word, rest, lines}.

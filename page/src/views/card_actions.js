@@ -46,7 +46,7 @@ function moreMenu(bench, card, view) {
             act('Copy for LaTeX', event => bench.copyLatex(card, event.currentTarget), 'the constraints of this card for a paper', 'l'),
             bench.words.has('describe') &&
                 button('Copy its report for LaTeX', event => bench.copyReport(card, event.currentTarget),
-                    {title: 'explore describe latex, of the problem of this card'}),
+                    {title: 'explore describe latex, of the problem of this card, with what is given at it'}),
             copyGiven, button('Download', () => bench.downloadProblem(card, view.fileName)),
             card.kind === 'first' &&
                 button('Name…', () => bench.nameChain(view.card), {title: 'the name of the problem, in the list, the title and the files'}),

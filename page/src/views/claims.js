@@ -7,8 +7,14 @@ export function modelOf(line) {
     return /given that input/.test(line) ? 'with port numbers and that input' : 'with port numbers alone';
 }
 
-// The same with the class of algorithms and of graphs: beside a verdict.
-export const scopeOf = line => modelOf(line) && `${modelOf(line)}, by deterministic algorithms on infinite trees`;
+// The same with the class of algorithms and of graphs: beside a verdict, and beside each line that `judge` says of evidence.
+const ON_TREES = 'by deterministic algorithms on infinite trees';
+export function scopeOf(line) {
+    if (/^holds: with identifiers: /.test(line)) return 'by deterministic algorithms with identifiers below N on finite forests of N nodes';
+    if (/^holds: .* with port numbers alone$/.test(line)) return ON_TREES;
+    const model = /^holds: (?:exactly|more than|at most) /.test(line) ? 'with port numbers alone' : modelOf(line);
+    return model && `${model}, ${ON_TREES}`;
+}
 
 // The text of a line: of `1 rounds` the last letter stands there to be copied, and isn't seen.
 export const lineText = line => line.split(/(\b1 rounds\b)/)

@@ -107,11 +107,9 @@ export class ReportView {
     }
 
     draw() {
-        const {verdict} = this, blocks = blocksOfReport(this.whole);
         replace(this.content,
-            verdict.certificate ? null : hint('This chain is neither a lower nor an upper bound: the report is of its first problem.'),
-            blocks.slice(0, MOST_BLOCKS).map(blockNode),
-            blocks.length > MOST_BLOCKS ? hint('Cut here: Copy and Download give all.') : null);
+            this.verdict.certificate ? null : hint('This chain is neither a lower nor an upper bound: the report is of its first problem.'),
+            reportNodes(this.whole));
     }
 
     // Everything that the paper shows is drawn first.
@@ -131,6 +129,14 @@ export class ReportView {
             views.forEach((view, i) => view.open(open[i]));
         }
     }
+}
+
+// What is seen of a report, up to so many blocks.
+export function reportNodes(markdown) {
+    const blocks = blocksOfReport(markdown);
+    return [
+        blocks.slice(0, MOST_BLOCKS).map(blockNode), blocks.length > MOST_BLOCKS ? hint('Cut here: Copy and Download give all.') : null
+    ];
 }
 
 const PART_NODES = {

@@ -75,6 +75,8 @@ export const besideSessions = {
             `document.querySelector('dialog .state').textContent !== 'asking…' && document.querySelector('dialog .state').textContent`);
         await page.click('dialog footer button', 'Copy');
         const condensed = await user.copied();
+        if (explored.has('condense given'))
+            checks.equal('what explore condense gives of both', condensed, natively('explore', ['condense'], whole).text);
         checks.equal('condensed, it is judged again', natively('explore', ['given'], condensed).text.split('\n', 1)[0], lines[1]);
         await page.key('Escape');
         // It comes back as it was, with the name of what is given.

@@ -30,6 +30,19 @@ export const failuresSessions = {
         await user.says('accepted: not solvable in 1 or fewer rounds');
     },
 
+    async 'a browser that can not unpack says so'(user, page, checks) {
+        const {identifier} = await page.ask('Page.addScriptToEvaluateOnNewDocument', {source: 'delete window.DecompressionStream'});
+        const told = page.events.length;
+        await page.ask('Page.reload');
+        const said = await page.until(`document.querySelector('p[role=alert]')?.textContent`);
+        checks.equal('it says why', said, "The page can't start: DecompressionStream is not defined");
+        await page.ask('Page.removeScriptToEvaluateOnNewDocument', {identifier});
+        // The fault in the console is the one that was made here.
+        const isFault = ({method}) => method === 'Runtime.exceptionThrown', made = page.events.splice(told);
+        checks.equal('it is told once in the console', made.filter(isFault).length, 1);
+        page.events.push(...made.filter(event => !isFault(event)));
+    },
+
     async 'impatient clicks and keys'(user, page, checks) {
         await user.openProblem(...MIS);
         await page.value(

@@ -3,7 +3,7 @@ import {readFileSync} from 'fs';
 import {join} from 'path';
 import {latexOf} from '../../src/texts/texts.js';
 import {answer, natively, pageFolder} from '../place.mjs';
-import {explored} from '../teaching.mjs';
+import {explored, teach} from '../teaching.mjs';
 import {cardsAre, drawn, MIS} from '../user.mjs';
 
 const hueOf = selector => `(() => { const [r, g, b] = getComputedStyle(document.querySelector('${
@@ -99,6 +99,37 @@ export const seeingSessions = {
             const file = await page.until('saved.length && saved.pop()');
             checks.check(`that of the ${side} side`, file.startsWith('<svg') && file.includes(`<title>${side} diagram: `));
         }
+    },
+
+    async 'the report of the card in hand has what is given'(user, page, checks) {
+        if (!explored.has('given') || !explored.has('describe')) return;
+        await user.openProblem('O [IO]^2', 'I O');
+        await user.step(2);
+        const alone = await page.value(`bench.facts.of(bench.cards.path()[1].problem).written().then(({text}) => text)`);
+        await page.choose('#given-kind', 'an orientation');
+        await page.until(`bench.cards.path()[0].given`);
+        await user.watchCopies();
+        const message = `document.querySelector('#message').textContent`, copyReport = async () => {
+            await page.click('.card.last .menu summary');
+            await page.click('.card.last .menu button', 'Copy its report for LaTeX');
+        };
+        const given = await page.value(`bench.given.at(bench.cards.path(), bench.cards.path()[1])`),
+              whole = `${alone.trimEnd()}\n== given\n${given}`, ofProgram = text => natively('explore', ['describe', 'latex'], text);
+        await copyReport();
+        checks.equal('as far as the program reads it', await user.copied(), ofProgram(explored.has('describe given') ? whole : alone).text);
+        await teach(page, {'describe latex': [0, 'a report\n']}, ['describe given']);
+        await copyReport();
+        checks.equal('the report', await user.copied(), 'a report\n');
+        checks.equal('of the problem and what is given at it',
+            await page.value(`sent.filter(([words]) => words === 'describe latex').map(([, text]) => text)`), [whole]);
+        // Where the program refuses that, the report is that of the problem alone, and it says so.
+        await page.value(`(() => { const ask = engine.ask.bind(engine);
+            engine.ask = (program, words, input, ...rest) => words[0] !== 'describe' ? ask(program, words, input, ...rest)
+                : Promise.resolve(input.includes('== given') ? {status: 4, text: 'limit: more than 128 labels\\n'} : {status: 0, text: 'alone'}); })()`);
+        await copyReport();
+        checks.equal('of the problem alone', await user.copied(), 'alone');
+        checks.equal(
+            'it says so', await page.value(message), 'explore describe latex: limit: more than 128 labels. Copied without what is given.');
     },
 
     async 'the paper has what is closed on the page'(user, page, checks) {

@@ -1,9 +1,10 @@
 // What is known of a problem: `settle` and the commands that show it, graphs without a solution, the catalogue, merges in a first
 // problem. Words that the program doesn't have yet are answered here in its place, so that the page is tested before it has them.
 import {catalogueLine} from '../../src/texts/catalogue.js';
+import {claimsBeyond, partsOfEvidence, refusedPart} from '../../src/texts/evidence.js';
 import {modelOf} from '../../src/views/claims.js';
 import {answer, catalogueTables, claimsOfLine, linesOfTable, natively} from '../place.mjs';
-import {explored, teach, teachMissing} from '../teaching.mjs';
+import {explored, hold, isHeld, letGo, teach, teachMissing} from '../teaching.mjs';
 import {cardsAre, MIS} from '../user.mjs';
 
 const quoted = value => JSON.stringify(value);
@@ -45,6 +46,23 @@ export const settlingSessions = {
         await page.click('dialog footer button', 'Copy its report');
         checks.equal('its report', await user.copied(), '# Report on a graph\n');
         checks.equal('of the problem and the graph', await page.value(`sent.find(([words]) => words === 'describe')[1]`), text);
+        const paper =
+            `(node => node.hidden ? null : [...node.children].map(child => [child.tagName, child.textContent]))(document.querySelector('dialog .paper'))`;
+        checks.equal('nothing is read yet', await page.value(paper), null);
+        await page.click('dialog footer button', 'Read its report');
+        checks.equal('read in the window', await page.until(paper), [['H3', 'Report on a graph']]);
+        checks.check('which is seen',
+            await page.until(
+                `(box => box.top < innerHeight && box.bottom > 0)(document.querySelector('dialog .paper').getBoundingClientRect())`));
+        await page.fill('dialog textarea', MIS_GRAPH.split('\n').reverse().join('\n'));
+        checks.equal('no word on a graph that was changed since', await page.value(paper), null);
+        // One that comes late is on the graph as it was.
+        await hold(page, ['describe']);
+        await page.click('dialog footer button', 'Read its report');
+        await isHeld(page);
+        await page.fill('dialog textarea', MIS_GRAPH);
+        await letGo(page);
+        checks.equal('nor a late one', await page.value(paper), null);
         await page.click('dialog footer button', 'Copy its report for LaTeX');
         checks.equal('what the program says',
             await page.until(
@@ -126,9 +144,8 @@ export const settlingSessions = {
 
     async 'evidence leaves whole'(user, page, checks) {
         const buttons = `[...document.querySelectorAll('.card.last .note .evidence')].map(button => button.title.split(':')[0])`,
-              claim = 'not solvable in any number of rounds with port numbers alone',
-              parts = `${answer(['read'], MIS.join('\n\n'))}== graph\n${MIS_GRAPH}\n=====\n${
-                  answer(['read'], MIS.join('\n\n'))}== greedy\n..\n`,
+              claim = 'not solvable in any number of rounds with port numbers alone', problem = answer(['read'], MIS.join('\n\n')),
+              graph = `${problem}== graph\n${MIS_GRAPH}\n`, parts = `${graph}=====\n${problem}== greedy\npassive\nM\n`,
               holds = [`holds: ${claim}`, 'holds: with identifiers: order log* N'];
         const answered = `${claim}\nby: explore cover 3\nwith identifiers: order log* N\nby: explore greedy\n`;
         await teach(page, {settle: [0, answered]});
@@ -144,42 +161,148 @@ export const settlingSessions = {
         await page.click('.card.last .note .evidence');
         await page.until(`document.querySelector('dialog textarea')`);
         checks.equal('what was sent: the problem, and the whole text to be judged',
-            await page.value(`['evidence', 'judge'].map(word => sent.find(([words]) => words === word)[1])`),
-            [answer(['read'], MIS.join('\n\n')), parts]);
-        checks.equal('each line that was said',
+            await page.value(`['evidence', 'judge'].map(word => sent.find(([words]) => words === word)[1])`), [problem, parts]);
+        checks.equal('each line that was said, with its model',
             await page.value(
-                `[...document.querySelectorAll('dialog .line')].map(node => [node.textContent, node.classList.contains('good')])`),
-            holds.map(line => [line, true]));
+                `[...document.querySelectorAll('dialog p')].map(node => [node.textContent, node.querySelector('.line').classList.contains('good')])`),
+            [
+                [`${holds[0]} by deterministic algorithms on infinite trees`, true],
+                [`${holds[1]} by deterministic algorithms with identifiers below N on finite forests of N nodes`, true]
+            ]);
         checks.equal('the command', await page.value(`document.querySelector('dialog .code').textContent`), 'explore judge < evidence.txt');
+        const listed = `[...document.querySelectorAll('dialog .parts li')].map(node => [node.textContent.trim(), node.matches('.faulty')])`,
+              [last, end] = [graph, parts].map(text => text.trimEnd().split('\n').length);
+        checks.equal('its parts', await page.value(listed), [
+            [`a graph lines 1 to ${last} See it Open it`, false],
+            [`labels for one node after another lines ${last + 2} to ${end} See it`, false]
+        ]);
         await user.watchCopies();
         await page.click('dialog footer button', 'Copy');
         checks.equal('the text', await user.copied(), parts);
         await page.click('dialog button', 'Copy the command');
         checks.equal('and its command', await user.copied(), 'explore judge < evidence.txt');
-        await page.key('Escape');
+        // Each part is seen in the text, which is higher than its window.
+        await page.value(`document.querySelector('dialog textarea').rows = 3`);
+        const top =
+            `document.querySelector('dialog textarea').scrollTop / parseFloat(getComputedStyle(document.querySelector('dialog textarea')).lineHeight)`;
+        await page.click('dialog .parts button[aria-label="see part 2 in the text"]');
+        checks.equal('its first line is at the top', Math.round(await page.value(top)), last + 1);
+        await page.click('dialog .parts button[aria-label="see part 1 in the text"]');
+        checks.equal('and back', await page.value(top), 0);
+        // A part is opened as it is.
+        await page.value('sent.length = 0');
+        await page.click('dialog .parts button', 'Open it');
+        await page.until(`bench.cards.cards.length === 2 && document.querySelector('dialog svg.graph')`);
+        checks.equal('the graph, as solve reads it', await page.value(`sent.find(([words]) => words === 'solve')[1]`), graph);
+        await page.click('dialog button.close');
         await page.until(`!document.querySelector('dialog')`);
+        await page.click('#undo');
+        await page.until(cardsAre(1));
         // The same text opened.
         await user.openText(parts);
         await page.until(`document.querySelectorAll('dialog').length === 1 && document.querySelector('dialog .line')`);
         checks.equal('opened, it is judged', await page.value(`document.querySelector('dialog .line').textContent`), holds[0]);
         await page.key('Escape');
         await page.until(`!document.querySelector('dialog')`);
-        await teach(page, {judge: [3, 'input: line 4: not a list of items\n']});
-        await user.openText(`${parts}=====\n`);
+        await teach(page, {judge: [3, 'part 2: input: line 4: not a list of items\n']});
+        await user.openText(parts);
         checks.equal('a fault stands in the window where it was opened',
-            await page.until(`document.querySelector('dialog .state .faulty')?.textContent`), 'input: line 4: not a list of items');
-        checks.equal('at its line', await page.value(`document.querySelector('dialog .area').style.getPropertyValue('--fault')`), '4');
+            await page.until(`document.querySelector('dialog .state .faulty')?.textContent`), 'part 2: input: line 4: not a list of items');
+        const marked = `document.querySelector('dialog .area').style.getPropertyValue('--fault')`;
+        checks.equal('at its line of the whole text', await page.value(marked), String(last + 1 + 4));
         await page.key('Escape');
         await page.until(`!document.querySelector('dialog')`);
-        // Refused, and where there is no text.
-        await teach(page, {evidence: [0, parts], judge: [1, 'part 2: not greedy\n']});
+        // One part that judge alone reads.
+        await teach(page, {judge: [0, 'holds: with identifiers: at most order log N\n']});
+        const flexible = `${problem}== flexible\nM P\n`;
+        await user.openText(flexible);
+        await page.until(`document.querySelectorAll('dialog').length === 1 && document.querySelector('dialog .parts')`);
+        checks.equal('a part alone',
+            [await page.value(`sent.at(-1)`), await page.value(`document.querySelectorAll('dialog .parts li').length`)],
+            [['judge', flexible], 1]);
+        await page.key('Escape');
+        await page.until(`!document.querySelector('dialog')`);
+        // Refused, where nothing follows, and where there is no text.
+        await teach(page, {evidence: [0, parts], judge: [1, 'part 2: no: not greedy with these multisets\n']});
         await page.click('.card.last .note .evidence');
-        checks.equal('a refused one', await page.until(`document.querySelector('dialog .faulty.line')?.textContent`), 'part 2: not greedy');
+        checks.equal('a refused one', await page.until(`document.querySelector('dialog .faulty.line')?.textContent`),
+            'part 2: no: not greedy with these multisets');
+        checks.equal('its part is told', (await page.value(listed))[1],
+            [`labels for one node after another refused, lines ${last + 2} to ${end} See it`, true]);
+        checks.equal('and stands in the text', await page.value(marked), String(last + 2));
         await page.key('Escape');
         await page.until(`!document.querySelector('dialog')`);
+        // In a low window, as one of 200 percent, the lines are seen first.
+        await page.ask('Emulation.setDeviceMetricsOverride', {width: 640, height: 400, deviceScaleFactor: 2, mobile: false});
+        await teach(page, {judge: [0, `${holds.join('\n')}\n`]});
+        await page.click('.card.last .note .evidence');
+        const places = await page.until(
+            `document.querySelector('dialog .parts') && [...document.querySelectorAll('dialog .line')].map(node => node.getBoundingClientRect()).map(({top, bottom}) => [top, bottom])`);
+        checks.check(`in sight: ${places}`, places.length === 2 && places.flat().every(at => at >= 0 && at <= 400));
+        await page.key('Escape');
+        await page.until(`!document.querySelector('dialog')`);
+        await page.ask('Emulation.setDeviceMetricsOverride', {width: 1366, height: 900, deviceScaleFactor: 1, mobile: false});
+        await teach(page, {judge: [0, `${holds[0]}\n`]});
+        await page.click('.card.last .note .evidence');
+        checks.check('what no part shows',
+            (await page.until(`document.querySelector('dialog [role=status]')?.textContent`))
+                .includes('Settle says more than these parts show: with identifiers: order log* N.'));
+        await page.key('Escape');
+        await page.until(`!document.querySelector('dialog')`);
+        await teach(page, {judge: [0, 'nothing follows\n']});
+        await page.click('.card.last .note .evidence');
+        checks.equal('where nothing follows that isn\'t said in green',
+            await page.until(
+                `(node => node && [node.textContent, node.classList.contains('good'), node.classList.contains('faulty')])(document.querySelector('dialog .line'))`),
+            ['nothing follows', false, false]);
+        await page.key('Escape');
+        await page.until(`!document.querySelector('dialog')`);
+        await teach(page, {evidence: [1, 'nothing to show\n']});
+        await page.click('.card.last .note .evidence');
+        await page.until(`${note}.startsWith('evidence problem 0: nothing to show')`);
         await teach(page, {evidence: [4, 'limit: more than 16777216 bytes\n']});
         await page.click('.card.last .note .evidence');
         await page.until(`${note}.startsWith('evidence problem 0: limit: more than 16777216 bytes')`);
+    },
+
+    async 'evidence of the program'(user, page, checks, picture) {
+        if (!explored.has('evidence') || !explored.has('judge')) return;
+        const lines = `[...document.querySelectorAll('dialog .line')].map(node => node.textContent)`;
+        await user.watchCopies();
+        for (const [active, passive] of [['O [IO]^2', 'I O'], MIS, ['1^3\n2^3\n3^3', '1 2\n1 3\n2 3'], ['A B', 'A B']]) {
+            await user.openProblem(active, passive);
+            await user.act('Settle');
+            await page.until(`document.querySelector('.card.last .note .evidence')`);
+            const problem = await user.problem(), {status, text} = natively('explore', ['evidence'], problem),
+                  judged = natively('explore', ['judge'], text);
+            checks.equal(`${active}: what the native programs say`, [status, judged.status], [0, 0]);
+            await page.click('.card.last .note .evidence');
+            await page.until(`document.querySelector('dialog .parts')`);
+            if (active === MIS[0]) await picture('evidence', 'dialog');
+            checks.equal('the lines of judge', await page.value(lines), judged.text.trimEnd().split('\n'));
+            const beyond = claimsBeyond(natively('explore', ['settle'], problem).text, judged.text);
+            checks.equal('what no part shows',
+                await page.value(`document.querySelector('dialog [role=status]').textContent.includes('Settle says more')`),
+                beyond.length > 0);
+            await page.click('dialog footer button', 'Copy');
+            checks.check('the text that was judged', await user.copied() === text);
+            // Each part that is opened is what the word for it judges.
+            const parts = partsOfEvidence(text);
+            checks.equal('its parts', await page.value(`document.querySelectorAll('dialog .parts li').length`), parts.length);
+            checks.check('no part that is unknown', parts.every(({holds}) => !holds.startsWith('no part')));
+            await page.key('Escape');
+            await page.until(`!document.querySelector('dialog')`);
+            // A last line that lacks is a fault of the last part, at its line.
+            const damaged = text.trimEnd().split('\n').slice(0, -1).join('\n'), refused = natively('explore', ['judge'], damaged);
+            if (refused.status < 2) continue;
+            await user.openText(damaged);
+            checks.equal('a fault', await page.until(`document.querySelector('dialog .state .faulty')?.textContent`), refused.text.trim());
+            const {line} = refusedPart(refused.text, partsOfEvidence(damaged));
+            checks.equal(
+                'at its line', await page.value(`document.querySelector('dialog .area').style.getPropertyValue('--fault')`), String(line));
+            await page.key('Escape');
+            await page.until(`!document.querySelector('dialog')`);
+        }
     },
 
     async 'graphs of many forms are drawn'(user, page, checks) {

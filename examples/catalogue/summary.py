@@ -60,10 +60,11 @@ bounds, of 4 labels on paths about 27,000 that say *exactly*, of which 240 drawn
 Bounds that no words find stand in `certificates.tar.xz`, and `certificates.py` puts them into the table. An upper one
 goes from a derived problem to a solved problem that is enough for it (`explore bridge`), or to sets of its labels at
 the ports of few nodes; a lower one to a problem that it solves in 0 hops, and at the last step to sets without a
-choice. Of the 18 `bounds.py` makes three again, each in 3 seconds: the upper bounds of 1782 and 4019, by a problem that
-has fewer configurations, and the lower one of 4829. `hops.py` makes three more, in 10 to 30 seconds, with a SAT solver
-that tells of 1, 2 or 3 hops of a derived problem: the lower bound of 7144 and the upper ones of 4828 and 5368. The
-programs that found the other 12 aren't held.
+choice. Of the 23 `bounds.py` makes three again, each in 3 seconds: the upper bounds of 1782 and 4019, by a problem that
+has fewer configurations, and the lower one of 4829. `hops.py` makes ten, with a SAT solver (cadical) that tells of 1, 2
+or 3 hops of a derived problem, each in at most two minutes: the lower bounds of 1826, 2658, 6138, 7144 and 7145, the
+upper ones of 4828 and 5368, and longer ones as good for 4333, 4621 and 7254. The lower one of 6099 is of the same
+search, in more time. The programs that found the other 9 aren't held.
 
 Given an input problem (`both`, an orientation by which edges lead into each active node and out of it; two `sides`; a
 colouring of the `edges`; a proper `colouring` with 4 colours), `explore settle` answers, or `explore given` of the

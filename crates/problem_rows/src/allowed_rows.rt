@@ -1,8 +1,7 @@
 //! Allowed multisets of sets.
 use crate::tables::triples;
-use re_labels::LabelSet;
+use re_labels::{Constraint, LabelSet};
 use re_step::allowed;
-use re_table::Constraint;
 use std::alloc::{AllocError, Global};
 
 fn sets_of(alloc: Global, numbers: &[u128]) -> Result<Vec<LabelSet>, AllocError> {

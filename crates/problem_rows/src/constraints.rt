@@ -2,8 +2,7 @@
 ghost use Rattle.std.specs.Prelude.{◌≡◌, ◌<◌};
 
 use crate::tables::{pairs, row_of};
-use re_labels::{Config, LabelSet, MAX_LABELS, Row};
-use re_table::Constraint;
+use re_labels::{Config, Constraint, LabelSet, MAX_LABELS, Row};
 use std::alloc::Global;
 
 // Whether the configuration at this place has these labels.

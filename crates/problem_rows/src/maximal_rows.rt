@@ -3,8 +3,7 @@ ghost use Rattle.std.specs.Prelude.{◌≡◌, length};
 
 use crate::tables::{pairs, row_of};
 use re_check::are_maximal_rows;
-use re_labels::{Config, Row};
-use re_table::{Constraint, InsertFault};
+use re_labels::{Config, Constraint, InsertFault, Row};
 use std::alloc::{AllocError, Global};
 
 // Adds the row of the sets with these numbers, if they make a row.

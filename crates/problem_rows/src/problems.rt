@@ -1,9 +1,8 @@
 //! Problems built by hand.
 ghost use Rattle.std.specs.Prelude.{◌<◌};
 
-use re_labels::{Config, MAX_LABELS, Name, Names, NamesFault, NoMemory};
+use re_labels::{Config, Constraint, MAX_LABELS, Name, Names, NamesFault, NoMemory};
 use re_problem::{Problem, print_problem};
-use re_table::Constraint;
 use std::alloc::Global;
 
 fn of_one(alloc: Global, label: u8) -> Result<Constraint, NoMemory>

@@ -1,8 +1,7 @@
 //! Constraints, sets and rows, by numbers.
 ghost use Rattle.std.specs.Prelude.{◌≡◌, IfOk};
 
-use re_labels::{Config, LabelSet, Row};
-use re_table::{Constraint, InsertFault};
+use re_labels::{Config, Constraint, InsertFault, LabelSet, Row};
 use std::alloc::Global;
 
 // The constraint of the configurations of these two labels each, taken below 128.

@@ -14,12 +14,12 @@ use Rattle.re_labels.specs.Rows.{choices, in_order, is_full, row_of, singles}
 use Rattle.re_labels.proofs.Membership.{AllByRecursion-contains, any-In_from}
 use Rattle.re_labels.specs.PortLabels.{port_labels}
 use Rattle.re_labels.specs.Sets.{IsIn, IsLabelSet, number}
-use Rattle.re_table.proofs.Goodness.{filled-is_full, has_config-Has, is_full-filled}
-use Rattle.re_table.specs.Constraints.{Constraint, IsConstraint, has_config}
+use Rattle.re_labels.proofs.Goodness.{filled-is_full, has_config-Has, is_full-filled}
+use Rattle.re_labels.specs.Constraints.{Constraint, IsConstraint, has_config}
 use Rattle.std.proofs.lemmas.Bool.Decides.{nat_tests}
-use Rattle.re_table.specs.GoodRows.{is_allowed}
+use Rattle.re_labels.specs.GoodRows.{is_allowed}
 use Rattle.re_algo.proofs.Drawing.{chosen_some, first_passing}
-use Rattle.re_table.proofs.SetsInOrder.{AreSets, in_order-allowed, in_order-length}
+use Rattle.re_labels.proofs.SetsInOrder.{AreSets, in_order-allowed, in_order-length}
 use Rattle.re_labels.specs.declared.TheConstants.{MAX_LABELS}
 
 -- ---- tests of some choice

@@ -16,9 +16,9 @@ use Rattle.re_laws.specs.Algorithms.{Plain, Solves, around, at_port, back_at, sa
 use Rattle.re_laws.specs.Fast.{seen, seen_row}
 use Rattle.re_problem.proofs.FedLines.{unnot}
 use Rattle.re_problem.specs.Problems.{IsProblem, Problem}
-use Rattle.re_table.proofs.Goodness.{IsGood-is_good, has_config-Has, is_good-IsGood}
-use Rattle.re_table.specs.Constraints.{Constraint, Has, IsConstraint, has_config}
-use Rattle.re_table.specs.GoodRows.{IsGood, is_good}
+use Rattle.re_labels.proofs.Goodness.{IsGood-is_good, has_config-Has, is_good-IsGood}
+use Rattle.re_labels.specs.Constraints.{Constraint, Has, IsConstraint, has_config}
+use Rattle.re_labels.specs.GoodRows.{IsGood, is_good}
 use Rattle.re_laws.proofs.AllViewsLemmas.{all_views-IsView}
 use Rattle.re_laws.specs.AllViews.{all_views}
 use Rattle.re_laws.specs.Trees.{IsView, leaf, shift}

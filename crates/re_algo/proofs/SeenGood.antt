@@ -22,8 +22,8 @@ use Rattle.re_laws.proofs.ZeroRounds.{IsTree-star, backs-star, star}
 use Rattle.re_laws.specs.Algorithms.{Plain, around, at_port, back_at, same_view}
 use Rattle.re_laws.specs.Fast.{seen, seen_row}
 use Rattle.re_problem.specs.Problems.{IsProblem, Problem}
-use Rattle.re_table.specs.Constraints.{Has}
-use Rattle.re_table.specs.GoodRows.{IsGood}
+use Rattle.re_labels.specs.Constraints.{Has}
+use Rattle.re_labels.specs.GoodRows.{IsGood}
 use Rattle.re_laws.proofs.AllViewsLemmas.{Contains-all_views, all_views-IsView}
 use Rattle.re_laws.proofs.JoinedBranches.{IsView-branchwise, back-shift, backs-child, child_at-branchwise, joined, shift-branchwise}
 use Rattle.re_laws.proofs.ViewLaws.{IsChild, IsTree-cut, IsView-pad, IsView-shift, child_of, cut-pad, shift-shift}

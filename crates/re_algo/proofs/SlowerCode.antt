@@ -20,9 +20,9 @@ use Rattle.re_algo.specs.declared.counting.TheConstants.{MAX_VIEWS}
 use Rattle.re_problem.proofs.DerivedProblem.{IsUpper-derived}
 use Rattle.re_problem.specs.Derived.{derived}
 use Rattle.re_problem.specs.Problems.{IsProblem, Problem}
-use Rattle.re_table.proofs.Goodness.{Has-has_config}
-use Rattle.re_table.specs.Constraints.{Constraint, has_config}
-use Rattle.re_table.specs.GoodRows.{max_sets}
+use Rattle.re_labels.proofs.Goodness.{Has-has_config}
+use Rattle.re_labels.specs.Constraints.{Constraint, has_config}
+use Rattle.re_labels.specs.GoodRows.{max_sets}
 use Rattle.re_laws.proofs.AllViewsLemmas.{all_views-IsView}
 use Rattle.re_laws.specs.AllViews.{all_views}
 use Rattle.re_laws.specs.Trees.{IsView}

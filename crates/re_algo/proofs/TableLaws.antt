@@ -15,8 +15,8 @@ use Rattle.re_problem.proofs.FedLines.{unnot}
 use Rattle.re_problem.proofs.ZeroPlaces.{none-fails}
 use Rattle.re_problem.proofs.FirstPlaces.{position-absent}
 use Rattle.re_problem.specs.Problems.{Problem}
-use Rattle.re_table.proofs.Goodness.{Has-has_config, has_config-Has}
-use Rattle.re_table.specs.Constraints.{Has, has_config}
+use Rattle.re_labels.proofs.Goodness.{Has-has_config, has_config-Has}
+use Rattle.re_labels.specs.Constraints.{Has, has_config}
 use Rattle.re_algo.proofs.Places.{tree_at}
 use Rattle.re_algo.specs.Counting.{view_place}
 use Rattle.re_laws.proofs.AllViewsLemmas.{Contains-all_views, Distinct-all_views, all_views-IsView}

@@ -4,7 +4,7 @@ use Rattle.std.specs.List.{list_any}
 use Rattle.re_labels.specs.Rows.{choices, set_at}
 use Rattle.re_laws.specs.Algorithms.{Plain, around, at_port, back_at}
 use Rattle.re_laws.specs.Trees.{IsView, shift}
-use Rattle.re_table.specs.Constraints.{Constraint, has_config}
+use Rattle.re_labels.specs.Constraints.{Constraint, has_config}
 use Rattle.re_algo.specs.Tables.{AnswerTable, given}
 
 -- the label that the answer of the neighbour on a port gives to the edge

@@ -2,7 +2,7 @@
 use Rattle.std.specs.Prelude.{◌≡◌, ℕ, Bool, true, false, List, ◌++◌, find, Option, None, Some}
 use Rattle.std.specs.List.{list_any}
 use Rattle.re_labels.specs.Rows.{choices}
-use Rattle.re_table.specs.Constraints.{Constraint, has_config}
+use Rattle.re_labels.specs.Constraints.{Constraint, has_config}
 
 -- whether the drawn labels and some choice of one label of each set are a configuration
 abbrev pub begins : Constraint → List ℕ → List (List ℕ) → Bool

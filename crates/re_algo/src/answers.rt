@@ -1,10 +1,9 @@
 //! Tests of answers.
-ghost use Rattle.re_table.specs.Constraints.{has_config};
+ghost use Rattle.re_labels.specs.Constraints.{has_config};
 ghost use Rattle.std.specs.List.{list_all, position};
 ghost use Rattle.std.specs.Prelude.{◌≡◌, ◌<◌, ◌==◌, length, nat_lt, not};
 
-use re_labels::{Config, MAX_LABELS, PortLabels};
-use re_table::Constraint;
+use re_labels::{Config, Constraint, MAX_LABELS, PortLabels};
 
 // Whether each answer has so many labels.
 pub(crate) fn all_have(answers: &[PortLabels], count: u8) -> bool

@@ -3,13 +3,12 @@
 ghost use Rattle.re_algo.specs.FirstChoice.{IsDrawn, begins, first_behind};
 ghost use Rattle.re_labels.specs.Rows.{choices, singles};
 ghost use Rattle.re_labels.specs.Sets.{IsLabelSet};
-ghost use Rattle.re_table.specs.Constraints.{has_config};
+ghost use Rattle.re_labels.specs.Constraints.{has_config};
 ghost use Rattle.std.specs.List.{AllByRecursion};
 ghost use Rattle.std.specs.Prelude.{◌++◌, ◌+◌, ◌<◌, ◌≡◌, ◌≤◌, ◌∷◌, find, length};
 
 use arrayvec::ArrayVec;
-use re_labels::{LabelSet, MAX_LABELS, PortLabels, Row};
-use re_table::Constraint;
+use re_labels::{Constraint, LabelSet, MAX_LABELS, PortLabels, Row};
 
 /// The sets of one label each, and behind them the others: at most six in all.
 pub fn fixed(drawn: &[u8], others: &[LabelSet]) -> ArrayVec<LabelSet, 6>

@@ -21,11 +21,10 @@ use crate::counting::view_count;
 use crate::seen::back_of;
 use crate::sets::set_at;
 use arrayvec::ArrayVec;
-use re_labels::{LabelSet, NoMemory, PortLabels, Side};
+use re_labels::{Constraint, LabelSet, NoMemory, PortLabels, Side};
 use re_laws::{View, all_views, shift};
 use re_problem::Problem;
 use re_step::Derived;
-use re_table::Constraint;
 use std::alloc::Global;
 
 /// Why there is no table with one round more.

@@ -6,7 +6,7 @@ ghost use Rattle.re_labels.specs.Configs.{support_of};
 ghost use Rattle.re_labels.specs.Sets.{IsLabelSet};
 ghost use Rattle.re_laws.specs.Algorithms.{Solves};
 ghost use Rattle.re_problem.specs.NamedProblems.{unnamed};
-ghost use Rattle.re_table.specs.GoodRows.{is_good};
+ghost use Rattle.re_labels.specs.GoodRows.{is_good};
 ghost use Rattle.std.specs.List.{AllByRecursion, list_all};
 ghost use Rattle.std.specs.Prelude.{◌≡◌, ◌≤◌, ◌<◌, ◌↔◌, IfOk, None, length};
 
@@ -14,9 +14,8 @@ use crate::Table;
 use crate::answers::first_other;
 use crate::seen::{SeenRow, seen_rows};
 use arrayvec::ArrayVec;
-use re_labels::{Config, LabelSet, MAX_LABELS, NoMemory, PortLabels, Row};
+use re_labels::{Config, Constraint, LabelSet, MAX_LABELS, NoMemory, PortLabels, Row};
 use re_problem::Problem;
-use re_table::Constraint;
 use std::alloc::Global;
 
 /// What is found of a table: that it solves a problem, or where it first fails.

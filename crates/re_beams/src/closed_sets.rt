@@ -1,8 +1,7 @@
 //! Right-closed sets, and the good rows in which one of them stands at all places but one.
 use crate::patterns::Pattern;
 use re_boxes::up_sets;
-use re_labels::{LabelSet, MAX_LABELS, NoMemory, Row};
-use re_table::Constraint;
+use re_labels::{Constraint, LabelSet, MAX_LABELS, NoMemory, Row};
 use std::alloc::Global;
 
 /// How many right-closed sets are looked at.

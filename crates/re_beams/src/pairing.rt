@@ -4,10 +4,9 @@ use crate::opposites::{Sides, beside_labels, opposite_pairs, sides_of};
 use crate::patterns::{Pattern, family_of, patterns_of};
 use crate::sizes::next_size;
 use re_cert::{SetEntry, Step, StepParts};
-use re_labels::{Config, LabelSet, MAX_LABELS, NoMemory};
+use re_labels::{Config, Constraint, InsertFault, LabelSet, MAX_LABELS, NoMemory};
 use re_problem::Problem;
 use re_step::{AllowedFault, allowed, names_of, place_of};
-use re_table::{Constraint, InsertFault};
 use std::alloc::Global;
 
 /// How many steps a path has at most.

@@ -1,10 +1,9 @@
 //! Derived problems with few labels.
 use crate::chance::label_chances;
 use re_changes::{Change, Changed};
-use re_labels::{LabelSet, MAX_LABELS, NoMemory};
+use re_labels::{Constraint, LabelSet, MAX_LABELS, NoMemory};
 use re_problem::Problem;
 use re_step::{AllowedFault, Derived, allowed};
-use re_table::Constraint;
 use std::alloc::Global;
 
 /// How many labels for each one that is wanted are left.

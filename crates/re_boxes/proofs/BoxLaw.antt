@@ -14,14 +14,14 @@ use Rattle.re_labels.proofs.Membership.{Contains-In, AllByRecursion-contains, Al
 use Rattle.re_labels.proofs.Numbers.{rising-with_label, IsLabelSet-union}
 use Rattle.re_labels.specs.Lists.{IsRising}
 use Rattle.re_labels.specs.Sets.{IsIn, union, IsLabelSet}
-use Rattle.re_table.proofs.Closure.{Shape, good-combined}
-use Rattle.re_table.proofs.ClosureLaw.{closure_law}
-use Rattle.re_table.proofs.Goodness.{Has-Rearranged, is_full-filled}
-use Rattle.re_table.specs.Closure.{IsClosed}
-use Rattle.re_table.specs.Constraints.{Constraint, Has, IsConstraint}
-use Rattle.re_table.specs.GoodRows.{IsDominated, IsGood, max_rows}
+use Rattle.re_labels.proofs.Closure.{Shape, good-combined}
+use Rattle.re_labels.proofs.ClosureLaw.{closure_law}
+use Rattle.re_labels.proofs.Goodness.{Has-Rearranged, is_full-filled}
+use Rattle.re_labels.specs.Closure.{IsClosed}
+use Rattle.re_labels.specs.Constraints.{Constraint, Has, IsConstraint}
+use Rattle.re_labels.specs.GoodRows.{IsDominated, IsGood, max_rows}
 use Rattle.re_labels.proofs.Sets.{IsIn-union, IsIn-union_cases}
-use Rattle.re_table.proofs.MaxRows.{dominated}
+use Rattle.re_labels.proofs.MaxRows.{dominated}
 use Rattle.re_boxes.proofs.Boxes.{boxes_suffice}
 use Rattle.re_boxes.proofs.Spread.{AreUp, AreUp-raised, IsGood-raised, IsLadder, dominated_under, ladder_up, one_label, raised, under_raised, AreFilled, IsGood-under, IsIn-filled}
 use Rattle.re_boxes.specs.Boxes.{BoxesLaw, IsBoxed, IsStrength, with_stronger}

@@ -12,9 +12,9 @@ use Rattle.re_labels.specs.Rows.{IsUnder, set_at}
 use Rattle.re_labels.proofs.Membership.{Contains-cases, Contains-filter, Contains-here, Contains-none}
 use Rattle.re_labels.proofs.Sets.{IsIn-one, IsIn-union, IsIn-union_cases}
 use Rattle.re_labels.specs.Sets.{IsIn, IsWithin}
-use Rattle.re_table.proofs.Goodness.{IsGood-Rearranged}
-use Rattle.re_table.specs.Constraints.{Constraint, Has}
-use Rattle.re_table.specs.GoodRows.{IsDominated, IsGood}
+use Rattle.re_labels.proofs.Goodness.{IsGood-Rearranged}
+use Rattle.re_labels.specs.Constraints.{Constraint, Has}
+use Rattle.re_labels.specs.GoodRows.{IsDominated, IsGood}
 use Rattle.re_boxes.proofs.Spread.{AreUp-raised, IsGood-raised, IsLadder, dominated_under, head_least, in_with_stronger, of_with_stronger, one_label, raised, spread}
 use Rattle.re_boxes.specs.Boxes.{IsCovered, IsNext, IsStrength, box_at, cut, only_at, with_stronger}
 

@@ -12,8 +12,8 @@ use Rattle.re_labels.proofs.Numbers.{IsLabelSet-filter, IsLabelSet-union, number
 use Rattle.re_labels.proofs.Sets.{IsIn-union}
 use Rattle.re_labels.proofs.Tests.{eqb-true}
 use Rattle.re_labels.specs.Sets.{IsLabelSet, number}
-use Rattle.re_table.specs.Constraints.{Constraint}
-use Rattle.re_table.specs.GoodRows.{max_rows}
+use Rattle.re_labels.specs.Constraints.{Constraint}
+use Rattle.re_labels.specs.GoodRows.{max_rows}
 use Rattle.re_boxes.proofs.SetsAtPlaces.{all_set}
 use Rattle.re_boxes.specs.Boxed.{IsBoxCovered}
 use Rattle.re_boxes.specs.Sets.{AreSets}

@@ -10,9 +10,9 @@ use Rattle.re_labels.specs.Rows.{IsChoice, IsUnder, set_at}
 use Rattle.re_labels.proofs.Membership.{Contains-filter, Contains-filter_cases, Contains-here, Contains-none}
 use Rattle.re_labels.proofs.Sets.{IsIn-has, IsIn-union_cases, has-IsIn}
 use Rattle.re_labels.specs.Sets.{IsIn, IsWithin, has, union}
-use Rattle.re_table.proofs.Goodness.{IsGood-Rearranged}
-use Rattle.re_table.specs.Constraints.{Constraint, Has}
-use Rattle.re_table.specs.GoodRows.{IsDominated}
+use Rattle.re_labels.proofs.Goodness.{IsGood-Rearranged}
+use Rattle.re_labels.specs.Constraints.{Constraint, Has}
+use Rattle.re_labels.specs.GoodRows.{IsDominated}
 use Rattle.re_boxes.proofs.Boxes.{Fits, boxed, boxed_parts, parts_boxed}
 use Rattle.re_boxes.proofs.Spread.{AreFilled, AreUp, IsIn-filled, dominated_under, of_with_stronger}
 use Rattle.re_boxes.specs.Boxes.{IsCovered, IsNext, IsUp, box_at, only_at, with_stronger}

@@ -7,7 +7,7 @@ use Rattle.re_labels.proofs.Membership.{AllByRecursion-contains, Contains-cases,
 use Rattle.re_labels.proofs.Tests.{eqb-same, eqb-true}
 use Rattle.re_labels.proofs.Sets.{IsIn-meet_cases}
 use Rattle.re_labels.specs.Sets.{IsIn, IsLabelSet, first_of, meet, without_label}
-use Rattle.re_table.specs.Constraints.{Constraint, Has}
+use Rattle.re_labels.specs.Constraints.{Constraint, Has}
 use Rattle.re_boxes.specs.Choosing.{AreGoodBehind, AreGoodChoices, IsBadBehind}
 use Rattle.re_labels.specs.declared.TheConstants.{MAX_LABELS}
 

@@ -5,7 +5,7 @@ use Rattle.std.proofs.lemmas.Bool.Decides.{nat_tests}
 use Rattle.std.proofs.lemmas.List.Elements.{Contains-append_cases, Contains-append_left, Contains-append_right}
 use Rattle.re_labels.proofs.Membership.{Contains-cases, Contains-here, Contains-none}
 use Rattle.re_boxes.specs.Spans.{Tree, AreFilled, AreSpans, Fits, IsEnding, IsFirst, IsNext, IsSpan, lesser}
-use Rattle.re_table.specs.declared.branches.Branches.{Branches}
+use Rattle.re_labels.specs.declared.branches.Branches.{Branches}
 use Rattle.re_boxes.specs.declared.visiting.Candidate.{Candidate}
 use Rattle.re_labels.specs.declared.TheConstants.{MAX_LABELS}
 

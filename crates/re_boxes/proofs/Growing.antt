@@ -3,7 +3,7 @@ use Rattle.std.proofs.Common.{◌≡◌, ℕ, zero, suc, ◌<◌, get_or, List, 
 use Rattle.std.specs.Prelude.{Contains}
 use Rattle.re_boxes.specs.Growing.{IsLonger}
 use Rattle.re_labels.proofs.Membership.{Contains-In, In-Contains, In-append_left}
-use Rattle.re_table.specs.GoodRows.{IsDominated}
+use Rattle.re_labels.specs.GoodRows.{IsDominated}
 
 abbrev Rows : Type 0
 Rows = List (List (List ℕ))

@@ -4,7 +4,7 @@ use Rattle.re_boxes.proofs.Covering.{covered_more}
 use Rattle.re_boxes.specs.Boxes.{box_at, only_at}
 use Rattle.re_boxes.proofs.BoxesOfRows.{next_label, next_place}
 use Rattle.re_boxes.specs.Boxed.{AreBoxesCovered, IsBoxCovered}
-use Rattle.re_table.specs.Constraints.{Constraint}
+use Rattle.re_labels.specs.Constraints.{Constraint}
 use Rattle.re_boxes.proofs.Growing.{longer_at, longer_has}
 use Rattle.re_boxes.specs.Growing.{IsLonger}
 

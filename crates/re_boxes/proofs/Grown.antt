@@ -7,10 +7,10 @@ use Rattle.re_labels.specs.Rows.{IsChoice, IsUnder, set_at, IsRow}
 use Rattle.re_labels.proofs.Membership.{AllByRecursion-contains, Contains-here, Contains-none, In-Contains, Contains-In}
 use Rattle.re_labels.proofs.Sets.{IsIn-union, IsIn-with_label_cases, IsIn-with_label_new}
 use Rattle.re_labels.specs.Sets.{IsIn, IsWithin, with_label}
-use Rattle.re_table.proofs.Goodness.{IsGood-Rearranged}
-use Rattle.re_table.proofs.MaxRows.{IsMaximal-max_rows, dominated, max_rows-IsMaximal}
-use Rattle.re_table.specs.Constraints.{Constraint, Has}
-use Rattle.re_table.specs.GoodRows.{IsDominated, IsGood, max_rows, IsMaximal}
+use Rattle.re_labels.proofs.Goodness.{IsGood-Rearranged}
+use Rattle.re_labels.proofs.MaxRows.{IsMaximal-max_rows, dominated, max_rows-IsMaximal}
+use Rattle.re_labels.specs.Constraints.{Constraint, Has}
+use Rattle.re_labels.specs.GoodRows.{IsDominated, IsGood, max_rows, IsMaximal}
 use Rattle.re_labels.proofs.Numbers.{IsLabelSet-with_label}
 use Rattle.re_labels.proofs.ChoicesOfRows.{IsUnder-refl}
 use Rattle.re_labels.proofs.Rearranging.{Rearranged-sym}

@@ -11,7 +11,7 @@ use Rattle.re_labels.specs.Rows.{Dominates}
 use Rattle.re_labels.proofs.Sets.{within-IsWithin}
 use Rattle.re_labels.proofs.Tests.{eqb-true}
 use Rattle.re_labels.specs.Sets.{within}
-use Rattle.re_table.specs.GoodRows.{IsDominated}
+use Rattle.re_labels.specs.GoodRows.{IsDominated}
 
 abbrev Sets : Type 0
 Sets = List (List ℕ)

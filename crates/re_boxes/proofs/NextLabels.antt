@@ -7,9 +7,9 @@ use Rattle.re_labels.proofs.Membership.{Contains-cases, Contains-filter, Contain
 use Rattle.re_labels.proofs.Sets.{has-IsIn, has-with_label, IsIn-has, IsIn-meet, IsIn-meet_cases, IsIn-with_label_cases, IsIn-with_label_old}
 use Rattle.re_labels.proofs.Tests.{eqb-same, eqb-true, or-left}
 use Rattle.re_labels.specs.Sets.{IsIn, has, meet, with_label, without_label}
-use Rattle.re_table.proofs.Descents.{ending-narrow}
+use Rattle.re_labels.proofs.Descents.{ending-narrow}
 use Rattle.re_boxes.specs.Spans.{Tree, IsEnding, IsFirst, IsSpan}
-use Rattle.re_table.specs.declared.branches.Branches.{Branches}
+use Rattle.re_labels.specs.declared.branches.Branches.{Branches}
 use Rattle.re_boxes.specs.declared.visiting.Candidate.{Candidate}
 use Rattle.re_labels.specs.declared.TheConstants.{MAX_LABELS}
 

@@ -11,9 +11,9 @@ use Rattle.re_labels.proofs.Membership.{Contains-filter}
 use Rattle.re_labels.proofs.Sets.{IsIn-has, IsIn-union_cases, has-IsIn}
 use Rattle.re_labels.proofs.Tests.{same_or_not}
 use Rattle.re_labels.specs.Sets.{IsIn, IsWithin, has, union}
-use Rattle.re_table.specs.Constraints.{Constraint, Has}
+use Rattle.re_labels.specs.Constraints.{Constraint, Has}
 use Rattle.re_boxes.specs.Held.{AreHeldBeside}
-use Rattle.re_table.specs.GoodRows.{IsDominated}
+use Rattle.re_labels.specs.GoodRows.{IsDominated}
 use Rattle.re_boxes.proofs.SetsAtPlaces.{set_under, under_at, under_set}
 use Rattle.re_boxes.specs.Parts.{IsPartCovered, left_out}
 

@@ -9,9 +9,9 @@ use Rattle.re_labels.specs.Rows.{IsChoice, IsUnder, set_at}
 use Rattle.re_labels.proofs.Membership.{AllByRecursion-contains, Contains-filter, Contains-filter_cases, Contains-none}
 use Rattle.re_labels.proofs.Sets.{IsIn-has, IsIn-union_cases, has-IsIn}
 use Rattle.re_labels.specs.Sets.{IsIn, IsWithin, has, union}
-use Rattle.re_table.proofs.SaidChoices.{weight}
-use Rattle.re_table.specs.Constraints.{Constraint}
-use Rattle.re_table.specs.GoodRows.{IsDominated}
+use Rattle.re_labels.proofs.SaidChoices.{weight}
+use Rattle.re_labels.specs.Constraints.{Constraint}
+use Rattle.re_labels.specs.GoodRows.{IsDominated}
 use Rattle.re_labels.proofs.Numbers.{IsLabelSet-filter}
 use Rattle.re_boxes.proofs.DrawnChoices.{filter-fewer}
 use Rattle.re_boxes.proofs.SetsAtPlaces.{all_set, set_there, set_under, under_at, under_set}

@@ -6,7 +6,7 @@ use Rattle.re_boxes.specs.Boxes.{IsStrength}
 use Rattle.re_labels.specs.Rows.{IsChoice, set_at}
 use Rattle.re_labels.proofs.Membership.{AllByRecursion-contains, Contains-filter_cases}
 use Rattle.re_labels.specs.Sets.{IsIn, IsLabelSet, IsWithin, without_label}
-use Rattle.re_table.specs.Constraints.{Constraint, Has}
+use Rattle.re_labels.specs.Constraints.{Constraint, Has}
 use Rattle.re_boxes.proofs.UpSets.{held_choice, lowered}
 use Rattle.re_boxes.specs.Choosing.{AreGoodChoices, IsBadBehind}
 use Rattle.re_boxes.specs.HeldStrength.{IsWeakest}

@@ -5,11 +5,11 @@ use Rattle.re_labels.proofs.Rearranging.{Rearranged-sym}
 use Rattle.re_labels.proofs.Sorting.{sorted_again}
 use Rattle.re_labels.specs.Configs.{IsConfig, sorted}
 use Rattle.re_labels.proofs.Membership.{AllByRecursion-contains}
-use Rattle.re_table.proofs.Goodness.{Has-Rearranged}
-use Rattle.re_table.proofs.Strengths.{IsIn-up_set, IsIn-up_set_cases, Pick-Contains, replaced_order, stronger_first}
+use Rattle.re_labels.proofs.Goodness.{Has-Rearranged}
+use Rattle.re_labels.proofs.Strengths.{IsIn-up_set, IsIn-up_set_cases, Pick-Contains, replaced_order, stronger_first}
 use Rattle.re_labels.proofs.Placing.{Rearranged-Pick}
-use Rattle.re_table.specs.Constraints.{Constraint, Has, IsConstraint}
-use Rattle.re_table.specs.Strength.{IsAtLeastAsStrong}
+use Rattle.re_labels.specs.Constraints.{Constraint, Has, IsConstraint}
+use Rattle.re_labels.specs.Strength.{IsAtLeastAsStrong}
 use Rattle.re_boxes.specs.Rests.{Completes, RestLaw}
 
 -- what completes each rest that a completes is at least as strong

@@ -17,8 +17,8 @@ use Rattle.re_labels.proofs.Membership.{AllByRecursion-weaker}
 use Rattle.re_labels.proofs.Numbers.{set_of-number}
 use Rattle.re_labels.specs.Lists.{IsRising}
 use Rattle.re_labels.specs.Sets.{IsLabelSet, number, set_of}
-use Rattle.re_table.proofs.Goodness.{IsDominated-is_dominated, filled-is_full, is_dominated-IsDominated}
-use Rattle.re_table.specs.GoodRows.{IsDominated, is_dominated}
+use Rattle.re_labels.proofs.Goodness.{IsDominated-is_dominated, filled-is_full, is_dominated-IsDominated}
+use Rattle.re_labels.specs.GoodRows.{IsDominated, is_dominated}
 use Rattle.re_boxes.specs.Sets.{AreSets}
 use Rattle.re_labels.specs.declared.TheConstants.{MAX_LABELS}
 

@@ -12,9 +12,9 @@ use Rattle.re_labels.proofs.Membership.{Contains-cases, Contains-here, Contains-
 use Rattle.re_labels.proofs.Sets.{IsIn-more, IsIn-union, IsIn-union_cases}
 use Rattle.re_labels.specs.Lists.{IsRising}
 use Rattle.re_labels.specs.Sets.{IsIn, IsWithin}
-use Rattle.re_table.proofs.Closure.{Choice-singles, singles_push, under_part}
-use Rattle.re_table.specs.Constraints.{Constraint, Has}
-use Rattle.re_table.specs.GoodRows.{IsDominated, IsGood}
+use Rattle.re_labels.proofs.Closure.{Choice-singles, singles_push, under_part}
+use Rattle.re_labels.specs.Constraints.{Constraint, Has}
+use Rattle.re_labels.specs.GoodRows.{IsDominated, IsGood}
 use Rattle.re_boxes.specs.Boxes.{IsStrength, IsUp, with_stronger}
 
 pub one_label : (x y : ℕ) → IsIn x (y ∷ []) → x ≡ y

@@ -1,5 +1,5 @@
 -- The labels at least as strong as a label go up, and so does each label by itself.
-use Rattle.re_table.proofs.Strengths.{Contains-Pick, Pick-Contains}
+use Rattle.re_labels.proofs.Strengths.{Contains-Pick, Pick-Contains}
 use Rattle.std.proofs.Common.{List, [], append_assoc, cond, eqb, false, inl, inr, refl, subst, sym, true, ℕ, ◌++◌, ◌<◌, ◌∷◌, ◌≡◌}
 use Rattle.std.specs.List.{AllZip}
 use Rattle.re_labels.proofs.Placing.{Pick, Rearranged-Pick, here, picked, there}
@@ -9,9 +9,9 @@ use Rattle.re_labels.specs.Configs.{replaced, sorted}
 use Rattle.re_labels.specs.Rearranging.{Rearranged, chained, kept, swapped}
 use Rattle.re_labels.proofs.Tests.{eqb-same, eqb-true}
 use Rattle.re_labels.specs.Sets.{IsIn}
-use Rattle.re_table.proofs.Goodness.{Has-Rearranged}
-use Rattle.re_table.specs.Constraints.{Constraint, Has}
-use Rattle.re_table.specs.Strength.{IsAtLeastAsStrong}
+use Rattle.re_labels.proofs.Goodness.{Has-Rearranged}
+use Rattle.re_labels.specs.Constraints.{Constraint, Has}
+use Rattle.re_labels.specs.Strength.{IsAtLeastAsStrong}
 use Rattle.re_boxes.specs.Strength.{IsAbove, StrengthLaw}
 
 -- ---- one label in place of another

@@ -16,10 +16,10 @@ use Rattle.re_labels.proofs.Membership.{AllByRecursion-contains, AllByRecursion-
 use Rattle.re_labels.proofs.Sets.{IsIn-union, IsIn-union_cases, has-IsIn}
 use Rattle.re_labels.specs.Lists.{count_from}
 use Rattle.re_labels.specs.Sets.{IsIn, IsLabelSet, IsWithin, has, with_label}
-use Rattle.re_table.proofs.Strengths.{IsAtLeastAsStrong-refl, IsIn-up_set, IsIn-up_set_cases}
-use Rattle.re_table.specs.Constraints.{Constraint, Has, IsConstraint}
-use Rattle.re_table.specs.GoodRows.{IsGood}
-use Rattle.re_table.specs.Strength.{up_set}
+use Rattle.re_labels.proofs.Strengths.{IsAtLeastAsStrong-refl, IsIn-up_set, IsIn-up_set_cases}
+use Rattle.re_labels.specs.Constraints.{Constraint, Has, IsConstraint}
+use Rattle.re_labels.specs.GoodRows.{IsGood}
+use Rattle.re_labels.specs.Strength.{up_set}
 use Rattle.re_boxes.specs.Choosing.{AreGoodChoices}
 use Rattle.re_boxes.specs.HeldStrength.{IsWeakest, ups_in}
 use Rattle.re_labels.specs.declared.TheConstants.{MAX_LABELS}

@@ -14,13 +14,13 @@ use Rattle.re_labels.proofs.Sets.{IsWithin-Sub}
 use Rattle.re_labels.specs.Lists.{count_from}
 use Rattle.re_labels.specs.Sets.{IsIn, IsLabelSet}
 use Rattle.re_boxes.proofs.Rests.{rest_law}
-use Rattle.re_table.proofs.Goodness.{Has-Rearranged}
-use Rattle.re_table.specs.Strength.{is_at_least_as_strong, up_set}
-use Rattle.re_table.specs.Constraints.{IsConstraint}
+use Rattle.re_labels.proofs.Goodness.{Has-Rearranged}
+use Rattle.re_labels.specs.Strength.{is_at_least_as_strong, up_set}
+use Rattle.re_labels.specs.Constraints.{IsConstraint}
 use Rattle.re_boxes.proofs.Fitting.{Fits-cases, Fits-new, Fits-old}
 use Rattle.re_boxes.specs.Rests.{Completes}
 use Rattle.re_boxes.specs.Spans.{Tree, constraint_of, AreFilled, AreSpans, Ascends, Fits, IsBound, IsEnding, IsNarrowed, IsNext, IsOpened, IsSpan, IsVisit, IsWaiting}
-use Rattle.re_table.specs.declared.branches.Branches.{Branches}
+use Rattle.re_labels.specs.declared.branches.Branches.{Branches}
 use Rattle.re_boxes.specs.declared.visiting.Candidate.{Candidate}
 use Rattle.re_labels.specs.declared.TheConstants.{MAX_LABELS}
 

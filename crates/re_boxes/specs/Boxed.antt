@@ -2,8 +2,8 @@
 use Rattle.std.specs.Prelude.{ℕ, ◌<◌, List, length, map, Contains}
 use Rattle.re_labels.specs.Rows.{set_at}
 use Rattle.re_boxes.specs.Boxes.{IsCovered, IsNext, box_at, only_at}
-use Rattle.re_table.specs.Constraints.{Constraint}
-use Rattle.re_table.specs.GoodRows.{IsDominated}
+use Rattle.re_labels.specs.Constraints.{Constraint}
+use Rattle.re_labels.specs.GoodRows.{IsDominated}
 
 -- the box of the row at the place and the label is covered, where it need be
 abbrev pub IsBoxCovered : Constraint → (ℕ → List ℕ) → List (List (List ℕ)) → List (List ℕ) → ℕ → ℕ → Type 0

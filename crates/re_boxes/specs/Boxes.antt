@@ -5,8 +5,8 @@ use Rattle.std.specs.declared.cmp.Ordering.TheVariants.{Less}
 use Rattle.re_labels.specs.Lists.{IsRising}
 use Rattle.re_labels.specs.Sets.{IsIn, IsWithin, union}
 use Rattle.re_labels.specs.Rows.{Dominates, IsRow, IsUnder, row_cmp, set_at}
-use Rattle.re_table.specs.Constraints.{Constraint, Has, IsConstraint}
-use Rattle.re_table.specs.GoodRows.{IsDominated, IsGood, max_rows}
+use Rattle.re_labels.specs.Constraints.{Constraint, Has, IsConstraint}
+use Rattle.re_labels.specs.GoodRows.{IsDominated, IsGood, max_rows}
 
 -- the set has, with each of its labels x, the labels ups x
 abbrev pub IsUp : (ℕ → List ℕ) → List ℕ → Type 0

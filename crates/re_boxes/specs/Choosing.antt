@@ -1,7 +1,7 @@
 -- Choices of one label of each set.
 use Rattle.std.specs.Prelude.{◌≡◌, ℕ, List, ◌++◌}
 use Rattle.re_labels.specs.Rows.{IsChoice}
-use Rattle.re_table.specs.Constraints.{Constraint, Has}
+use Rattle.re_labels.specs.Constraints.{Constraint, Has}
 
 -- every choice of the sets, behind these labels, is a configuration
 abbrev pub AreGoodBehind : Constraint → List ℕ → List (List ℕ) → Type 0

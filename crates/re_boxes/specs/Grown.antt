@@ -3,8 +3,8 @@ use Rattle.std.specs.Prelude.{◌≡◌, ℕ, ◌<◌, ◌↔◌, List, length, 
 use Rattle.std.specs.List.{AllByRecursion}
 use Rattle.re_labels.specs.Sets.{IsIn, IsLabelSet, with_label}
 use Rattle.re_labels.specs.Rows.{IsRow, set_at}
-use Rattle.re_table.specs.Constraints.{Constraint}
-use Rattle.re_table.specs.GoodRows.{IsDominated, IsGood, max_rows}
+use Rattle.re_labels.specs.Constraints.{Constraint}
+use Rattle.re_labels.specs.GoodRows.{IsDominated, IsGood, max_rows}
 
 -- the sets with the label x too at place i
 abbrev pub added : ℕ → ℕ → List (List ℕ) → List (List ℕ)

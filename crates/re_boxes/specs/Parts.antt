@@ -4,8 +4,8 @@ use Rattle.std.specs.List.{AllByRecursion}
 use Rattle.re_labels.specs.Sets.{IsIn, has}
 use Rattle.re_labels.specs.Rows.{IsUnder, set_at}
 use Rattle.re_boxes.specs.Boxes.{IsUp}
-use Rattle.re_table.specs.Constraints.{Constraint}
-use Rattle.re_table.specs.GoodRows.{IsDominated, IsGood}
+use Rattle.re_labels.specs.Constraints.{Constraint}
+use Rattle.re_labels.specs.GoodRows.{IsDominated, IsGood}
 
 -- the sets without, at the place, the labels that go up to this one
 abbrev pub left_out : (ℕ → List ℕ) → ℕ → ℕ → List (List ℕ) → List (List ℕ)

@@ -2,10 +2,10 @@
 use Rattle.std.specs.Prelude.{◌≡◌, ℕ, ◌<◌, ◌≤◌, ◌↔◌, ◌⊎◌, ◌+◌, max, nat_lt, if◌then◌else◌, List, ◌∷◌, [], ◌++◌, length, slice_index_or, Contains, Option, None, Some}
 use Rattle.std.specs.List.{AllByRecursion}
 use Rattle.re_labels.specs.Lists.{IsRising}
-use Rattle.re_table.specs.Constraints.{Constraint}
-use Rattle.re_table.specs.Endings
-use Rattle.re_table.specs.declared.branches.Branches.{Branches}
-use Rattle.re_table.specs.declared.prefix_tree.Node.{Node}
+use Rattle.re_labels.specs.Constraints.{Constraint}
+use Rattle.re_labels.specs.Endings
+use Rattle.re_labels.specs.declared.branches.Branches.{Branches}
+use Rattle.re_labels.specs.declared.prefix_tree.Node.{Node}
 use Rattle.re_boxes.specs.Rests.{Completes}
 use Rattle.re_boxes.specs.declared.visiting.Candidate.{Candidate}
 

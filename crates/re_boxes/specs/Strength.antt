@@ -1,8 +1,8 @@
 -- The labels at least as strong as a label.
 use Rattle.std.specs.Prelude.{◌≡◌, ℕ, ◌<◌, ◌⊎◌, ◌↔◌, List}
 use Rattle.re_labels.specs.Sets.{IsIn}
-use Rattle.re_table.specs.Constraints.{Constraint}
-use Rattle.re_table.specs.Strength.{IsAtLeastAsStrong}
+use Rattle.re_labels.specs.Constraints.{Constraint}
+use Rattle.re_labels.specs.Strength.{IsAtLeastAsStrong}
 use Rattle.re_boxes.specs.Boxes.{IsStrength}
 
 -- y is x, or they are labels below n and y is at least as strong as x

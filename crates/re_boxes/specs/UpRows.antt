@@ -3,8 +3,8 @@ use Rattle.std.specs.Prelude.{ℕ, List, Contains}
 use Rattle.std.specs.List.{AllByRecursion}
 use Rattle.re_boxes.specs.Boxes.{IsUp}
 use Rattle.re_labels.specs.Rows.{IsRow}
-use Rattle.re_table.specs.Constraints.{Constraint}
-use Rattle.re_table.specs.GoodRows.{IsGood}
+use Rattle.re_labels.specs.Constraints.{Constraint}
+use Rattle.re_labels.specs.GoodRows.{IsGood}
 
 -- a good row of labels below n that has, with each label x of a set, the labels ups x there too; each maximal row is one
 pub record IsUpRow (constraint : Constraint) (ups : ℕ → List ℕ) (n : ℕ) (row : List (List ℕ)) : Type 0 where

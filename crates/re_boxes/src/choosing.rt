@@ -3,13 +3,12 @@ ghost use Rattle.re_boxes.specs.Held.{AreHeldBeside};
 ghost use Rattle.re_labels.specs.Rows.{IsChoice};
 ghost use Rattle.re_labels.specs.Sets.{IsIn, IsLabelSet};
 ghost use Rattle.re_boxes.specs.Parts.{IsPartCovered};
-ghost use Rattle.re_table.specs.Constraints.{Has};
+ghost use Rattle.re_labels.specs.Constraints.{Has};
 ghost use Rattle.std.specs.List.{AllByRecursion};
 ghost use Rattle.std.specs.Prelude.{◌≡◌, ◌≤◌, ◌<◌, [], ℕ, List, IfSome, MatchOption, length, slice_set, true, if◌then◌else◌};
 
 use arrayvec::ArrayVec;
-use re_labels::{Config, LabelSet, MAX_LABELS};
-use re_table::{Constraint, Trail};
+use re_labels::{Config, Constraint, LabelSet, MAX_LABELS, Trail};
 
 // The labels of all the sets.
 fn all_labels(sets: &[LabelSet]) -> LabelSet {

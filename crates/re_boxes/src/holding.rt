@@ -3,7 +3,7 @@ ghost use Rattle.re_labels.specs.Rearranging.{Rearranged};
 ghost use Rattle.re_labels.specs.Rows.{Dominates, dominates};
 ghost use Rattle.re_labels.specs.Sets.{within};
 ghost use Rattle.re_boxes.specs.Sets.{AreSets};
-ghost use Rattle.re_table.specs.GoodRows.{IsDominated, is_dominated};
+ghost use Rattle.re_labels.specs.GoodRows.{IsDominated, is_dominated};
 ghost use Rattle.std.specs.List.{list_all, list_any, remove};
 ghost use Rattle.std.specs.Prelude.{◌≡◌, ◌≤◌, ◌<◌, ◌↔◌, ℕ, List, Contains, IsTrue, length, true};
 

@@ -1,6 +1,6 @@
 //! An index of the rows of a list by the labels of their sets.
 ghost use Rattle.re_boxes.specs.Sets.{AreSets};
-ghost use Rattle.re_table.specs.GoodRows.{IsDominated};
+ghost use Rattle.re_labels.specs.GoodRows.{IsDominated};
 ghost use Rattle.std.specs.Prelude.{◌≡◌, ◌≤◌, ◌<◌, ◌+◌, ◌↔◌, ℕ, List, Contains, IsTrue, length, true};
 
 use crate::holding::{found_holds, has_top, large_first, row_holds};

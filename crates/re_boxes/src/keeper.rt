@@ -3,13 +3,12 @@ ghost use Rattle.re_boxes.specs.Growing.{IsLonger};
 ghost use Rattle.re_boxes.specs.Boxes.{IsStrength};
 ghost use Rattle.re_boxes.specs.HeldStrength.{ups_in};
 ghost use Rattle.re_boxes.specs.Sets.{AreSets};
-ghost use Rattle.re_table.specs.Constraints.{Constraint};
-ghost use Rattle.re_table.specs.GoodRows.{IsDominated, IsGood};
+ghost use Rattle.re_labels.specs.Constraints.{Constraint};
+ghost use Rattle.re_labels.specs.GoodRows.{IsDominated, IsGood};
 ghost use Rattle.std.specs.Prelude.{◌≡◌, ◌≤◌, ℕ, true, IfErr, List, OnOk, length};
 
 use crate::strength::Strength;
-use re_labels::LabelSet;
-use re_table::Constraint;
+use re_labels::{Constraint, LabelSet};
 
 /// A list of rows that a search consults, and that is to dominate all good sets which the search finds. It only grows.
 pub trait Keeper {

@@ -5,7 +5,7 @@ ghost use Rattle.re_labels.specs.Rows.{IsChoice};
 ghost use Rattle.re_boxes.specs.HeldStrength.{ups_in};
 ghost use Rattle.re_boxes.specs.Parts.{IsPartCovered, left_out};
 ghost use Rattle.re_boxes.specs.Sets.{AreSets};
-ghost use Rattle.re_table.specs.Constraints.{Has};
+ghost use Rattle.re_labels.specs.Constraints.{Has};
 ghost use Rattle.std.specs.Prelude.{◌≡◌, ◌≤◌, ◌<◌, IfErr, OnOk, length, slice_index};
 
 use crate::Keeper;
@@ -13,8 +13,7 @@ use crate::choosing::{first_place, none_lacks};
 use crate::sets::with_set;
 use crate::strength::Strength;
 use crate::strength_choosing::strong_bad_choice;
-use re_labels::LabelSet;
-use re_table::Constraint;
+use re_labels::{Constraint, LabelSet};
 
 /// Each good row of up sets in the box, with these labels, is dominated then. A box that no kept row is seen to dominate is parted
 /// by a choice that is no configuration, or is good and settled.

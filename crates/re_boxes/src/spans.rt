@@ -4,7 +4,7 @@ ghost use Rattle.re_labels.specs.declared.TheConstants.{MAX_LABELS};
 ghost use Rattle.re_boxes.specs.Spans.{IsEnding, IsFirst, IsSpan, tree_of};
 ghost use Rattle.std.specs.Prelude.{◌≡◌, ◌<◌, ◌↔◌, ◌+◌, ◌∷◌, ℕ, List, MatchOption};
 
-use re_table::{Branches, Constraint, Node};
+use re_labels::{Branches, Constraint, Node};
 
 /// Branches parted behind the first one.
 #[derive(Clone, Copy, Debug, Default)]

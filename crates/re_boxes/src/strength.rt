@@ -9,8 +9,7 @@ ghost use Rattle.std.specs.Prelude.{◌≡◌, ◌<◌, ◌≤◌, ℕ, [], leng
 
 use crate::strength_choosing::picked;
 use arrayvec::ArrayVec;
-use re_labels::{LabelSet, MAX_LABELS};
-use re_table::Constraint;
+use re_labels::{Constraint, LabelSet, MAX_LABELS};
 
 /// For each label below a number the labels that it goes up to, which are those at least as strong, and the labels that don't go
 /// up to it. It takes no memory.

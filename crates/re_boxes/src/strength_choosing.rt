@@ -2,7 +2,7 @@
 ghost use Rattle.re_boxes.specs.Boxes.{IsStrength};
 ghost use Rattle.re_labels.specs.Rows.{IsChoice, set_at};
 ghost use Rattle.re_labels.specs.Sets.{IsIn, IsLabelSet, IsWithin};
-ghost use Rattle.re_table.specs.Constraints.{Has};
+ghost use Rattle.re_labels.specs.Constraints.{Has};
 ghost use Rattle.re_boxes.specs.Choosing.{AreGoodBehind, AreGoodChoices, IsBadBehind};
 ghost use Rattle.re_boxes.specs.HeldStrength.{ups_in};
 ghost use Rattle.std.specs.List.{AllByRecursion};
@@ -11,8 +11,7 @@ ghost use Rattle.std.specs.Prelude.{◌≡◌, ◌≤◌, ◌<◌, ◌+◌, ◌�
 use crate::sets::with_label;
 use crate::strength::Strength;
 use arrayvec::ArrayVec;
-use re_labels::{Config, LabelSet, MAX_LABELS};
-use re_table::{Constraint, Trail};
+use re_labels::{Config, Constraint, LabelSet, MAX_LABELS, Trail};
 
 // The least label of the set that the other one has too.
 fn first_in(set: LabelSet, other: LabelSet) -> Option<u8>

@@ -3,13 +3,12 @@ ghost use Rattle.re_labels.specs.Lists.{count_from};
 ghost use Rattle.re_labels.specs.Sets.{IsIn, IsLabelSet};
 ghost use Rattle.re_boxes.specs.Rests.{Completes};
 ghost use Rattle.re_boxes.specs.Spans.{AreFilled, AreSpans, Ascends, Fits, IsBound, IsEnding, IsFirst, IsNarrowed, IsNext, IsOpened, IsSpan, IsVisit, IsWaiting, lesser, tree_of};
-ghost use Rattle.re_table.specs.Strength.{up_set};
+ghost use Rattle.re_labels.specs.Strength.{up_set};
 ghost use Rattle.std.specs.Prelude.{◌≡◌, ◌≤◌, ◌<◌, ◌↔◌, ◌+◌, ◌∷◌, [], ℕ, List, Contains, IsTrue, MatchBool, MatchOption, ◌++◌, length, map, max, slice_index_or};
 
 use crate::spans::{Parts, first_label, parted};
 use arrayvec::ArrayVec;
-use re_labels::{LabelSet, MAX_LABELS};
-use re_table::{Branches, Constraint, Node};
+use re_labels::{Branches, Constraint, LabelSet, MAX_LABELS, Node};
 
 /// A label that completes rests with some beginning, and the configurations that they give.
 #[derive(Clone, Copy, Debug, Default)]

@@ -4,7 +4,7 @@ ghost use Rattle.re_boxes.specs.UpRows.{IsUpRow};
 ghost use Rattle.re_boxes.specs.Boxes.{IsStrength};
 ghost use Rattle.re_boxes.specs.Boxed.{AreBoxesCovered, AreConfigsDominated, IsBoxCovered};
 ghost use Rattle.re_boxes.specs.HeldStrength.{ups_in};
-ghost use Rattle.re_table.specs.GoodRows.{IsDominated};
+ghost use Rattle.re_labels.specs.GoodRows.{IsDominated};
 ghost use Rattle.std.specs.List.{AllByRecursion};
 ghost use Rattle.std.specs.Prelude.{◌≡◌, ◌≤◌, ◌<◌, ℕ, Contains, IfErr, OnOk, length, map};
 
@@ -13,8 +13,7 @@ use crate::boxing::{has_above, nothing, up_above};
 use crate::searching::cover;
 use crate::sets::with_set;
 use crate::strength::Strength;
-use re_labels::{Config, LabelSet, Row};
-use re_table::Constraint;
+use re_labels::{Config, Constraint, LabelSet, Row};
 
 // The box of a kept row at the place and the label is covered then, where it need be.
 fn cover_box<K: Keeper>(

@@ -8,7 +8,7 @@ use Rattle.re_labels.proofs.Tests.{and-true, true-and}
 use Rattle.re_labels.specs.Lists.{place_of, same_list}
 use Rattle.re_labels.specs.Sets.{IsIn}
 use Rattle.re_labels.specs.Rows.{IsChoice, set_at}
-use Rattle.re_table.specs.Constraints.{Constraint, Has, IsConstraint}
+use Rattle.re_labels.specs.Constraints.{Constraint, Has, IsConstraint}
 use Rattle.re_problem.specs.NamedProblems.{IsNamedProblem, NamedProblem}
 use Rattle.re_problem.specs.Steps.{SetEntry, entry_sets, label_at, label_of}
 use Rattle.re_check.proofs.AllowedImages.{entry-over, keeps_allowed_law, over-entry}

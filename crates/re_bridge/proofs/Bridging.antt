@@ -16,9 +16,9 @@ use Rattle.re_labels.proofs.Membership.{AllByRecursion-contains, AllByRecursion-
 use Rattle.re_labels.proofs.Tests.{eqb-same, true-and}
 use Rattle.re_labels.specs.Lists.{IsBefore, IsRising, count_from, place_of}
 use Rattle.re_labels.specs.Sets.{number}
-use Rattle.re_table.proofs.MaxSets.{max_sets_law}
-use Rattle.re_table.specs.Constraints.{Constraint, Has, IsConstraint}
-use Rattle.re_table.proofs.ConstraintImages.{held_labels}
+use Rattle.re_labels.proofs.MaxSets.{max_sets_law}
+use Rattle.re_labels.specs.Constraints.{Constraint, Has, IsConstraint}
+use Rattle.re_labels.proofs.ConstraintImages.{held_labels}
 use Rattle.re_problem.specs.NamedProblems.{IsNamedProblem, NamedProblem, unnamed}
 use Rattle.re_problem.specs.Steps.{IsLowerStepByRow, IsLowerStepBySet, LowerMap, SetEntry, entry_sets, label_at, label_of}
 use Rattle.re_problem.specs.Steps.LowerMap.{by_row, by_set}

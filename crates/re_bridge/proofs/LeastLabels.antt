@@ -19,9 +19,9 @@ use Rattle.re_problem.proofs.StepLaws.{map-map}
 use Rattle.re_problem.specs.NamedProblems.{IsNamedProblem, NamedProblem, OccursIn, unnamed}
 use Rattle.re_problem.specs.Problems.{IsProblem, Problem}
 use Rattle.re_problem.specs.Steps.{IsRelaxed}
-use Rattle.re_table.proofs.ConstraintImages.{config-below}
-use Rattle.re_table.proofs.Goodness.{Has-Rearranged}
-use Rattle.re_table.specs.Constraints.{Constraint, Has, IsConstraint}
+use Rattle.re_labels.proofs.ConstraintImages.{config-below}
+use Rattle.re_labels.proofs.Goodness.{Has-Rearranged}
+use Rattle.re_labels.specs.Constraints.{Constraint, Has, IsConstraint}
 use Rattle.re_walks.specs.Walking.{Walk, cut, found, nowhere}
 use Rattle.re_bridge.proofs.FewestImages.{reduction_law}
 use Rattle.re_bridge.specs.Reductions.{IsEndomorphism, LeastLabelsLaw, Reduces, image_set, problem_within, reduced_by, reduction}

@@ -15,10 +15,10 @@ use Rattle.re_labels.proofs.Tests.{and-true, below-true, true-and, true-below}
 use Rattle.re_labels.specs.Lists.{IsRising, count_from}
 use Rattle.re_labels.specs.Sets.{IsLabelSet, has, with_label}
 use Rattle.re_problem.specs.NamedProblems.{IsNamedProblem, NamedProblem}
-use Rattle.re_table.proofs.ConstraintImages.{config-below}
-use Rattle.re_table.proofs.Goodness.{Has-has_config, has_config-Has}
-use Rattle.re_table.proofs.SaidChoices.{found-is}
-use Rattle.re_table.specs.Constraints.{Constraint, Has, IsConstraint, has_config}
+use Rattle.re_labels.proofs.ConstraintImages.{config-below}
+use Rattle.re_labels.proofs.Goodness.{Has-has_config, has_config-Has}
+use Rattle.re_labels.proofs.SaidChoices.{found-is}
+use Rattle.re_labels.specs.Constraints.{Constraint, Has, IsConstraint, has_config}
 use Rattle.re_walks.specs.Walking.{BeginningsPass, IsAssignment}
 use Rattle.re_bridge.specs.Reductions.{IsEndomorphism, image_set, is_kept_so_far, keeps_so_far, passes_into}
 

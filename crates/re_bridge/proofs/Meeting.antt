@@ -5,10 +5,10 @@ use Rattle.std.proofs.lemmas.Nat.{div-mul-add}
 use Rattle.re_labels.proofs.Membership.{length-count_from, length-map'}
 use Rattle.re_labels.proofs.Tests.{and-true, eqb-true, true-and}
 use Rattle.re_labels.specs.Lists.{count_from}
-use Rattle.re_table.proofs.Goodness.{Has-has_config, has_config-Has}
-use Rattle.re_table.proofs.MaxSets.{max_sets-row}
-use Rattle.re_table.specs.Constraints.{Constraint, Has, has_config}
-use Rattle.re_table.specs.GoodRows.{allowed}
+use Rattle.re_labels.proofs.Goodness.{Has-has_config, has_config-Has}
+use Rattle.re_labels.proofs.MaxSets.{max_sets-row}
+use Rattle.re_labels.specs.Constraints.{Constraint, Has, has_config}
+use Rattle.re_labels.specs.GoodRows.{allowed}
 use Rattle.re_problem.specs.NamedProblems.{NamedProblem, unnamed}
 use Rattle.re_problem.specs.Steps.{IsLowerStepByRow, IsLowerStepBySet, SetEntry, entry_sets, label_at, label_of}
 use Rattle.re_problem.specs.Steps.LowerMap.{by_row, by_set}

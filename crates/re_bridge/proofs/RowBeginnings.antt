@@ -9,8 +9,8 @@ use Rattle.re_labels.proofs.Membership.{Contains-count_from, Contains-map, all-a
 use Rattle.re_labels.proofs.Tests.{and-true, true-and}
 use Rattle.re_labels.specs.Lists.{count_from}
 use Rattle.re_labels.specs.Rows.{IsChoice}
-use Rattle.re_table.proofs.Goodness.{Has-has_config, has_config-Has}
-use Rattle.re_table.specs.Constraints.{Has, has_config}
+use Rattle.re_labels.proofs.Goodness.{Has-has_config, has_config-Has}
+use Rattle.re_labels.specs.Constraints.{Has, has_config}
 use Rattle.re_problem.specs.NamedProblems.{IsNamedProblem, NamedProblem}
 use Rattle.re_check.proofs.RowChoices.{keeps_allowed_by_row_law}
 use Rattle.re_check.specs.LabelsOver.{labels_over}

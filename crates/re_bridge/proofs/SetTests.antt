@@ -7,8 +7,8 @@ use Rattle.re_labels.proofs.Membership.{Contains-In, In-Contains, any-In, any-In
 use Rattle.re_labels.proofs.Tests.{same_tests}
 use Rattle.re_labels.specs.Lists.{IsRising, same_list}
 use Rattle.re_labels.specs.Sets.{number}
-use Rattle.re_table.proofs.SaidChoices.{found-is}
-use Rattle.re_table.specs.Constraints.{Constraint, has_config}
+use Rattle.re_labels.proofs.SaidChoices.{found-is}
+use Rattle.re_labels.specs.Constraints.{Constraint, has_config}
 use Rattle.re_labels.specs.Configs.{sorted}
 use Rattle.re_problem.specs.Steps.{SetEntry, entry_sets, label_of}
 use Rattle.re_check.proofs.RowSets.{HasSetsOf}

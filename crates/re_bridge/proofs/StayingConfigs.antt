@@ -10,7 +10,7 @@ use Rattle.re_labels.specs.Lists.{IsBefore}
 use Rattle.re_labels.specs.ListSets.{list_set, with_list}
 use Rattle.re_labels.specs.Sets.{within}
 use Rattle.re_problem.proofs.Walks.{alone}
-use Rattle.re_table.specs.Constraints.{Constraint, IsConstraint}
+use Rattle.re_labels.specs.Constraints.{Constraint, IsConstraint}
 use Rattle.re_bridge.specs.Reductions.{constraint_within}
 
 module _ (test : List ℕ → Bool) (configs : List (List ℕ)) (place : ℕ) (config : List ℕ) (l : place < length configs) (at : config ≡ get_or configs place []) where

@@ -24,8 +24,8 @@ use Rattle.re_laws.proofs.Relaxing.{Solvable-relaxed}
 use Rattle.re_laws.specs.Algorithms.{Solvable}
 use Rattle.re_problem.specs.NamedProblems.{IsNamedProblem, NamedProblem, OccursIn, unnamed}
 use Rattle.re_problem.specs.Problems.{IsProblem}
-use Rattle.re_table.proofs.ConstraintImages.{config-below, itself-held}
-use Rattle.re_table.specs.Constraints.{Constraint, Has, IsConstraint}
+use Rattle.re_labels.proofs.ConstraintImages.{config-below, itself-held}
+use Rattle.re_labels.specs.Constraints.{Constraint, Has, IsConstraint}
 use Rattle.re_bridge.proofs.MapTests.{counted-set}
 use Rattle.re_bridge.specs.Reductions.{IsEndomorphism, constraint_within, image_set, problem_within}
 

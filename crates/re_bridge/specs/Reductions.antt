@@ -9,7 +9,7 @@ use Rattle.re_laws.specs.Algorithms.{Solvable}
 use Rattle.re_problem.specs.NamedProblems.{IsNamedProblem, NamedProblem, unnamed}
 use Rattle.re_problem.specs.Problems.{IsProblem, Problem}
 use Rattle.re_problem.specs.Steps.{IsRelaxed}
-use Rattle.re_table.specs.Constraints.{Constraint, has_config}
+use Rattle.re_labels.specs.Constraints.{Constraint, has_config}
 use Rattle.re_walks.specs.Walking.{IsAssignment, Walk, cut, found, nowhere, walk}
 
 -- ---- maps

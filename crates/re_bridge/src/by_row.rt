@@ -6,9 +6,8 @@ ghost use Rattle.std.specs.Prelude.{◌≡◌, ◌<◌, ◌≤◌, ◌++◌, ◌
 
 use re_cert::RowImage;
 use re_check::{keep_images, keeps_allowed_by_row};
-use re_labels::{MAX_LABELS, NoMemory, Row};
+use re_labels::{Constraint, MAX_LABELS, NoMemory, Row};
 use re_problem::Problem;
-use re_table::Constraint;
 use re_walks::is_begun;
 use std::alloc::Global;
 

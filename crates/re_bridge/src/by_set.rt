@@ -5,15 +5,14 @@ ghost use Rattle.re_check.specs.RowEntries.{row_entries};
 ghost use Rattle.re_labels.specs.Lists.{IsRising};
 ghost use Rattle.re_labels.specs.Sets.{number};
 ghost use Rattle.re_problem.specs.Steps.{entry_sets, label_of};
-ghost use Rattle.re_table.specs.Constraints.{has_config};
+ghost use Rattle.re_labels.specs.Constraints.{has_config};
 ghost use Rattle.std.specs.List.{AllByRecursion};
 ghost use Rattle.std.specs.Prelude.{◌≡◌, ◌<◌, ◌≤◌, ◌||◌, IfOk, length, map, not, true, ◌&&◌};
 
 use re_cert::SetEntry;
 use re_check::{keeps_allowed, place_for, row_image};
-use re_labels::{LabelSet, MAX_LABELS, NoMemory, Row};
+use re_labels::{Constraint, LabelSet, MAX_LABELS, NoMemory, Row};
 use re_problem::Problem;
-use re_table::Constraint;
 use std::alloc::Global;
 
 /// The entries of the first sets, each with its label.

@@ -3,9 +3,8 @@ ghost use Rattle.re_bridge.specs.Reductions.{image_set, is_kept_so_far, keeps_so
 ghost use Rattle.std.specs.List.{AllByRecursion};
 ghost use Rattle.std.specs.Prelude.{◌≡◌, ◌<◌, ◌-◌, length, take, true};
 
-use re_labels::{Config, LabelSet, MAX_LABELS};
+use re_labels::{Config, Constraint, LabelSet, MAX_LABELS};
 use re_problem::Problem;
-use re_table::Constraint;
 
 /// The labels that are images.
 pub(crate) fn image_set(images: &[u8]) -> LabelSet

@@ -8,9 +8,8 @@ ghost use Rattle.std.specs.Prelude.{◌≡◌, ◌≤◌, IfOk, length, map};
 use crate::mapping::image_set;
 use arrayvec::ArrayVec;
 use re_changes::{number_among, renumbered};
-use re_labels::{Config, LabelSet, MAX_LABELS, NoMemory};
+use re_labels::{Config, Constraint, InsertFault, LabelSet, MAX_LABELS, NoMemory};
 use re_problem::Problem;
-use re_table::{Constraint, InsertFault};
 use std::alloc::Global;
 
 // Whether each label of the configuration is in the set.

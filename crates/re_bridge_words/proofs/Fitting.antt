@@ -3,7 +3,7 @@ use Rattle.std.proofs.Common.{◌≡◌, ℕ, ◌<◌, ◌≤◌, true, eqb, leb
 use Rattle.std.specs.Prelude.{◌&&◌, Contains}
 use Rattle.std.specs.List.{list_all}
 use Rattle.std.proofs.lemmas.Bool.Decides.{nat_tests}
-use Rattle.re_table.proofs.ConstraintImages.{held_labels}
+use Rattle.re_labels.proofs.ConstraintImages.{held_labels}
 use Rattle.re_labels.proofs.Membership.{AllByRecursion-contains, Contains-In, Contains-map, In-Contains, all-In_from}
 use Rattle.re_labels.proofs.Tests.{eqb-same, true-and, true-below}
 use Rattle.re_problem.proofs.Building.{below_all}

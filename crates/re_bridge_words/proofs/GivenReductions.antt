@@ -33,9 +33,9 @@ use Rattle.re_problem.proofs.StepLaws.{map-map}
 use Rattle.re_problem.specs.NamedProblems.{IsNamedProblem, NamedProblem, unnamed}
 use Rattle.re_problem.specs.Problems.{IsProblem, Problem}
 use Rattle.re_problem.specs.Steps.{IsRelaxed}
-use Rattle.re_table.proofs.ConstraintImages.{back-held, config-below, image-held, itself-held}
-use Rattle.re_table.proofs.Goodness.{Has-Rearranged}
-use Rattle.re_table.specs.Constraints.{Constraint, Has, IsConstraint}
+use Rattle.re_labels.proofs.ConstraintImages.{back-held, config-below, image-held, itself-held}
+use Rattle.re_labels.proofs.Goodness.{Has-Rearranged}
+use Rattle.re_labels.specs.Constraints.{Constraint, Has, IsConstraint}
 use Rattle.re_walks.specs.Walking.{Walk, cut, found, nowhere}
 use Rattle.re_bridge_words.specs.ReduceWords.{IsReducedProductText, IsReducedText, ReducedGivenLaw, Writes}
 use Rattle.re_bridge_words.specs.declared.answering.TheConstants.{MAX_TRIES}

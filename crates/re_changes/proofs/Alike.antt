@@ -7,8 +7,8 @@ use Rattle.re_labels.proofs.Membership.{Contains-count_from, Contains-filter_cas
 use Rattle.re_labels.proofs.Sets.{IsIn-has, has-filter, has-meet}
 use Rattle.re_labels.specs.Lists.{count_from}
 use Rattle.re_labels.specs.Sets.{first_of, has, meet}
-use Rattle.re_table.specs.Constraints.{Constraint}
-use Rattle.re_table.specs.Strength.{is_at_least_as_strong, up_set}
+use Rattle.re_labels.specs.Constraints.{Constraint}
+use Rattle.re_labels.specs.Strength.{is_at_least_as_strong, up_set}
 use Rattle.re_problem.specs.Problems.{Problem}
 use Rattle.re_changes.proofs.Counted.{filter-below, length-map_counted}
 use Rattle.re_changes.specs.Classes.{are_equal, class_of, is_next, is_stronger, least_equal, least_labels, strong_by}

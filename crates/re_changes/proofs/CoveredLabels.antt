@@ -11,9 +11,9 @@ use Rattle.re_labels.proofs.Sets.{has-IsIn}
 use Rattle.re_labels.proofs.Tests.{eqb-apart, eqb-same}
 use Rattle.re_labels.specs.Sets.{has}
 use Rattle.re_problem.specs.NamedProblems.{OccursIn}
-use Rattle.re_table.proofs.Strengths.{Pick-Contains, replaced_order}
-use Rattle.re_table.specs.Constraints.{Constraint}
-use Rattle.re_table.specs.Strength.{IsAtLeastAsStrong, constraint_without}
+use Rattle.re_labels.proofs.Strengths.{Pick-Contains, replaced_order}
+use Rattle.re_labels.specs.Constraints.{Constraint}
+use Rattle.re_labels.specs.Strength.{IsAtLeastAsStrong, constraint_without}
 
 -- how often the label stands in a list
 abbrev times : ℕ → List ℕ → ℕ

@@ -8,9 +8,9 @@ use Rattle.re_labels.proofs.Membership.{Contains-count_from, Contains-filter, Co
 use Rattle.re_labels.proofs.Tests.{and-true, same_tests, true-and}
 use Rattle.re_labels.specs.Lists.{count_from}
 use Rattle.re_labels.specs.Sets.{IsIn}
-use Rattle.re_table.proofs.Strengths.{IsAtLeastAsStrong-refl, IsAtLeastAsStrong-test, IsAtLeastAsStrong-trans, is_at_least_as_strong-fact}
-use Rattle.re_table.specs.Constraints.{Constraint, IsConstraint}
-use Rattle.re_table.specs.Strength.{IsAtLeastAsStrong, is_at_least_as_strong}
+use Rattle.re_labels.proofs.Strengths.{IsAtLeastAsStrong-refl, IsAtLeastAsStrong-test, IsAtLeastAsStrong-trans, is_at_least_as_strong-fact}
+use Rattle.re_labels.specs.Constraints.{Constraint, IsConstraint}
+use Rattle.re_labels.specs.Strength.{IsAtLeastAsStrong, is_at_least_as_strong}
 use Rattle.re_changes.proofs.Alike.{any-alike, below_bound}
 use Rattle.re_changes.proofs.EqualLabels.{equal-chain, equal-flip, in_class, least-in_class, least-stays}
 use Rattle.re_changes.specs.Classes.{are_equal, class_of, is_next, is_stronger, least_equal, least_labels}

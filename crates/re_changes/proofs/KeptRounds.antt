@@ -14,13 +14,13 @@ use Rattle.re_laws.specs.Algorithms.{Solvable}
 use Rattle.re_problem.specs.NamedProblems.{IsNamedProblem, NamedProblem, unnamed}
 use Rattle.re_problem.specs.Problems.{IsProblem}
 use Rattle.re_problem.specs.Strength.{Covers}
-use Rattle.re_table.proofs.Goodness.{Has-Rearranged}
-use Rattle.re_table.proofs.Strengths.{stronger_first}
-use Rattle.re_table.specs.Constraints.{Constraint, Has, IsConstraint}
-use Rattle.re_table.specs.Strength.{IsAtLeastAsStrong, constraint_without}
+use Rattle.re_labels.proofs.Goodness.{Has-Rearranged}
+use Rattle.re_labels.proofs.Strengths.{stronger_first}
+use Rattle.re_labels.specs.Constraints.{Constraint, Has, IsConstraint}
+use Rattle.re_labels.specs.Strength.{IsAtLeastAsStrong, constraint_without}
 use Rattle.re_changes.proofs.EqualLabels.{least-in_class}
 use Rattle.re_changes.proofs.RenumberedProblems.{IsProblem-renumbered}
-use Rattle.re_table.proofs.ConstraintImages.{back-held, config-below, image-held, itself-held}
+use Rattle.re_labels.proofs.ConstraintImages.{back-held, config-below, image-held, itself-held}
 use Rattle.re_changes.proofs.MergedLabels.{covers-fact, covers-refl, covers-trans, merged-number}
 use Rattle.re_changes.proofs.Numbering.{at_number}
 use Rattle.re_changes.proofs.TrimmedProblems.{IsLabelSet-all_but, covered-by, covered-first, image-without, in-all_but, label-left, labels-left, trimmed-none, trimmed-some}

@@ -13,11 +13,11 @@ use Rattle.re_labels.specs.Sets.{has}
 use Rattle.re_problem.proofs.StepLaws.{map-map}
 use Rattle.re_problem.specs.NamedProblems.{NamedProblem, occurs, unnamed}
 use Rattle.re_problem.specs.Problems.{IsProblem}
-use Rattle.re_table.specs.Constraints.{Constraint, IsConstraint, images_of}
-use Rattle.re_table.specs.Strength.{constraint_without}
+use Rattle.re_labels.specs.Constraints.{Constraint, IsConstraint, images_of}
+use Rattle.re_labels.specs.Strength.{constraint_without}
 use Rattle.re_changes.proofs.Numbering.{number-rises, number_at}
 use Rattle.re_changes.proofs.OneChange.{IsLabelSet-staying, IsProblem-after, active-stays, below-counted, counted-below, new_number, passive-stays}
-use Rattle.re_table.proofs.ConstraintImages.{config-below, image-from}
+use Rattle.re_labels.proofs.ConstraintImages.{config-below, image-from}
 use Rattle.re_changes.specs.Changes.{Changed, IsChange, after, all_changed, all_left_out, becomes, changed_by, changed_times, new_numbers, staying, unchanged, used, without}
 use Rattle.re_changes.specs.Renumbering.{number_among}
 use Rattle.re_changes.specs.declared.change.Change.{Change}

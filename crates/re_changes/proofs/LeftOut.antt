@@ -12,8 +12,8 @@ use Rattle.re_labels.specs.ListSets.{list_set, with_list}
 use Rattle.re_labels.specs.Sets.{has}
 use Rattle.re_labels.specs.Configs.{image_of}
 use Rattle.re_changes.specs.Renumbering.{constraint_image}
-use Rattle.re_table.specs.Constraints.{Constraint, IsConstraint, images_of}
-use Rattle.re_table.specs.Strength.{constraint_without}
+use Rattle.re_labels.specs.Constraints.{Constraint, IsConstraint, images_of}
+use Rattle.re_labels.specs.Strength.{constraint_without}
 
 -- ---- configurations without a label
 left-more : (a : ℕ) (configs : List (List ℕ)) (place : ℕ) (config : List ℕ) → place < length configs → config ≡ get_or configs place [] → has config a ≡ false

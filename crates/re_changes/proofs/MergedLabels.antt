@@ -10,10 +10,10 @@ use Rattle.re_labels.specs.Sets.{IsLabelSet, meet}
 use Rattle.re_problem.specs.NamedProblems.{IsNamedProblem, NamedProblem, built, unnamed}
 use Rattle.re_problem.specs.Problems.{IsProblem, Problem}
 use Rattle.re_problem.specs.Strength.{Covers}
-use Rattle.re_table.proofs.Strengths.{IsAtLeastAsStrong-refl, IsAtLeastAsStrong-test, IsAtLeastAsStrong-trans, is_at_least_as_strong-fact}
-use Rattle.re_table.proofs.ConstraintImages.{config-below}
-use Rattle.re_table.specs.Constraints.{Constraint, IsConstraint}
-use Rattle.re_table.specs.Strength.{is_at_least_as_strong, up_set}
+use Rattle.re_labels.proofs.Strengths.{IsAtLeastAsStrong-refl, IsAtLeastAsStrong-test, IsAtLeastAsStrong-trans, is_at_least_as_strong-fact}
+use Rattle.re_labels.proofs.ConstraintImages.{config-below}
+use Rattle.re_labels.specs.Constraints.{Constraint, IsConstraint}
+use Rattle.re_labels.specs.Strength.{is_at_least_as_strong, up_set}
 use Rattle.re_changes.proofs.Alike.{Alike, below_bound, cover_sets-alike, least_equal-alike, least_labels-alike}
 use Rattle.re_changes.proofs.Counted.{length-map_counted}
 use Rattle.re_changes.proofs.EqualLabels.{IsLabelSet-least_labels, equal-chain, equal-flip, least-in_class, least-same, least-stays, least_labels-fact}

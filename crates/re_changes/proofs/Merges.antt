@@ -12,10 +12,10 @@ use Rattle.re_problem.proofs.StepLaws.{IsRelaxed-itself, map-map}
 use Rattle.re_problem.specs.NamedProblems.{NamedProblem, unnamed}
 use Rattle.re_problem.specs.Problems.{IsProblem, Problem}
 use Rattle.re_problem.specs.Steps.{IsRelaxed}
-use Rattle.re_table.specs.Constraints.{Constraint, Has}
+use Rattle.re_labels.specs.Constraints.{Constraint, Has}
 use Rattle.re_changes.proofs.Numbering.{at_number}
 use Rattle.re_changes.proofs.OneChange.{IsLabelSet-staying, IsProblem-after, below-counted, merge-stays, new_number}
-use Rattle.re_table.proofs.ConstraintImages.{image-held}
+use Rattle.re_labels.proofs.ConstraintImages.{image-held}
 use Rattle.re_changes.specs.Changes.{Changed, after, all_changed, all_merges, becomes, changed_by, changed_times, goes_to, new_numbers, staying, unchanged}
 use Rattle.re_changes.specs.Renumbering.{number_among}
 use Rattle.re_changes.specs.declared.change.Change.{Change}

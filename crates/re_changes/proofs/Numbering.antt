@@ -21,8 +21,8 @@ use Rattle.re_labels.specs.Sets.{IsLabelSet}
 use Rattle.re_problem.proofs.NumberedLabels.{numbered_occurs}
 use Rattle.re_problem.proofs.UsedLabels.{all_counted}
 use Rattle.re_problem.specs.NamedProblems.{NamedProblem, OccursIn, all_occur, are_named, built, occurs}
-use Rattle.re_table.proofs.Insertions.{list_set-step}
-use Rattle.re_table.specs.Constraints.{Constraint}
+use Rattle.re_labels.proofs.Insertions.{list_set-step}
+use Rattle.re_labels.specs.Constraints.{Constraint}
 use Rattle.re_changes.specs.Renumbering.{constraint_image, number_among, renumbered}
 
 -- ---- numbers among those that stay

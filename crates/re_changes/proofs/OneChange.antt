@@ -14,13 +14,13 @@ use Rattle.re_labels.specs.Sets.{IsLabelSet, has}
 use Rattle.re_problem.proofs.Building.{occurs-fact}
 use Rattle.re_problem.specs.NamedProblems.{IsNamedProblem, NamedProblem, OccursIn, built, occurs, unnamed}
 use Rattle.re_problem.specs.Problems.{IsProblem}
-use Rattle.re_table.specs.Constraints.{Constraint}
-use Rattle.re_table.specs.Strength.{constraint_without}
+use Rattle.re_labels.specs.Constraints.{Constraint}
+use Rattle.re_labels.specs.Strength.{constraint_without}
 use Rattle.re_labels.proofs.LeastLabels.{length-set}
 use Rattle.re_changes.proofs.Counted.{length-map_counted}
 use Rattle.re_changes.proofs.Numbering.{at_number, number-low, renumbered-built}
 use Rattle.re_changes.proofs.RenumberedProblems.{IsBuilt, IsProblem-renumbered, built-along}
-use Rattle.re_table.proofs.ConstraintImages.{IsConstraint-without, config-below}
+use Rattle.re_labels.proofs.ConstraintImages.{IsConstraint-without, config-below}
 use Rattle.re_changes.specs.Changes.{IsChange, after, goes_to, kept, new_numbers, staying, without}
 use Rattle.re_changes.specs.Renumbering.{number_among, renumbered}
 use Rattle.re_changes.specs.declared.change.Change.{Change}

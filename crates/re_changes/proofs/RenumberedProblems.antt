@@ -4,7 +4,7 @@ use Rattle.re_labels.specs.Configs.{image_at}
 use Rattle.re_labels.proofs.Membership.{In, length-map'}
 use Rattle.re_problem.specs.NamedProblems.{NamedProblem, built, unnamed}
 use Rattle.re_problem.specs.Problems.{IsProblem}
-use Rattle.re_table.proofs.ConstraintImages.{IsConstraint-image}
+use Rattle.re_labels.proofs.ConstraintImages.{IsConstraint-image}
 use Rattle.re_changes.specs.Renumbering.{renumbered}
 
 -- ---- problems

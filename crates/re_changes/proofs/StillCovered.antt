@@ -17,11 +17,11 @@ use Rattle.re_labels.specs.Sets.{IsIn, after_of, has, meet}
 use Rattle.re_problem.specs.NamedProblems.{NamedProblem, unnamed}
 use Rattle.re_problem.specs.Problems.{IsProblem}
 use Rattle.re_boxes.proofs.Rests.{strong-rests}
-use Rattle.re_table.proofs.ConstraintImages.{IsConstraint-image, IsConstraint-without, back-held, config-below, image-held}
-use Rattle.re_table.proofs.Goodness.{Has-Rearranged}
-use Rattle.re_table.proofs.Strengths.{IsIn-up_set_cases, stronger_first}
-use Rattle.re_table.specs.Constraints.{Constraint, Has, IsConstraint, images_of}
-use Rattle.re_table.specs.Strength.{IsAtLeastAsStrong, constraint_without, up_set}
+use Rattle.re_labels.proofs.ConstraintImages.{IsConstraint-image, IsConstraint-without, back-held, config-below, image-held}
+use Rattle.re_labels.proofs.Goodness.{Has-Rearranged}
+use Rattle.re_labels.proofs.Strengths.{IsIn-up_set_cases, stronger_first}
+use Rattle.re_labels.specs.Constraints.{Constraint, Has, IsConstraint, images_of}
+use Rattle.re_labels.specs.Strength.{IsAtLeastAsStrong, constraint_without, up_set}
 use Rattle.re_changes.proofs.Counted.{find-first, length-map_counted}
 use Rattle.re_changes.proofs.Numbering.{number_at}
 use Rattle.re_changes.specs.Renumbering.{constraint_image, number_among}

@@ -14,12 +14,12 @@ use Rattle.re_labels.specs.Lists.{count_from}
 use Rattle.re_labels.specs.Sets.{IsIn, IsLabelSet, has, meet, without_label}
 use Rattle.re_problem.specs.NamedProblems.{IsNamedProblem, NamedProblem, unnamed}
 use Rattle.re_problem.specs.Problems.{Problem}
-use Rattle.re_table.proofs.Strengths.{IsIn-up_set, IsIn-up_set_cases}
-use Rattle.re_table.specs.Constraints.{Constraint, IsConstraint}
-use Rattle.re_table.specs.Strength.{constraint_without, up_set}
+use Rattle.re_labels.proofs.Strengths.{IsIn-up_set, IsIn-up_set_cases}
+use Rattle.re_labels.specs.Constraints.{Constraint, IsConstraint}
+use Rattle.re_labels.specs.Strength.{constraint_without, up_set}
 use Rattle.re_changes.proofs.Alike.{below_bound}
 use Rattle.re_changes.proofs.CoveredLabels.{occurs-without}
-use Rattle.re_table.proofs.ConstraintImages.{config-below}
+use Rattle.re_labels.proofs.ConstraintImages.{config-below}
 use Rattle.re_changes.proofs.MergedLabels.{covers-fact, covers-test}
 use Rattle.re_changes.proofs.RenumberedProblems.{IsBuilt}
 use Rattle.re_changes.proofs.Numbering.{at_number, number-most, renumbered-built}

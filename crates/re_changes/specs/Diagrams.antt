@@ -1,8 +1,8 @@
 -- The strength diagram of a constraint.
 use Rattle.std.specs.Prelude.{ℕ, Bool, List, length, filter, flat_map, map, slice_index}
 use Rattle.re_labels.specs.Lists.{count_from}
-use Rattle.re_table.specs.Constraints.{Constraint}
-use Rattle.re_table.specs.Strength.{is_at_least_as_strong}
+use Rattle.re_labels.specs.Constraints.{Constraint}
+use Rattle.re_labels.specs.Strength.{is_at_least_as_strong}
 use Rattle.re_changes.specs.Classes.{class_of, is_next, least_labels}
 
 -- the edges from the class at place x to those next above it, where a list has the least labels of the classes

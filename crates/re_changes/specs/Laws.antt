@@ -4,8 +4,8 @@ use Rattle.re_labels.specs.Configs.{image_at}
 use Rattle.re_labels.specs.Sets.{IsIn}
 use Rattle.re_problem.specs.NamedProblems.{IsNamedProblem, NamedProblem, unnamed}
 use Rattle.re_problem.specs.Strength.{Covers}
-use Rattle.re_table.specs.Constraints.{Constraint, IsConstraint}
-use Rattle.re_table.specs.Strength.{IsAtLeastAsStrong}
+use Rattle.re_labels.specs.Constraints.{Constraint, IsConstraint}
+use Rattle.re_labels.specs.Strength.{IsAtLeastAsStrong}
 use Rattle.re_laws.specs.Algorithms.{Solvable}
 use Rattle.re_changes.specs.Diagrams.{classes_of, edges_of}
 use Rattle.re_changes.specs.Merging.{merge_map, merged_of}

@@ -1,7 +1,7 @@
 -- Problems whose equal labels are merged.
 use Rattle.std.specs.Prelude.{ℕ, Bool, ◌&&◌, List, length, map}
 use Rattle.re_labels.specs.Lists.{count_from}
-use Rattle.re_table.specs.Strength.{is_at_least_as_strong}
+use Rattle.re_labels.specs.Strength.{is_at_least_as_strong}
 use Rattle.re_problem.specs.NamedProblems.{NamedProblem, unnamed}
 use Rattle.re_problem.specs.Problems.{Problem}
 use Rattle.re_changes.specs.Classes.{least_equal, least_labels}

@@ -3,7 +3,7 @@ use Rattle.std.specs.Prelude.{◌≡◌, ℕ, zero, suc, ◌+◌, ◌<◌, ◌==
 use Rattle.std.specs.List.{list_any}
 use Rattle.re_labels.specs.Lists.{count_from}
 use Rattle.re_labels.specs.Sets.{IsIn, without_label}
-use Rattle.re_table.specs.Strength.{constraint_without}
+use Rattle.re_labels.specs.Strength.{constraint_without}
 use Rattle.re_problem.specs.NamedProblems.{NamedProblem, unnamed}
 use Rattle.re_problem.specs.Problems.{Problem}
 use Rattle.re_changes.specs.Merging.{covers}

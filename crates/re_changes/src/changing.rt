@@ -10,8 +10,7 @@ use crate::change::{Change, Changed};
 use crate::renumbering::{number_among, renumbered};
 use crate::without::{constraint_without, labels_in};
 use arrayvec::ArrayVec;
-use re_labels::{MAX_LABELS, NoMemory};
-use re_table::Constraint;
+use re_labels::{Constraint, MAX_LABELS, NoMemory};
 use std::alloc::Global;
 
 /// All labels below this number but the one.

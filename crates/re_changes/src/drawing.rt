@@ -2,15 +2,14 @@
 ghost use Rattle.re_changes.specs.Classes.{class_of, strong_by};
 ghost use Rattle.re_changes.specs.Diagrams.{diagram_of, edges_from};
 ghost use Rattle.re_labels.specs.Lists.{count_from};
-ghost use Rattle.re_table.specs.Strength.{up_set};
+ghost use Rattle.re_labels.specs.Strength.{up_set};
 ghost use Rattle.std.specs.List.{AllByRecursion};
 ghost use Rattle.std.specs.Prelude.{◌≡◌, ◌≤◌, ◌<◌, ◌++◌, IfOk, OnOk, flat_map, length, map};
 
 use crate::classes::{class_of, is_next, least_labels};
 use crate::types::Diagram;
 use arrayvec::ArrayVec;
-use re_labels::{LabelSet, MAX_LABELS, NoMemory};
-use re_table::Constraint;
+use re_labels::{Constraint, LabelSet, MAX_LABELS, NoMemory};
 use std::alloc::Global;
 
 // For each label below this number the set of those that are at least as strong.

@@ -6,7 +6,7 @@ ghost use Rattle.re_labels.specs.Lists.{count_from};
 ghost use Rattle.re_labels.specs.Sets.{meet};
 ghost use Rattle.re_laws.specs.Algorithms.{Solvable};
 ghost use Rattle.re_problem.specs.NamedProblems.{unnamed};
-ghost use Rattle.re_table.specs.Strength.{up_set};
+ghost use Rattle.re_labels.specs.Strength.{up_set};
 ghost use Rattle.std.specs.Prelude.{◌≡◌, ◌≤◌, ◌↔◌, ℕ, IfOk, length, map};
 
 use crate::classes::{least_equal, least_labels};

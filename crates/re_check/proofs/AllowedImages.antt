@@ -16,10 +16,10 @@ use Rattle.re_labels.proofs.Sets.{IsIn-has, has-IsIn}
 use Rattle.re_labels.specs.Lists.{count_from}
 use Rattle.re_labels.specs.Sets.{IsIn, IsLabelSet, has, with_label}
 use Rattle.re_problem.specs.Steps.{SetEntry, entry_sets, label_at}
-use Rattle.re_table.proofs.Goodness.{Has-Rearranged, IsAllowed-Rearranged}
-use Rattle.re_table.proofs.MaxSets.{allowed_law}
-use Rattle.re_table.specs.Constraints.{Constraint, Has, IsConstraint}
-use Rattle.re_table.specs.GoodRows.{IsAllowed, allowed}
+use Rattle.re_labels.proofs.Goodness.{Has-Rearranged, IsAllowed-Rearranged}
+use Rattle.re_labels.proofs.MaxSets.{allowed_law}
+use Rattle.re_labels.specs.Constraints.{Constraint, Has, IsConstraint}
+use Rattle.re_labels.specs.GoodRows.{IsAllowed, allowed}
 use Rattle.re_check.proofs.Telling.{read-held}
 use Rattle.re_check.specs.LabelsOver.{labels_over}
 use Rattle.re_check.specs.EntryLaws.{KeepsAllowedLaw}

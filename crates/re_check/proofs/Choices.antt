@@ -7,12 +7,12 @@ use Rattle.re_labels.proofs.ChoicesOfRows.{IsChoice-filled}
 use Rattle.re_labels.specs.Rows.{IsChoice, in_order, is_full, row_of}
 use Rattle.re_labels.specs.Sets.{IsIn, IsLabelSet}
 use Rattle.re_labels.proofs.Membership.{Contains-none}
-use Rattle.re_table.proofs.Goodness.{IsGood-is_good, is_full-filled, is_good-IsGood}
-use Rattle.re_table.specs.Constraints.{Constraint, Has, IsConstraint}
-use Rattle.re_table.specs.GoodRows.{is_good}
+use Rattle.re_labels.proofs.Goodness.{IsGood-is_good, is_full-filled, is_good-IsGood}
+use Rattle.re_labels.specs.Constraints.{Constraint, Has, IsConstraint}
+use Rattle.re_labels.specs.GoodRows.{is_good}
 use Rattle.re_check.proofs.NextLabels.{both-sets}
 use Rattle.re_check.proofs.Telling.{tells-true}
-use Rattle.re_table.proofs.SetsInOrder.{AreSets, in_order-good, in_order-length, row_is}
+use Rattle.re_labels.proofs.SetsInOrder.{AreSets, in_order-good, in_order-length, row_is}
 use Rattle.re_labels.specs.declared.TheConstants.{MAX_LABELS}
 
 row-none : (sets : List (List ℕ)) → is_full sets ≡ false → row_of MAX_LABELS sets ≡ None

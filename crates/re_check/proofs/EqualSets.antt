@@ -11,9 +11,9 @@ use Rattle.re_labels.proofs.Membership.{Contains-cases, Contains-here, Contains-
 use Rattle.re_labels.proofs.Numbers.{number_apart}
 use Rattle.re_labels.proofs.Tests.{eqb-true, same_tests}
 use Rattle.re_labels.specs.Sets.{IsIn, IsLabelSet, first_of, number, without_label}
-use Rattle.re_table.proofs.Goodness.{Has-Rearranged, IsGood-is_good, is_good-IsGood}
-use Rattle.re_table.specs.Constraints.{Constraint, Has}
-use Rattle.re_table.specs.GoodRows.{is_good}
+use Rattle.re_labels.proofs.Goodness.{Has-Rearranged, IsGood-is_good, is_good-IsGood}
+use Rattle.re_labels.specs.Constraints.{Constraint, Has}
+use Rattle.re_labels.specs.GoodRows.{is_good}
 use Rattle.re_check.proofs.Telling.{tells-same}
 use Rattle.re_check.specs.EqualSets.{given_by, narrowed}
 use Rattle.re_labels.specs.declared.TheConstants.{MAX_LABELS}

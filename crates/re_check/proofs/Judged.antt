@@ -11,7 +11,7 @@ use Rattle.re_boxes.specs.UpRows.{AreUpRows, IsUpRow}
 use Rattle.re_boxes.proofs.RowsOfSets.{AreSets-filled}
 use Rattle.re_boxes.specs.Boxed.{AreBoxesCovered, AreConfigsDominated}
 use Rattle.re_boxes.specs.Choosing.{AreGoodChoices}
-use Rattle.re_table.specs.Constraints.{Constraint}
+use Rattle.re_labels.specs.Constraints.{Constraint}
 use Rattle.re_labels.proofs.Rows.{all_at}
 
 module _ (constraint : Constraint) (ups : ℕ → List ℕ) (n : ℕ) where

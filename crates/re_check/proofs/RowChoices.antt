@@ -26,10 +26,10 @@ use Rattle.re_check.specs.LabelsOver.{labels_over}
 use Rattle.re_check.specs.EntryLaws.{KeepsAllowedByRowLaw}
 use Rattle.re_check.specs.RowEntries.{image_entries, row_entries}
 use Rattle.re_check.specs.StepClauses.{KeepsAllowedByRow, OccursInRows}
-use Rattle.re_table.proofs.Goodness.{Has-Rearranged, IsAllowed-Rearranged}
-use Rattle.re_table.proofs.MaxSets.{allowed_law}
-use Rattle.re_table.specs.Constraints.{Constraint, Has, IsConstraint}
-use Rattle.re_table.specs.GoodRows.{IsAllowed, allowed}
+use Rattle.re_labels.proofs.Goodness.{Has-Rearranged, IsAllowed-Rearranged}
+use Rattle.re_labels.proofs.MaxSets.{allowed_law}
+use Rattle.re_labels.specs.Constraints.{Constraint, Has, IsConstraint}
+use Rattle.re_labels.specs.GoodRows.{IsAllowed, allowed}
 use Rattle.re_labels.specs.declared.TheConstants.{MAX_LABELS}
 
 -- ---- entries

@@ -20,8 +20,8 @@ use Rattle.re_labels.specs.Lists.{IsRising, place_of, same_list}
 use Rattle.re_labels.specs.Sets.{IsLabelSet, number}
 use Rattle.re_labels.specs.Rows.{IsRow, set_at}
 use Rattle.re_problem.specs.Steps.{SetEntry, entry_sets}
-use Rattle.re_table.proofs.MaxSets.{lower_chain, max_sets_law}
-use Rattle.re_table.specs.GoodRows.{max_rows, max_sets}
+use Rattle.re_labels.proofs.MaxSets.{lower_chain, max_sets_law}
+use Rattle.re_labels.specs.GoodRows.{max_rows, max_sets}
 use Rattle.re_check.proofs.AllowedImages.{set_at-entry}
 use Rattle.re_check.proofs.Telling.{at-all, held-read, item-at, read-held, walk-done, walk-fails, walk-more}
 use Rattle.re_check.specs.EntryLaws.{RowSetsLaw}

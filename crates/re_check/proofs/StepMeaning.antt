@@ -8,9 +8,9 @@ use Rattle.std.specs.List.{AllByRecursion, AllZip, list_all}
 use Rattle.std.specs.Str.{bytes_eq}
 use Rattle.re_labels.proofs.Membership.{Contains-In, Contains-filter, Contains-filter_cases, Contains-map, Contains-map_cases, In-Contains, all-In, all-In_from}
 use Rattle.re_labels.proofs.Tests.{and-true, eqb-same, eqb-true, true-and}
-use Rattle.re_table.proofs.Goodness.{Has-has_config, has_config-Has, is_allowed-IsAllowed, is_good-IsGood}
-use Rattle.re_table.specs.Constraints.{Constraint, Has, has_config}
-use Rattle.re_table.specs.GoodRows.{allowed, is_allowed, is_good, max_rows, max_sets}
+use Rattle.re_labels.proofs.Goodness.{Has-has_config, has_config-Has, is_allowed-IsAllowed, is_good-IsGood}
+use Rattle.re_labels.specs.Constraints.{Constraint, Has, has_config}
+use Rattle.re_labels.specs.GoodRows.{allowed, is_allowed, is_good, max_rows, max_sets}
 use Rattle.re_problem.specs.NamedProblems.{NamedProblem, unnamed}
 use Rattle.re_problem.specs.Steps.LowerMap.{by_row, by_set}
 use Rattle.re_problem.specs.Steps.{BecomesByRow, IsLowerStep, IsUpper, LowerMap, SetEntry, entry_sets, label_at, label_of, set_for}

@@ -12,10 +12,10 @@ use Rattle.re_labels.specs.Sets.{number}
 use Rattle.re_labels.proofs.Rearranging.{Contains-Rearranged}
 use Rattle.re_labels.proofs.Sorting.{Rearranged-sorted}
 use Rattle.re_labels.specs.Configs.{IsConfig, sorted}
-use Rattle.re_table.proofs.Goodness.{Has-has_config, IsAllowed-is_allowed, IsGood-is_good, has_config-Has, is_allowed-IsAllowed, is_good-IsGood}
-use Rattle.re_table.proofs.MaxSets.{max_sets-row}
-use Rattle.re_table.specs.Constraints.{Constraint, Has, IsConstraint, has_config}
-use Rattle.re_table.specs.GoodRows.{allowed, max_rows, max_sets}
+use Rattle.re_labels.proofs.Goodness.{Has-has_config, IsAllowed-is_allowed, IsGood-is_good, has_config-Has, is_allowed-IsAllowed, is_good-IsGood}
+use Rattle.re_labels.proofs.MaxSets.{max_sets-row}
+use Rattle.re_labels.specs.Constraints.{Constraint, Has, IsConstraint, has_config}
+use Rattle.re_labels.specs.GoodRows.{allowed, max_rows, max_sets}
 use Rattle.re_problem.specs.NamedProblems.{NamedProblem}
 use Rattle.re_problem.specs.Steps.{SetEntry, entry_sets, label_at, label_of, set_for}
 use Rattle.re_cert.specs.Bounds.{is_label}

@@ -8,8 +8,8 @@ use Rattle.re_labels.proofs.Membership.{AllByRecursion-from_contains}
 use Rattle.re_labels.proofs.Tests.{and-true, eqb-same, eqb-true, true-and}
 use Rattle.re_labels.specs.Lists.{IsRising, count_from}
 use Rattle.re_labels.specs.Sets.{IsLabelSet}
-use Rattle.re_table.proofs.Goodness.{IsAllowed-is_allowed, IsGood-is_good, is_allowed-IsAllowed, is_good-IsGood}
-use Rattle.re_table.specs.GoodRows.{IsAllowed, IsGood}
+use Rattle.re_labels.proofs.Goodness.{IsAllowed-is_allowed, IsGood-is_good, is_allowed-IsAllowed, is_good-IsGood}
+use Rattle.re_labels.specs.GoodRows.{IsAllowed, IsGood}
 use Rattle.re_problem.proofs.Building.{below_all}
 use Rattle.re_problem.specs.NamedProblems.{NamedProblem, unnamed}
 use Rattle.re_problem.specs.Steps.{IsUpperStep, SetEntry, entry_sets, set_for}

@@ -6,8 +6,8 @@ use Rattle.std.specs.Str.{bytes_eq}
 use Rattle.re_labels.specs.Lists.{count_from, same_list}
 use Rattle.re_labels.specs.Rows.{all_sets, choices, placed}
 use Rattle.re_check.specs.RowEntries.{image_entries}
-use Rattle.re_table.specs.Constraints.{Constraint, has_config}
-use Rattle.re_table.specs.GoodRows.{allowed, is_allowed, is_good, max_rows}
+use Rattle.re_labels.specs.Constraints.{Constraint, has_config}
+use Rattle.re_labels.specs.GoodRows.{allowed, is_allowed, is_good, max_rows}
 use Rattle.re_problem.specs.NamedProblems.{NamedProblem}
 use Rattle.re_problem.specs.Steps.LowerMap.{by_row, by_set}
 use Rattle.re_problem.specs.Steps.{LowerMap, SetEntry, entry_sets, label_at, label_of, set_for}

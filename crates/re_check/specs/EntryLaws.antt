@@ -2,8 +2,8 @@
 use Rattle.std.specs.Prelude.{◌≡◌, ℕ, ◌↔◌, List, map, Contains}
 use Rattle.re_labels.specs.Rows.{IsChoice}
 use Rattle.re_problem.specs.Steps.{SetEntry, entry_sets}
-use Rattle.re_table.specs.Constraints.{Constraint, Has, IsConstraint}
-use Rattle.re_table.specs.GoodRows.{max_rows, max_sets}
+use Rattle.re_labels.specs.Constraints.{Constraint, Has, IsConstraint}
+use Rattle.re_labels.specs.GoodRows.{max_rows, max_sets}
 use Rattle.re_check.specs.LabelsOver.{labels_over}
 use Rattle.re_check.specs.RowEntries.{image_entries}
 use Rattle.re_check.specs.StepClauses.{HasRowSets, KeepsAllowed, KeepsAllowedByRow, OccursInRows}

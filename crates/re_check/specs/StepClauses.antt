@@ -3,8 +3,8 @@ use Rattle.std.specs.Prelude.{◌≡◌, ℕ, ◌<◌, ◌↔◌, List, length, 
 use Rattle.std.specs.List.{AllByRecursion, AllZip}
 use Rattle.re_labels.specs.Lists.{IsRising, count_from}
 use Rattle.re_labels.specs.Sets.{number}
-use Rattle.re_table.specs.Constraints.{Constraint, Has}
-use Rattle.re_table.specs.GoodRows.{IsAllowed, IsGood, allowed}
+use Rattle.re_labels.specs.Constraints.{Constraint, Has}
+use Rattle.re_labels.specs.GoodRows.{IsAllowed, IsGood, allowed}
 use Rattle.re_labels.specs.Rows.{placed}
 use Rattle.re_problem.specs.Steps.{BecomesByRow, SetEntry, entry_sets, label_at, label_of, set_for}
 

@@ -4,15 +4,14 @@ ghost use Rattle.re_check.specs.LabelsOver.{labels_over};
 ghost use Rattle.re_check.specs.StepClauses.{KeepsAllowed};
 ghost use Rattle.re_labels.specs.Lists.{count_from};
 ghost use Rattle.re_labels.specs.Sets.{IsLabelSet};
-ghost use Rattle.re_table.specs.Constraints.{Has};
+ghost use Rattle.re_labels.specs.Constraints.{Has};
 ghost use Rattle.std.specs.List.{AllByRecursion};
 ghost use Rattle.std.specs.Prelude.{◌≡◌, ◌<◌, ◌↔◌, ℕ, List, IsTrue, length, map};
 
 use crate::runs::is_good;
 use arrayvec::ArrayVec;
 use re_cert::SetEntry;
-use re_labels::{Config, LabelSet, MAX_LABELS, Row};
-use re_table::Constraint;
+use re_labels::{Config, Constraint, LabelSet, MAX_LABELS, Row};
 
 // The labels of the entries whose sets hold the label.
 fn labels_over(entries: &[SetEntry], label: u8) -> LabelSet

@@ -3,15 +3,14 @@ ghost use Rattle.re_boxes.specs.UpRows.{AreUpRows};
 ghost use Rattle.re_boxes.specs.Boxes.{IsStrength};
 ghost use Rattle.re_boxes.specs.Boxed.{AreBoxesCovered, AreConfigsDominated};
 ghost use Rattle.re_boxes.specs.HeldStrength.{ups_in};
-ghost use Rattle.re_table.specs.GoodRows.{max_rows};
+ghost use Rattle.re_labels.specs.GoodRows.{max_rows};
 ghost use Rattle.std.specs.List.{AllByRecursion};
 ghost use Rattle.std.specs.Prelude.{◌≡◌, ◌<◌, ℕ, List, Contains, MatchBool, length};
 
 use re_boxes::{
     Keeper, RowIndex, Strength, cover_configs, cover_row, is_dominated, is_seen_dominated,
 };
-use re_labels::{LabelSet, Row};
-use re_table::Constraint;
+use re_labels::{Constraint, LabelSet, Row};
 
 // Good sets are dominated by no row of the list.
 #[derive(Clone, Copy)]

@@ -5,15 +5,14 @@ ghost use Rattle.re_labels.specs.Lists.{IsRising};
 ghost use Rattle.re_labels.specs.Sets.{IsLabelSet};
 ghost use Rattle.re_boxes.specs.UpRows.{AreUpRows, IsUpRow};
 ghost use Rattle.re_boxes.specs.HeldStrength.{ups_in};
-ghost use Rattle.re_table.specs.GoodRows.{max_rows};
+ghost use Rattle.re_labels.specs.GoodRows.{max_rows};
 ghost use Rattle.std.specs.List.{AllByRecursion};
 ghost use Rattle.std.specs.declared.cmp.Ordering.TheVariants.{Less};
 ghost use Rattle.std.specs.Prelude.{◌≡◌, ◌≤◌, ◌<◌, ◌↔◌, ℕ, List, Contains, IsTrue, MatchBool, length};
 
 use crate::covering::{are_configs_dominated, are_rows_covered};
 use re_boxes::{RowIndex, Strength, dominates, row_order, strong_bad_choice};
-use re_labels::{LabelSet, MAX_LABELS, Row};
-use re_table::Constraint;
+use re_labels::{Constraint, LabelSet, MAX_LABELS, Row};
 use std::cmp::Ordering;
 
 // Whether all labels of the set are below the number.

@@ -7,9 +7,8 @@ ghost use Rattle.std.specs.Prelude.{◌≡◌, ◌<◌, ◌≤◌, ◌↔◌, Is
 
 use arrayvec::ArrayVec;
 use re_cert::SetEntry;
-use re_labels::{LabelSet, MAX_LABELS};
+use re_labels::{Constraint, LabelSet, MAX_LABELS};
 use re_problem::{first_not_allowed, first_not_good};
-use re_table::Constraint;
 
 /// Whether the entries have exactly the labels below the number, each once and ascending, each with a nonempty set. It takes no
 /// memory, and walks the entries once.

@@ -10,8 +10,7 @@ ghost use Rattle.std.specs.Prelude.{◌≡◌, ◌<◌, ◌↔◌, ℕ, List, Co
 use crate::row_sets::place_for;
 use arrayvec::ArrayVec;
 use re_cert::SetEntry;
-use re_labels::{Config, LabelSet, MAX_LABELS, Row};
-use re_table::Constraint;
+use re_labels::{Config, Constraint, LabelSet, MAX_LABELS, Row};
 
 // The label of the entry for the set.
 fn label_for(entries: &[SetEntry], set: LabelSet) -> u8

@@ -6,14 +6,13 @@ ghost use Rattle.re_check.specs.StepClauses.{KeepsAllowedByRow, KeepsImages, Occ
 ghost use Rattle.re_labels.specs.Lists.{count_from};
 ghost use Rattle.re_labels.specs.Sets.{has, with_label};
 ghost use Rattle.re_problem.specs.Steps.{SetEntry};
-ghost use Rattle.re_table.specs.Constraints.{Has};
+ghost use Rattle.re_labels.specs.Constraints.{Has};
 ghost use Rattle.std.specs.List.{AllByRecursion, list_all};
 ghost use Rattle.std.specs.Prelude.{◌≡◌, ◌<◌, ◌↔◌, ◌++◌, ℕ, List, Contains, IsTrue, if◌then◌else◌, length, map, nat_lt};
 
 use crate::allowed_images::{has_all_choices, sets_at};
 use re_cert::RowImage;
-use re_labels::{Config, LabelSet, MAX_LABELS, Row};
-use re_table::Constraint;
+use re_labels::{Config, Constraint, LabelSet, MAX_LABELS, Row};
 
 // Whether each label is one that configurations may have.
 fn are_labels(labels: &[u8]) -> bool

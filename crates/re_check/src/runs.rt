@@ -2,14 +2,13 @@
 ghost use Rattle.re_labels.specs.Rows.{IsChoice};
 ghost use Rattle.re_check.specs.EqualSets.{given_by, narrowed};
 ghost use Rattle.re_labels.specs.Sets.{IsLabelSet};
-ghost use Rattle.re_table.specs.Constraints.{Has};
-ghost use Rattle.re_table.specs.GoodRows.{is_good};
+ghost use Rattle.re_labels.specs.Constraints.{Has};
+ghost use Rattle.re_labels.specs.GoodRows.{is_good};
 ghost use Rattle.std.specs.List.{AllByRecursion};
 ghost use Rattle.std.specs.Prelude.{◌≡◌, ◌≤◌, ◌<◌, ◌+◌, ◌++◌, ◌∷◌, ◌↔◌, ℕ, List, IsTrue, length};
 
 use arrayvec::ArrayVec;
-use re_labels::{Config, LabelSet, MAX_LABELS, Row};
-use re_table::{Constraint, Trail};
+use re_labels::{Config, Constraint, LabelSet, MAX_LABELS, Row, Trail};
 
 // The labels that the next set gives behind a set of which some are left.
 fn labels_of(set: LabelSet, left: LabelSet, next: LabelSet) -> LabelSet

@@ -3,7 +3,7 @@ ghost use Rattle.re_cert.specs.Bounds.{map_of};
 ghost use Rattle.re_problem.specs.Steps.LowerMap.{by_row, by_set};
 ghost use Rattle.re_check.specs.Clauses.{are_allowed, are_exchanged, are_good, are_maximal, have_labels, have_row_sets, is_filled, keep_allowed, keep_allowed_by_row, keep_images, keep_rows, step_fault};
 ghost use Rattle.re_check.specs.StepClauses.{HasNextLabels, HasRowSets};
-ghost use Rattle.re_table.specs.GoodRows.{max_rows};
+ghost use Rattle.re_labels.specs.GoodRows.{max_rows};
 ghost use Rattle.std.specs.List.{AllByRecursion, list_all};
 ghost use Rattle.std.specs.Prelude.{◌≡◌, ◌<◌, IsTrue, [], false, length, nat_lt, true};
 
@@ -15,9 +15,8 @@ use crate::row_images::keeps_rows;
 use crate::row_maps::{keeps_allowed_by_row, keeps_images};
 use crate::row_sets::are_row_sets;
 use re_cert::{LowerMap, RowImage, SetEntry, Step, StepParts, set_fits};
-use re_labels::{MAX_LABELS, Row};
+use re_labels::{Constraint, MAX_LABELS, Row};
 use re_problem::Problem;
-use re_table::Constraint;
 
 /// Whether the degrees of the next problem are those of the one before, exchanged.
 pub fn are_exchanged(before: &Problem, next: &Problem) -> bool

@@ -12,8 +12,8 @@ use Rattle.re_local.specs.LocalAlgorithms.{identified}
 use Rattle.re_classes.proofs.Numbered.{numbered_active, numbered_passive, painted-relabelled}
 use Rattle.re_classes.specs.RandomLaws.{CertainLaw}
 use Rattle.re_classes.specs.RandomAlgorithms.{painted, string_lists}
-use Rattle.re_table.proofs.Goodness.{Has-has_config}
-use Rattle.re_table.specs.Constraints.{Has, has_config}
+use Rattle.re_labels.proofs.Goodness.{Has-has_config}
+use Rattle.re_labels.specs.Constraints.{Has, has_config}
 
 pub strings_low : (R k : ℕ) (strings : List ℕ) → 1 ≤ R → Contains (string_lists R k) strings → (x : ℕ) → slice_index strings x < R
 strings_low R zero strings some held x = go (elim (Contains-cases strings [] [] held) [ inl e ↦ e | inr there ↦ absurd (Contains-none strings there) ])

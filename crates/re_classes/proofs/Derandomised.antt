@@ -30,8 +30,8 @@ use Rattle.re_classes.specs.IdentifiedRandom.{FailsRarelyIdentified, with_images
 use Rattle.re_local.proofs.Counting.{one_if}
 use Rattle.re_local.proofs.Separated.{sinkless_unique}
 use Rattle.re_local.specs.SeparatingLaws.{identifier_base}
-use Rattle.re_table.proofs.Goodness.{has_config-Has}
-use Rattle.re_table.specs.Constraints.{has_config}
+use Rattle.re_labels.proofs.Goodness.{has_config-Has}
+use Rattle.re_labels.specs.Constraints.{has_config}
 
 -- whether nothing stands twice
 abbrev pub are_different : List ℕ → Bool

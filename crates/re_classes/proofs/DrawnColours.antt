@@ -32,8 +32,8 @@ use Rattle.re_classes.proofs.Numbered.{numbered_active, painted-relabelled}
 use Rattle.re_classes.specs.Chances.{DrawnColourLaw}
 use Rattle.re_classes.specs.RandomAlgorithms.{FailsRarely, painted, string_lists}
 use Rattle.re_local.proofs.Counting.{one_if, total, total-const, total-le}
-use Rattle.re_table.proofs.Goodness.{Has-Rearranged, Has-has_config, has_config-Has}
-use Rattle.re_table.specs.Constraints.{Has, has_config}
+use Rattle.re_labels.proofs.Goodness.{Has-Rearranged, Has-has_config, has_config-Has}
+use Rattle.re_labels.specs.Constraints.{Has, has_config}
 use Rattle.re_laws.proofs.JoinedBranches.{backs-child}
 use Rattle.re_laws.proofs.ViewLaws.{IsChild, child_of}
 use Rattle.re_laws.specs.Trees.{Child, IsTree, IsView, backs, child_at, end, leaf, more, shift}

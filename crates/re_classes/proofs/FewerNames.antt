@@ -18,7 +18,7 @@ use Rattle.re_classes.specs.RandomLaws.{FewerNamesLaw}
 use Rattle.re_classes.specs.IdentifiedRandom.{with_strings}
 use Rattle.re_classes.specs.RandomAlgorithms.{string_lists}
 use Rattle.re_local.proofs.Counting.{one_if, total-scaled}
-use Rattle.re_table.specs.Constraints.{Constraint, Has, has_config}
+use Rattle.re_labels.specs.Constraints.{Constraint, Has, has_config}
 use Rattle.re_laws.specs.Trees.{end, leaf, more}
 
 -- f depends on the first N strings alone

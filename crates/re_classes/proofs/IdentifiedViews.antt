@@ -21,8 +21,8 @@ use Rattle.re_classes.specs.RandomLaws.{CertainIdentifiedLaw, UnnoticedNamesLaw}
 use Rattle.re_classes.specs.IdentifiedRandom.{FailsRarelyIdentified, with_images, with_strings}
 use Rattle.re_classes.specs.RandomAlgorithms.{FailsRarely, painted, string_lists}
 use Rattle.re_local.proofs.Counting.{one_if}
-use Rattle.re_table.proofs.Goodness.{Has-has_config}
-use Rattle.re_table.specs.Constraints.{Has, has_config}
+use Rattle.re_labels.proofs.Goodness.{Has-has_config}
+use Rattle.re_labels.specs.Constraints.{Has, has_config}
 use Rattle.re_laws.specs.Trees.{IsTree, IsView, backs, end, leaf, more, shift}
 
 -- what is known of a node in place of its identifier

@@ -22,7 +22,7 @@ use Rattle.re_layers.specs.Networks.{AreDifferent}
 use Rattle.re_local.specs.LocalAlgorithms.{behind_active, behind_passive, identified, shown}
 use Rattle.re_problem.proofs.StepLaws.{map-map}
 use Rattle.re_classes.specs.RandomAlgorithms.{painted}
-use Rattle.re_table.specs.Constraints.{Constraint, Has}
+use Rattle.re_labels.specs.Constraints.{Constraint, Has}
 use Rattle.re_laws.specs.Trees.{IsTree, end, leaf, more}
 
 -- ---- the labels of a view

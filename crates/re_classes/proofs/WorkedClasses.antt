@@ -18,7 +18,7 @@ use Rattle.re_labels.proofs.Membership.{AllByRecursion-contains, Contains-cases,
 use Rattle.re_problem.specs.Problems.{IsProblem}
 use Rattle.re_local.proofs.Separated.{sinkless_unique}
 use Rattle.re_local.specs.SeparatingLaws.{identifier_base}
-use Rattle.re_table.specs.Constraints.{Has}
+use Rattle.re_labels.specs.Constraints.{Has}
 
 pub is_three : IsProblem (colouring 2 2 3)
 is_three = IsProblem-colouring 2 2 3 (omega arith) (omega arith) (omega arith) (omega arith)

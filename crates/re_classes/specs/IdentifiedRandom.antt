@@ -6,7 +6,7 @@ use Rattle.re_layers.specs.Networks.{AreDifferent}
 use Rattle.re_local.specs.LocalAlgorithms.{behind_passive, identified, shown}
 use Rattle.re_problem.specs.Problems.{Problem}
 use Rattle.re_classes.specs.RandomAlgorithms.{string_lists}
-use Rattle.re_table.specs.Constraints.{has_config}
+use Rattle.re_labels.specs.Constraints.{has_config}
 use Rattle.re_laws.specs.Trees.{IsView, end, leaf, more}
 
 -- the view with the image of each node's label in its place

@@ -5,7 +5,7 @@ use Rattle.re_given.specs.InputViews.{Fits, InputView, known}
 use Rattle.re_labels.specs.Lists.{count_from}
 use Rattle.re_local.specs.LocalAlgorithms.{behind_passive, identified, shown}
 use Rattle.re_problem.specs.Problems.{Problem}
-use Rattle.re_table.specs.Constraints.{has_config}
+use Rattle.re_labels.specs.Constraints.{has_config}
 use Rattle.re_laws.specs.Trees.{IsView, end, leaf, more}
 
 -- what k nodes may draw, each one of R strings, which are the numbers below R: all lists of k strings

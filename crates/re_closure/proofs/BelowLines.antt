@@ -13,9 +13,9 @@ use Rattle.re_labels.proofs.Sets.{IsWithin-within, within-IsWithin}
 use Rattle.re_labels.proofs.Tests.{same_tests}
 use Rattle.re_labels.specs.Lists.{count_from, place_of}
 use Rattle.re_labels.specs.Sets.{IsIn, IsWithin, within}
-use Rattle.re_table.proofs.Goodness.{IsAllowed-is_allowed, IsDominated-is_dominated, is_allowed-IsAllowed, is_dominated-IsDominated}
-use Rattle.re_table.specs.Constraints.{Constraint}
-use Rattle.re_table.specs.GoodRows.{IsAllowed, IsDominated, allowed, is_allowed, is_dominated}
+use Rattle.re_labels.proofs.Goodness.{IsAllowed-is_allowed, IsDominated-is_dominated, is_allowed-IsAllowed, is_dominated-IsDominated}
+use Rattle.re_labels.specs.Constraints.{Constraint}
+use Rattle.re_labels.specs.GoodRows.{IsAllowed, IsDominated, allowed, is_allowed, is_dominated}
 use Rattle.re_closure_laws.proofs.Steps.{Has-topmost, Has-topmost_cases}
 use Rattle.re_closure_laws.specs.Lines.{Family, IsFamily, below, topmost}
 use Rattle.re_closure.specs.Sides.{labels_around}

@@ -14,7 +14,7 @@ use Rattle.re_labels.proofs.Membership.{Contains-cases, Contains-here, Contains-
 use Rattle.re_labels.proofs.Sets.{IsIn-meet_cases, IsIn-union_cases}
 use Rattle.re_labels.specs.Sets.{IsWithin, meet, union}
 use Rattle.re_labels.proofs.Lists.{Contains-last, Contains-more, Contains-more_cases}
-use Rattle.re_table.specs.GoodRows.{IsDominated}
+use Rattle.re_labels.specs.GoodRows.{IsDominated}
 use Rattle.re_closure.proofs.Places.{append_right, front, placed_first, read_at, removed_same, to_middle}
 use Rattle.re_closure.specs.Combining.{AreAllAt, AreAllBefore, AreAllOf, AreDominatedAt, AreMeetings, HasAlike, IsCombination, IsMeeting, joined}
 

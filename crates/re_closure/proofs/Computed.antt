@@ -7,7 +7,7 @@ use Rattle.re_labels.specs.declared.TheConstants.{MAX_ROWS}
 use Rattle.re_problem.specs.NamedProblems.{IsNamedProblem, NamedProblem, unnamed}
 use Rattle.re_problem.specs.Problems.{IsProblem, Problem}
 use Rattle.re_step.specs.LabelNames.{label_names}
-use Rattle.re_table.specs.Constraints.{Constraint}
+use Rattle.re_labels.specs.Constraints.{Constraint}
 use Rattle.re_closure.proofs.NamedFamilies.{named_between, named_closed, same_count}
 use Rattle.re_closure_laws.specs.Closures.{AreClosure}
 use Rattle.re_closure_laws.specs.Lines.{Family}

@@ -11,7 +11,7 @@ use Rattle.re_labels.specs.Rearranging.{Rearranged}
 use Rattle.re_labels.specs.Rows.{Dominates, dominates}
 use Rattle.re_labels.proofs.Membership.{Contains-cases, Contains-here, Contains-none}
 use Rattle.re_labels.proofs.Lists.{Contains-last, Contains-more}
-use Rattle.re_table.specs.GoodRows.{IsDominated}
+use Rattle.re_labels.specs.GoodRows.{IsDominated}
 use Rattle.re_closure_laws.specs.Closures.{IsGenerated}
 use Rattle.re_closure.specs.Kept.{HasManyCombinations, IsCounted, IsKept, combinations_of, pairs_of}
 use Rattle.re_closure.specs.declared.topmost.TheConstants.{MAX_COMBINATIONS}

@@ -5,7 +5,7 @@ use Rattle.std.proofs.lemmas.Bool.{cases_lt}
 use Rattle.std.proofs.lemmas.List.{nil_from_length}
 use Rattle.re_labels.proofs.Rearranging.{Rearranged-refl, length-AllZip, length-Rearranged}
 use Rattle.re_labels.proofs.RowCalls.{read_within}
-use Rattle.re_table.specs.GoodRows.{IsDominated}
+use Rattle.re_labels.specs.GoodRows.{IsDominated}
 use Rattle.re_labels.specs.Rearranging.{chained, kept}
 use Rattle.re_labels.specs.Rows.{Dominates, IsUnder, set_at}
 use Rattle.re_labels.specs.Sets.{IsWithin}

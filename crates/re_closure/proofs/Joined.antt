@@ -16,11 +16,11 @@ use Rattle.re_labels.specs.declared.TheConstants.{MAX_LABELS}
 use Rattle.re_labels.proofs.Rearranging.{Contains-Rearranged, Rearranged-sym}
 use Rattle.re_labels.specs.declared.TheConstants.{MAX_ROWS}
 use Rattle.re_labels.specs.Rows.{placed}
-use Rattle.re_table.proofs.MaxSets.{max_sets-from}
-use Rattle.re_table.specs.Constraints.{Constraint}
+use Rattle.re_labels.proofs.MaxSets.{max_sets-from}
+use Rattle.re_labels.specs.Constraints.{Constraint}
 use Rattle.re_check.proofs.RowSets.{row_sets_law}
 use Rattle.re_check.specs.StepClauses.{HasRowSets}
-use Rattle.re_table.specs.GoodRows.{max_rows, max_sets}
+use Rattle.re_labels.specs.GoodRows.{max_rows, max_sets}
 use Rattle.re_problem.proofs.Building.{below_all}
 use Rattle.re_problem.proofs.TextLines.{last_push}
 use Rattle.re_problem.proofs.ZeroPlaces.{law as zero_place_law}

@@ -17,8 +17,8 @@ use Rattle.re_labels.proofs.Membership.{Contains-In, Contains-cases, Contains-he
 use Rattle.re_labels.proofs.Sets.{IsIn-meet, IsIn-meet_cases, IsIn-union, IsIn-union_cases}
 use Rattle.re_labels.specs.Sets.{IsWithin, meet, union}
 use Rattle.re_labels.proofs.Lists.{Contains-last, Contains-more, Contains-more_cases}
-use Rattle.re_table.proofs.Closure.{combined_along}
-use Rattle.re_table.specs.GoodRows.{IsDominated}
+use Rattle.re_labels.proofs.Closure.{combined_along}
+use Rattle.re_labels.specs.GoodRows.{IsDominated}
 use Rattle.re_closure_laws.proofs.Monotone.{generated_law}
 use Rattle.re_closure_laws.specs.Closures.{AreTopmost, IsGenerated}
 use Rattle.re_closure_laws.specs.Closures.IsGenerated.{combine, move, start}

@@ -12,8 +12,8 @@ use Rattle.re_labels.proofs.LabelPlaces.{get-place_of, map-get-place_of, place_o
 use Rattle.re_labels.specs.Lists.{place_of}
 use Rattle.re_labels.specs.Sets.{IsIn, IsLabelSet, IsWithin}
 use Rattle.re_labels.specs.declared.TheConstants.{MAX_LABELS}
-use Rattle.re_table.specs.Constraints.{Constraint}
-use Rattle.re_table.specs.GoodRows.{IsDominated}
+use Rattle.re_labels.specs.Constraints.{Constraint}
+use Rattle.re_labels.specs.GoodRows.{IsDominated}
 use Rattle.re_problem.proofs.Building.{build_law}
 use Rattle.re_problem.specs.NamedProblems.{IsNamedProblem, NamedProblem, OccursIn, built, unnamed}
 use Rattle.re_problem.specs.Problems.{IsProblem, Problem}

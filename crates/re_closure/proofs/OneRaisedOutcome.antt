@@ -7,7 +7,7 @@ use Rattle.re_chains.specs.OverChains.{certificate_outcome}
 use Rattle.re_problem.specs.NamedProblems.{NamedProblem, unnamed}
 use Rattle.re_problem.specs.Problems.{IsProblem, Problem}
 use Rattle.re_problem.specs.Steps.LowerMap.{by_row}
-use Rattle.re_table.specs.GoodRows.{max_rows}
+use Rattle.re_labels.specs.GoodRows.{max_rows}
 use Rattle.re_closure_laws.specs.Closures.{AreClosure}
 use Rattle.re_closure_laws.specs.Lines.{Family}
 use Rattle.re_closure.proofs.OneOutcome.{between_named, limit_lines, lines, not_both, one_sets, same_bound, small_passes, two_passes}

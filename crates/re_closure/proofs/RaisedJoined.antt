@@ -23,7 +23,7 @@ use Rattle.re_problem.specs.ProblemTexts.{last_or}
 use Rattle.re_problem.specs.Steps.LowerMap.{by_row}
 use Rattle.re_problem.specs.Steps.{IsLowerStepByRow, IsRelaxed}
 use Rattle.re_problem.specs.Zero.{zero_place}
-use Rattle.re_table.specs.GoodRows.{max_rows}
+use Rattle.re_labels.specs.GoodRows.{max_rows}
 use Rattle.re_closure_laws.specs.Lines.{Family, below, problem_of}
 use Rattle.re_closure.proofs.Joined.{IsLonger, fits, fits_fixed, goes_on, is_formed, made_is, step_longer}
 use Rattle.re_closure.proofs.NamedFamilies.{named_between, unnamed_of}

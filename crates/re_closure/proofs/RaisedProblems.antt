@@ -13,11 +13,11 @@ use Rattle.re_labels.specs.Sets.{IsIn}
 use Rattle.re_problem.proofs.StepLaws.{IsRelaxed-itself}
 use Rattle.re_problem.specs.NamedProblems.{IsNamedProblem, NamedProblem, built, unnamed}
 use Rattle.re_problem.specs.Steps.{IsRelaxed}
-use Rattle.re_table.proofs.Goodness.{IsAllowed-Rearranged}
-use Rattle.re_table.proofs.MaxSets.{allowed_law}
-use Rattle.re_table.specs.Constraints.{Constraint, Has, IsConstraint}
-use Rattle.re_table.specs.GoodRows.{IsAllowed}
-use Rattle.re_table.specs.Strength.{IsAtLeastAsStrong}
+use Rattle.re_labels.proofs.Goodness.{IsAllowed-Rearranged}
+use Rattle.re_labels.proofs.MaxSets.{allowed_law}
+use Rattle.re_labels.specs.Constraints.{Constraint, Has, IsConstraint}
+use Rattle.re_labels.specs.GoodRows.{IsAllowed}
+use Rattle.re_labels.specs.Strength.{IsAtLeastAsStrong}
 use Rattle.re_closure.proofs.DiagramOrders.{all_below-at, all_below-count, below_itself, below_on, in_below, of_below, order_law}
 use Rattle.re_closure.proofs.NamedFamilies.{surely_built}
 use Rattle.re_closure.specs.Diagrams.{RaisedLaw, all_below, is_below, raised, raised_constraint}

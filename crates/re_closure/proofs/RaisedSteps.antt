@@ -18,8 +18,8 @@ use Rattle.re_problem.specs.Derived.{derived}
 use Rattle.re_problem.specs.Problems.{IsProblem, Problem}
 use Rattle.re_problem.specs.Steps.LowerMap.{by_row}
 use Rattle.re_problem.specs.Steps.{IsLowerStepByRow, IsRelaxed, SetEntry, label_at}
-use Rattle.re_table.proofs.MaxSets.{max_sets-row}
-use Rattle.re_table.specs.GoodRows.{max_rows, max_sets}
+use Rattle.re_labels.proofs.MaxSets.{max_sets-row}
+use Rattle.re_labels.specs.GoodRows.{max_rows, max_sets}
 use Rattle.re_closure_laws.proofs.Closing.{closure_bound_law}
 use Rattle.re_closure_laws.proofs.Entries.{label_at_by}
 use Rattle.re_closure_laws.proofs.Generated.{same_set}

@@ -23,7 +23,7 @@ use Rattle.re_labels.specs.Lists.{count_from}
 use Rattle.re_problem.specs.NamedProblems.{IsNamedProblem, NamedProblem, unnamed}
 use Rattle.re_problem.specs.Steps.{IsRelaxed}
 use Rattle.re_problem.specs.Zero.{zero_place}
-use Rattle.re_table.specs.Constraints.{Constraint, Has, IsConstraint}
+use Rattle.re_labels.specs.Constraints.{Constraint, Has, IsConstraint}
 use Rattle.re_search.proofs.Paths.{fits-more, valid-more}
 use Rattle.re_closure.proofs.Joined.{IsLonger, is_formed, one_form-of}
 use Rattle.re_closure.proofs.RaisedJoined.{written_begun}

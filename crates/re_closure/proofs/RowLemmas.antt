@@ -19,8 +19,8 @@ use Rattle.re_labels.proofs.Tests.{true-and}
 use Rattle.re_labels.specs.Lists.{IsRising, place_of}
 use Rattle.re_labels.specs.Sets.{IsIn, IsLabelSet, IsWithin, number}
 use Rattle.re_labels.specs.declared.TheConstants.{MAX_LABELS}
-use Rattle.re_table.proofs.MaxRows.{rising-max_rows}
-use Rattle.re_table.specs.GoodRows.{max_rows}
+use Rattle.re_labels.proofs.MaxRows.{rising-max_rows}
+use Rattle.re_labels.specs.GoodRows.{max_rows}
 use Rattle.re_boxes.proofs.Spread.{IsIn-filled}
 use Rattle.re_boxes.specs.Ordering.{is_row_before}
 use Rattle.re_problem.specs.Problems.{IsProblem, Problem}
@@ -237,6 +237,6 @@ module _ (problem : Problem) (active passive : Family) (is : IsProblem problem) 
           let fam = closure_families_law problem active passive is closure in
           let held = In-Contains z (max_rows problem.passive problem.labels) i in
           let (line, there, p) = of_maximal problem active passive is fam.0 fam.1 fam.2 z held in
-          let row = (Rattle.re_table.proofs.MaxSets.maximal problem.passive problem.labels z held).is_row in
+          let row = (Rattle.re_labels.proofs.MaxSets.maximal problem.passive problem.labels z held).is_row in
           let e = in_order-row problem.passive.degree problem.labels line z row p in
           Contains-In z (map (in_order problem.labels) passive.lines) (subst (Contains (map (in_order problem.labels) passive.lines)) (sym e) (Contains-map (in_order problem.labels) passive.lines line there))

@@ -3,7 +3,7 @@ use Rattle.std.specs.Prelude.{◌≡◌, suc, ◌<◌, ◌≤◌, Bool, [], ◌�
 use Rattle.re_labels.specs.Lists.{count_from, place_of}
 use Rattle.re_cert.specs.Bounds.{Bound, BoundStep}
 use Rattle.re_cert.specs.declared.certificate.Kind.TheVariants.{Fixed}
-use Rattle.re_table.specs.declared.constraint_table.TheConstants.{MAX_CONFIGURATIONS}
+use Rattle.re_labels.specs.declared.constraint_table.TheConstants.{MAX_CONFIGURATIONS}
 use Rattle.re_problem.specs.Problems.{Problem}
 use Rattle.re_closure_laws.specs.Lines.{Family, below, labels_within, topmost}
 use Rattle.re_closure.specs.Limits.{IsSmallClosure}

@@ -4,7 +4,7 @@ use Rattle.std.specs.List.{remove}
 use Rattle.re_labels.specs.Sets.{union}
 use Rattle.re_labels.specs.Rearranging.{Rearranged}
 use Rattle.re_labels.specs.Rows.{combined, meets, set_at}
-use Rattle.re_table.specs.GoodRows.{IsDominated}
+use Rattle.re_labels.specs.GoodRows.{IsDominated}
 
 -- the list has the line, in some order
 abbrev pub HasAlike : List (List (List ℕ)) → List (List ℕ) → Type 0

@@ -4,9 +4,9 @@ use Rattle.re_labels.specs.Lists.{count_from}
 use Rattle.re_labels.specs.Sets.{has, union}
 use Rattle.re_problem.specs.NamedProblems.{IsNamedProblem, NamedProblem, unnamed}
 use Rattle.re_problem.specs.Steps.{IsRelaxed}
-use Rattle.re_table.specs.Constraints.{Constraint}
-use Rattle.re_table.specs.GoodRows.{allowed}
-use Rattle.re_table.specs.Strength.{IsAtLeastAsStrong}
+use Rattle.re_labels.specs.Constraints.{Constraint}
+use Rattle.re_labels.specs.GoodRows.{allowed}
+use Rattle.re_labels.specs.Strength.{IsAtLeastAsStrong}
 
 -- the least order that holds the edges, each of which has its lower label first: a way along edges leads up from the one label to the other
 pub data IsBelow (edges : List (ℕ × ℕ)) : ℕ → ℕ → Type 0 where

@@ -4,7 +4,7 @@ use Rattle.re_labels.specs.Orders.{factorial}
 use Rattle.re_labels.specs.Rearranging.{Rearranged}
 use Rattle.re_labels.specs.Rows.{Dominates, combined}
 use Rattle.re_labels.specs.declared.TheConstants.{MAX_ROWS}
-use Rattle.re_table.specs.GoodRows.{IsDominated}
+use Rattle.re_labels.specs.GoodRows.{IsDominated}
 use Rattle.re_closure_laws.specs.Closures.{IsGenerated}
 use Rattle.re_closure_laws.specs.Lines.{AreApart}
 use Rattle.re_closure.specs.Combining.{IsCombination}

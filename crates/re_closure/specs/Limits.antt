@@ -1,7 +1,7 @@
 -- The limits of a closure.
 use Rattle.std.specs.Prelude.{◌≡◌, ℕ, ◌<◌, ◌≤◌, ◌⊎◌, length}
 use Rattle.re_labels.specs.declared.TheConstants.{MAX_LABELS}
-use Rattle.re_table.specs.declared.constraint_table.TheConstants.{MAX_CONFIGURATIONS}
+use Rattle.re_labels.specs.declared.constraint_table.TheConstants.{MAX_CONFIGURATIONS}
 use Rattle.re_problem.specs.Problems.{Problem}
 use Rattle.re_closure_laws.specs.Closures.{AreClosure}
 use Rattle.re_closure_laws.specs.Lines.{Family, below}

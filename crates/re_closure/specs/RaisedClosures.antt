@@ -17,8 +17,8 @@ use Rattle.re_problem.specs.Problems.{IsProblem, Problem}
 use Rattle.re_problem.specs.Steps.LowerMap.{by_row}
 use Rattle.re_problem.specs.Steps.{IsLowerStepByRow, IsRelaxed}
 use Rattle.re_problem.specs.Zero.{zero_place}
-use Rattle.re_table.specs.GoodRows.{max_rows}
-use Rattle.re_table.specs.declared.constraint_table.TheConstants.{MAX_CONFIGURATIONS}
+use Rattle.re_labels.specs.GoodRows.{max_rows}
+use Rattle.re_labels.specs.declared.constraint_table.TheConstants.{MAX_CONFIGURATIONS}
 use Rattle.re_closure_laws.specs.Closures.{AreClosure}
 use Rattle.re_closure_laws.specs.Lines.{Family, problem_of}
 use Rattle.re_closure.specs.Closures.{HasRoom, IsSolvableBy}

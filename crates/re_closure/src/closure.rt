@@ -18,10 +18,9 @@ use crate::rows::maximal_of;
 use crate::sets::all_within;
 use crate::topmost::LinesFault;
 use crate::types::{ClosureFault, ClosureLimit, StepMap};
-use re_labels::{LabelSet, MAX_LABELS, NoMemory};
+use re_labels::{Constraint, LabelSet, MAX_LABELS, NoMemory};
 use re_problem::Problem;
 use re_step::{AllowedFault, names_of};
-use re_table::Constraint;
 use std::alloc::Global;
 
 /// One side of a closure.

@@ -4,15 +4,14 @@ ghost use Rattle.re_labels.specs.Configs.{sorted};
 ghost use Rattle.re_labels.specs.declared.TheConstants.{MAX_ROWS};
 ghost use Rattle.re_labels.specs.Lists.{place_of};
 ghost use Rattle.re_closure_laws.specs.Lines.{IsFamily, below, topmost};
-ghost use Rattle.re_table.specs.declared.constraint_table.TheConstants.{MAX_CONFIGURATIONS};
+ghost use Rattle.re_labels.specs.declared.constraint_table.TheConstants.{MAX_CONFIGURATIONS};
 ghost use Rattle.std.specs.Prelude.{◌≡◌, ◌<◌, ◌≤◌, Contains, IfOk, IsErrOf, List, length, map, ℕ};
 
 use crate::line::SetLine;
 use crate::sets::all_around;
 use arrayvec::ArrayVec;
-use re_labels::{Config, LabelSet, MAX_LABELS, NoMemory};
+use re_labels::{Config, Constraint, InsertFault, LabelSet, MAX_LABELS, NoMemory};
 use re_step::{AllowedFault, allowed, place_of};
-use re_table::{Constraint, InsertFault};
 use std::alloc::Global;
 
 // The places of the line's sets among the sets.

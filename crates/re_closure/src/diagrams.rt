@@ -5,7 +5,7 @@ ghost use Rattle.re_closure.specs.declared.types.ClosureLimit.TheVariants.{Confi
 ghost use Rattle.re_labels.specs.Rows.{set_at};
 ghost use Rattle.re_labels.specs.Lists.{count_from};
 ghost use Rattle.re_labels.specs.declared.TheConstants.{MAX_LABELS};
-ghost use Rattle.re_table.specs.declared.constraint_table.TheConstants.{MAX_CONFIGURATIONS};
+ghost use Rattle.re_labels.specs.declared.constraint_table.TheConstants.{MAX_CONFIGURATIONS};
 ghost use Rattle.std.specs.Prelude.{◌≡◌, ◌<◌, ◌≤◌, ◌∷◌, [], Err, IfOk, length, map};
 
 use crate::types::{ClosureFault, ClosureLimit};

@@ -1,6 +1,6 @@
 //! Which lines dominate which.
 ghost use Rattle.re_labels.specs.Rows.{Dominates, set_at};
-ghost use Rattle.re_table.specs.GoodRows.{IsDominated};
+ghost use Rattle.re_labels.specs.GoodRows.{IsDominated};
 ghost use Rattle.std.specs.List.{remove};
 ghost use Rattle.re_labels.specs.Sets.{number};
 ghost use Rattle.std.specs.Prelude.{◌≡◌, ◌<◌, ◌≤◌, ◌-◌, ◌↔◌, IsTrue, false, length};

@@ -16,9 +16,8 @@ use crate::line::SetLine;
 use crate::topmost::{LinesFault, topmost_lines};
 use arrayvec::ArrayVec;
 use re_algo::set_at;
-use re_labels::{Config, LabelSet, NoMemory};
+use re_labels::{Config, Constraint, LabelSet, NoMemory};
 use re_problem::Problem;
-use re_table::Constraint;
 use std::alloc::Global;
 
 /// The lines of the closure of a problem that no other dominates, and the sets for which its labels stand.

@@ -2,14 +2,13 @@
 ghost use Rattle.re_closure.specs.Sides.{IsMapOf, entries_by};
 ghost use Rattle.re_labels.specs.declared.TheConstants.{MAX_ROWS};
 ghost use Rattle.re_labels.specs.Lists.{place_of};
-ghost use Rattle.re_table.specs.GoodRows.{max_rows, max_sets};
+ghost use Rattle.re_labels.specs.GoodRows.{max_rows, max_sets};
 ghost use Rattle.std.specs.Prelude.{◌≡◌, ◌≤◌, ◌<◌, Contains, IfOk, List, flat_map, length, ℕ};
 
 use crate::types::StepMap;
 use re_cert::SetEntry;
-use re_labels::{LabelSet, MAX_LABELS, NoMemory, Row};
+use re_labels::{Constraint, LabelSet, MAX_LABELS, NoMemory, Row};
 use re_step::{place_of, sets_of};
-use re_table::Constraint;
 use std::alloc::Global;
 
 // The different sets of the maximal rows.

@@ -13,7 +13,7 @@ ghost use Rattle.re_closure.specs.RaisedClosures.{raised_chain, step_to_raised};
 ghost use Rattle.re_frame.specs.Outcomes.{outcome_of};
 ghost use Rattle.re_labels.specs.Lists.{count_from};
 ghost use Rattle.re_labels.specs.declared.TheConstants.{MAX_LABELS};
-ghost use Rattle.re_table.specs.declared.constraint_table.TheConstants.{MAX_CONFIGURATIONS};
+ghost use Rattle.re_labels.specs.declared.constraint_table.TheConstants.{MAX_CONFIGURATIONS};
 ghost use Rattle.std.specs.Prelude.{◌≡◌, ◌≤◌, ◌∷◌, ◌++◌, [], Err, IfOk, None, Some, length, option_map, true};
 
 use crate::answering::stop_output;

@@ -13,7 +13,7 @@ ghost use Rattle.re_problem.specs.NamedProblems.{unnamed};
 ghost use Rattle.re_problem.specs.Steps.LowerMap.{by_row};
 ghost use Rattle.re_problem.specs.Steps.{IsRelaxed};
 ghost use Rattle.re_problem.specs.Zero.{zero_place};
-ghost use Rattle.re_table.specs.GoodRows.{max_rows};
+ghost use Rattle.re_labels.specs.GoodRows.{max_rows};
 ghost use Rattle.std.specs.List.{AllByRecursion};
 ghost use Rattle.std.specs.Prelude.{◌≡◌, ◌<◌, ◌≤◌, ℕ, Err, IfOk, List, None, length, map, true};
 

@@ -5,7 +5,7 @@ ghost use Rattle.re_labels.specs.declared.TheConstants.{MAX_ROWS};
 ghost use Rattle.re_labels.specs.Lists.{IsRising};
 ghost use Rattle.re_closure_laws.specs.Lines.{AreApart, IsFamily, below, labels_within, row_within};
 ghost use Rattle.re_boxes.specs.Ordering.{is_row_before};
-ghost use Rattle.re_table.specs.GoodRows.{max_rows};
+ghost use Rattle.re_labels.specs.GoodRows.{max_rows};
 ghost use Rattle.std.specs.List.Sorted.{IsPermutation, IsSortedBy};
 ghost use Rattle.std.specs.Prelude.{◌≡◌, ◌<◌, ◌≤◌, ◌-◌, ◌↔◌, Contains, IfOk, IsTrue, List, false, length, map, ℕ};
 ghost use Rattle.std.specs.declared.cmp.Ordering.TheVariants.{Equal};

@@ -36,7 +36,7 @@ pub enum ClosureLimit {
     Combinations,
     /// More than `re_labels::MAX_LABELS` labels, and how many.
     Labels(usize),
-    /// More than `re_table::MAX_CONFIGURATIONS` configurations of one side; with a diagram also so many passive ones of the raised problem, told
+    /// More than `re_labels::MAX_CONFIGURATIONS` configurations of one side; with a diagram also so many passive ones of the raised problem, told
     /// before its rows.
     Configurations,
     /// More than `re_cert::MAX_STEPS` steps, with those of the chain.

@@ -16,13 +16,13 @@ use Rattle.re_labels.proofs.Membership.{Contains-In, Contains-filter, Contains-f
 use Rattle.re_labels.proofs.LabelPlaces.{get-place_of, place_of-below}
 use Rattle.re_labels.specs.Lists.{place_of}
 use Rattle.re_labels.specs.Sets.{IsIn, IsWithin}
-use Rattle.re_table.proofs.Closure.{IsFull, IsReached, Shape, closure}
-use Rattle.re_table.proofs.Goodness.{IsDominated-is_dominated, IsGood-Rearranged, is_dominated-IsDominated}
-use Rattle.re_table.proofs.MaxRows.{max_rows-IsMaximal}
-use Rattle.re_table.specs.Constraints.{Constraint, Has}
-use Rattle.re_table.specs.GoodRows.{IsDominated, IsGood, IsMaximal, is_dominated, max_rows}
+use Rattle.re_labels.proofs.Closure.{IsFull, IsReached, Shape, closure}
+use Rattle.re_labels.proofs.Goodness.{IsDominated-is_dominated, IsGood-Rearranged, is_dominated-IsDominated}
+use Rattle.re_labels.proofs.MaxRows.{max_rows-IsMaximal}
+use Rattle.re_labels.specs.Constraints.{Constraint, Has}
+use Rattle.re_labels.specs.GoodRows.{IsDominated, IsGood, IsMaximal, is_dominated, max_rows}
 use Rattle.re_boxes.proofs.Spread.{IsIn-filled}
-use Rattle.re_table.proofs.ClosureLaw.{IsFull-sets}
+use Rattle.re_labels.proofs.ClosureLaw.{IsFull-sets}
 use Rattle.re_closure_laws.proofs.Unders.{IsIn-labels_within, IsLabelSet-labels_within, choice_under, dominated_moved, map_moved, shape-map, singles_under, under-labels_within, under_combined}
 use Rattle.re_closure_laws.specs.Lines.{Family, IsFamily, below, labels_within}
 

@@ -1,6 +1,6 @@
 -- The chain of a problem and its closure.
 use Rattle.std.proofs.Common.{length}
-use Rattle.re_table.specs.GoodRows.{max_rows}
+use Rattle.re_labels.specs.GoodRows.{max_rows}
 use Rattle.re_problem.specs.Steps.LowerMap.{by_set}
 use Rattle.re_problem.specs.Zero.{Zero}
 use Rattle.re_laws.proofs.FastRounds.{Solvable-derived}

@@ -15,8 +15,8 @@ use Rattle.re_labels.proofs.Tests.{and-true, or-left, or-right, or-true, true-an
 use Rattle.re_labels.specs.Inverse.{number-set_of}
 use Rattle.re_labels.specs.Lists.{IsRising, count_from, same_list}
 use Rattle.re_labels.specs.Sets.{IsLabelSet, number, set_of}
-use Rattle.re_table.proofs.Goodness.{IsDominated-is_dominated, is_dominated-IsDominated}
-use Rattle.re_table.specs.GoodRows.{IsDominated, is_dominated}
+use Rattle.re_labels.proofs.Goodness.{IsDominated-is_dominated, is_dominated-IsDominated}
+use Rattle.re_labels.specs.GoodRows.{IsDominated, is_dominated}
 use Rattle.re_closure_laws.proofs.Generated.{moved, fit, active_first, passive_first, IsLabelSet-others}
 use Rattle.re_closure_laws.specs.Closures.{AreClosure, AreTopmost, IsGenerated, Occurs, down_lines, up_lines}
 use Rattle.re_closure_laws.specs.Closures.IsGenerated.{combine, move, start}

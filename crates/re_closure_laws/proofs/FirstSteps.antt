@@ -17,15 +17,15 @@ use Rattle.re_labels.proofs.LabelPlaces.{get-place_of, place_of-below}
 use Rattle.re_labels.proofs.Sets.{IsIn-has, has-IsIn}
 use Rattle.re_labels.specs.Lists.{count_from, place_of}
 use Rattle.re_labels.specs.Sets.{IsIn, IsWithin, has}
-use Rattle.re_table.proofs.Closure.{IsFull, IsReached, Shape, closure, IsFull-under, IsFull-perm}
-use Rattle.re_table.proofs.MaxRows.{max_rows-IsMaximal}
-use Rattle.re_table.proofs.MaxSets.{allowed_law, max_sets-from, max_sets-row}
-use Rattle.re_table.specs.Constraints.{Constraint, Has}
-use Rattle.re_table.specs.GoodRows.{IsAllowed, IsDominated, IsGood, IsMaximal, allowed, max_rows, max_sets}
+use Rattle.re_labels.proofs.Closure.{IsFull, IsReached, Shape, closure, IsFull-under, IsFull-perm}
+use Rattle.re_labels.proofs.MaxRows.{max_rows-IsMaximal}
+use Rattle.re_labels.proofs.MaxSets.{allowed_law, max_sets-from, max_sets-row}
+use Rattle.re_labels.specs.Constraints.{Constraint, Has}
+use Rattle.re_labels.specs.GoodRows.{IsAllowed, IsDominated, IsGood, IsMaximal, allowed, max_rows, max_sets}
 use Rattle.re_boxes.proofs.Spread.{IsIn-filled}
 use Rattle.re_problem.specs.Problems.{IsProblem, Problem}
 use Rattle.re_problem.specs.Steps.{IsLowerStepBySet, label_at, label_of}
-use Rattle.re_table.proofs.ClosureLaw.{IsFull-sets}
+use Rattle.re_labels.proofs.ClosureLaw.{IsFull-sets}
 use Rattle.re_labels.proofs.Searching.{same_read}
 use Rattle.re_closure_laws.proofs.Below.{Has-below, maximal_is}
 use Rattle.re_closure_laws.proofs.Entries.{labels_at_by, labels_of_by, placed_in, sets_by}

@@ -15,11 +15,11 @@ use Rattle.re_labels.proofs.Numbers.{IsLabelSet-count_from, IsLabelSet-filter, I
 use Rattle.re_labels.proofs.Sets.{IsWithin-Sub}
 use Rattle.re_labels.specs.Lists.{IsRising, count_from}
 use Rattle.re_labels.specs.Sets.{IsIn, IsLabelSet, IsWithin, has, number}
-use Rattle.re_table.proofs.Closure.{Shape, good-along, good-combined}
-use Rattle.re_table.proofs.Goodness.{Has-Rearranged}
-use Rattle.re_table.specs.Constraints.{Constraint, Has}
-use Rattle.re_table.specs.GoodRows.{IsDominated}
-use Rattle.re_table.specs.Strength.{is_at_least_as_strong}
+use Rattle.re_labels.proofs.Closure.{Shape, good-along, good-combined}
+use Rattle.re_labels.proofs.Goodness.{Has-Rearranged}
+use Rattle.re_labels.specs.Constraints.{Constraint, Has}
+use Rattle.re_labels.specs.GoodRows.{IsDominated}
+use Rattle.re_labels.specs.Strength.{is_at_least_as_strong}
 use Rattle.re_boxes.proofs.StrengthTests.{strength_law}
 use Rattle.re_problem.specs.Problems.{IsProblem, Problem}
 use Rattle.re_labels.proofs.Searching.{same_read}

@@ -6,7 +6,7 @@ use Rattle.re_labels.specs.Configs.{IsConfig, image_at, image_of, sorted}
 use Rattle.re_labels.proofs.Membership.{get_or-count_from, length-count_from}
 use Rattle.re_labels.specs.Lists.{count_from}
 use Rattle.re_labels.specs.ListSets.{list_set}
-use Rattle.re_table.specs.Constraints.{Constraint, IsConstraint, images_of}
+use Rattle.re_labels.specs.Constraints.{Constraint, IsConstraint, images_of}
 use Rattle.re_problem.proofs.Walks.{alone}
 use Rattle.re_problem.specs.Problems.{IsProblem, Problem}
 use Rattle.re_problem.specs.Steps.{IsRenamed}

@@ -12,7 +12,7 @@ use Rattle.re_labels.proofs.Numbers.{IsLabelSet-filter, IsLabelSet-union}
 use Rattle.re_labels.proofs.Sets.{IsIn-meet, IsIn-meet_cases, IsIn-union, IsIn-union_cases}
 use Rattle.re_labels.proofs.Tests.{eqb-same, eqb-true}
 use Rattle.re_labels.specs.Sets.{IsIn, IsLabelSet, IsWithin, has, meet, union, without_label}
-use Rattle.re_table.specs.GoodRows.{IsDominated}
+use Rattle.re_labels.specs.GoodRows.{IsDominated}
 use Rattle.re_closure_laws.proofs.Generated.{fit, same_set}
 use Rattle.re_closure_laws.proofs.Unders.{map_moved}
 use Rattle.re_closure_laws.specs.Closures.{AreTopmost, IsGenerated, IsMarked, unmarked}

@@ -12,9 +12,9 @@ use Rattle.re_labels.proofs.LabelPlaces.{get-place_of}
 use Rattle.re_labels.proofs.Rising.{rising-map}
 use Rattle.re_labels.specs.Lists.{place_of}
 use Rattle.re_labels.specs.Sets.{IsLabelSet, IsWithin, number, set_of}
-use Rattle.re_table.proofs.MaxRows.{dominated}
-use Rattle.re_table.specs.Constraints.{Constraint}
-use Rattle.re_table.specs.GoodRows.{IsDominated, max_rows}
+use Rattle.re_labels.proofs.MaxRows.{dominated}
+use Rattle.re_labels.specs.Constraints.{Constraint}
+use Rattle.re_labels.specs.GoodRows.{IsDominated, max_rows}
 use Rattle.re_closure_laws.proofs.Below.{line_good, line_sets, of_maximal, own_label}
 use Rattle.re_closure_laws.proofs.Unders.{IsIn-labels_within_cases, map_moved}
 use Rattle.re_closure_laws.specs.Laws.{MaximalLinesLaw}
@@ -65,7 +65,7 @@ maximal_lines_law family row is apart = (of, to)
     K = below family
 
     is_row : (r : List (List ℕ)) → Contains (max_rows (below family) (length family.sets)) r → IsRow family.degree (length family.sets) r
-    is_row r held = (Rattle.re_table.proofs.MaxSets.maximal (below family) (length family.sets) r held).is_row
+    is_row r held = (Rattle.re_labels.proofs.MaxSets.maximal (below family) (length family.sets) r held).is_row
 
     of : Contains (max_rows (below family) (length family.sets)) row → (line : List (List ℕ)) × Contains family.lines line × (row ≡ row_within family.sets line)
     of held =

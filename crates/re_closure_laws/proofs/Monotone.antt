@@ -9,8 +9,8 @@ use Rattle.re_labels.specs.Rows.{IsUnder, combined, meets, placed}
 use Rattle.re_labels.proofs.Membership.{Contains-In, In-Contains}
 use Rattle.re_labels.proofs.Sets.{IsIn-meet, IsIn-meet_cases, IsIn-union, IsIn-union_cases}
 use Rattle.re_labels.specs.Sets.{IsWithin, meet, union}
-use Rattle.re_table.proofs.Closure.{combined_along}
-use Rattle.re_table.specs.GoodRows.{IsDominated}
+use Rattle.re_labels.proofs.Closure.{combined_along}
+use Rattle.re_labels.specs.GoodRows.{IsDominated}
 use Rattle.re_boxes.proofs.BoxLaw.{same_shape}
 use Rattle.re_closure_laws.proofs.Unders.{dominated_moved, dominated_under}
 use Rattle.re_closure_laws.specs.Closures.{IsGenerated}

@@ -1,6 +1,6 @@
 -- The steps from a problem to that of two families, from there to that of the two the other way round, and back.
 use Rattle.std.proofs.Common.{◌<◌, length, sym, subst}
-use Rattle.re_table.specs.GoodRows.{max_rows}
+use Rattle.re_labels.specs.GoodRows.{max_rows}
 use Rattle.re_problem.proofs.StepLaws.{IsMapped-lower, IsRelaxed-itself}
 use Rattle.re_problem.specs.Steps.LowerMap.{by_set}
 use Rattle.re_laws.proofs.ChainRounds.{fixed_point}

@@ -19,9 +19,9 @@ use Rattle.re_labels.proofs.Rising.{rising-filter}
 use Rattle.re_labels.specs.Lists.{IsBefore, place_of}
 use Rattle.re_labels.specs.ListSets.{list_set}
 use Rattle.re_labels.specs.Sets.{IsIn, IsWithin}
-use Rattle.re_table.proofs.MaxSets.{allowed_law, max_sets-from, max_sets-row}
-use Rattle.re_table.specs.Constraints.{Has, IsConstraint}
-use Rattle.re_table.specs.GoodRows.{IsAllowed, allowed, is_dominated, max_rows, max_sets}
+use Rattle.re_labels.proofs.MaxSets.{allowed_law, max_sets-from, max_sets-row}
+use Rattle.re_labels.specs.Constraints.{Has, IsConstraint}
+use Rattle.re_labels.specs.GoodRows.{IsAllowed, allowed, is_dominated, max_rows, max_sets}
 use Rattle.re_problem.proofs.StepLaws.{map-map}
 use Rattle.re_problem.specs.Problems.{IsProblem}
 use Rattle.re_problem.specs.Steps.{IsLowerStepBySet, label_at, label_of}

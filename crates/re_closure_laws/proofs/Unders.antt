@@ -11,8 +11,8 @@ use Rattle.re_labels.proofs.Numbers.{IsLabelSet-count_from, IsLabelSet-filter}
 use Rattle.re_labels.proofs.Sets.{IsIn-meet, IsIn-meet_cases, IsIn-union, IsIn-union_cases, IsWithin-within, within-IsWithin}
 use Rattle.re_labels.specs.Lists.{count_from}
 use Rattle.re_labels.specs.Sets.{IsIn, IsLabelSet, IsWithin, union, meet, within}
-use Rattle.re_table.proofs.Closure.{Shape}
-use Rattle.re_table.specs.GoodRows.{IsDominated}
+use Rattle.re_labels.proofs.Closure.{Shape}
+use Rattle.re_labels.specs.GoodRows.{IsDominated}
 use Rattle.re_closure_laws.specs.Lines.{labels_within}
 
 -- ---- dominated rows

@@ -19,8 +19,8 @@ use Rattle.re_labels.proofs.Tests.{same_tests}
 use Rattle.re_labels.specs.Lists.{place_of}
 use Rattle.re_labels.specs.ListSets.{list_set}
 use Rattle.re_labels.specs.Sets.{IsLabelSet, number}
-use Rattle.re_table.proofs.Goodness.{IsDominated-is_dominated, is_dominated-IsDominated}
-use Rattle.re_table.specs.GoodRows.{IsDominated, is_dominated}
+use Rattle.re_labels.proofs.Goodness.{IsDominated-is_dominated, is_dominated-IsDominated}
+use Rattle.re_labels.specs.GoodRows.{IsDominated, is_dominated}
 use Rattle.re_problem.specs.Problems.{IsProblem, Problem}
 use Rattle.re_closure_laws.proofs.Generated.{active_first, fit, passive_first}
 use Rattle.re_closure_laws.specs.Closures.{AreClosure, AreTopmost, Occurs, down_lines, up_lines}

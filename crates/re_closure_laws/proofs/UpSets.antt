@@ -5,12 +5,12 @@ use Rattle.std.proofs.lemmas.Bool.Decides.{nat_tests}
 use Rattle.re_labels.specs.Rows.{set_at}
 use Rattle.re_labels.proofs.Membership.{Contains-In, Contains-cases, Contains-here, Contains-none}
 use Rattle.re_labels.specs.Sets.{IsIn, IsWithin}
-use Rattle.re_table.proofs.MaxRows.{max_rows-IsMaximal}
-use Rattle.re_table.proofs.MaxSets.{max_sets-from}
-use Rattle.re_table.proofs.Strengths.{IsAtLeastAsStrong-refl, IsIn-up_set, IsIn-up_set_cases}
-use Rattle.re_table.specs.Constraints.{Constraint, IsConstraint}
-use Rattle.re_table.specs.GoodRows.{max_rows, max_sets}
-use Rattle.re_table.specs.Strength.{up_set}
+use Rattle.re_labels.proofs.MaxRows.{max_rows-IsMaximal}
+use Rattle.re_labels.proofs.MaxSets.{max_sets-from}
+use Rattle.re_labels.proofs.Strengths.{IsAtLeastAsStrong-refl, IsIn-up_set, IsIn-up_set_cases}
+use Rattle.re_labels.specs.Constraints.{Constraint, IsConstraint}
+use Rattle.re_labels.specs.GoodRows.{max_rows, max_sets}
+use Rattle.re_labels.specs.Strength.{up_set}
 use Rattle.re_boxes.proofs.Grown.{grown_is_up, maximal_is_grown}
 use Rattle.re_boxes.proofs.StrengthTests.{strength_law}
 use Rattle.re_boxes.specs.Strength.{HasStronger, IsAbove}

@@ -6,7 +6,7 @@ use Rattle.re_labels.specs.Sets.{IsIn, IsLabelSet, number, without_label}
 use Rattle.re_labels.specs.Orders.{placements}
 use Rattle.re_labels.specs.Rearranging.{Rearranged}
 use Rattle.re_labels.specs.Rows.{combined, placed}
-use Rattle.re_table.specs.GoodRows.{IsDominated}
+use Rattle.re_labels.specs.GoodRows.{IsDominated}
 use Rattle.re_problem.specs.Problems.{Problem}
 use Rattle.re_closure_laws.specs.Lines.{AreApart, Family, others, up}
 

@@ -1,7 +1,7 @@
 -- What closed lists of lines give: lower steps from problem to problem, and back.
 use Rattle.std.specs.Prelude.{◌≡◌, ℕ, ◌↔◌, List, length, map, Contains}
 use Rattle.re_labels.specs.Lists.{count_from}
-use Rattle.re_table.specs.GoodRows.{IsDominated, max_rows}
+use Rattle.re_labels.specs.GoodRows.{IsDominated, max_rows}
 use Rattle.re_problem.specs.Problems.{IsProblem, Problem}
 use Rattle.re_problem.specs.Steps.{IsLowerStep, IsRenamed, by_set}
 use Rattle.re_problem.specs.Zero.{Zero}

@@ -6,9 +6,9 @@ use Rattle.re_labels.specs.Sets.{IsLabelSet, IsWithin, has, within}
 use Rattle.re_labels.specs.Configs.{sorted}
 use Rattle.re_labels.specs.Orders.{multisets, placements}
 use Rattle.re_labels.specs.Rows.{Dominates, IsChoice, combined, in_order, placed, set_at}
-use Rattle.re_table.specs.Constraints.{Constraint, Has}
-use Rattle.re_table.specs.GoodRows.{IsDominated, is_dominated, max_sets}
-use Rattle.re_table.specs.Strength.{up_set}
+use Rattle.re_labels.specs.Constraints.{Constraint, Has}
+use Rattle.re_labels.specs.GoodRows.{IsDominated, is_dominated, max_sets}
+use Rattle.re_labels.specs.Strength.{up_set}
 use Rattle.re_problem.specs.Problems.{Problem}
 use Rattle.re_problem.specs.Steps.{SetEntry}
 

@@ -16,7 +16,7 @@ use Rattle.re_laws.proofs.Mapping.{count_of}
 use Rattle.re_laws.proofs.Ports.{AllByRecursion-count, length-ports, map-at_port}
 use Rattle.re_laws.specs.Algorithms.{at_port}
 use Rattle.re_problem.specs.Problems.{Problem}
-use Rattle.re_table.specs.Constraints.{Has}
+use Rattle.re_labels.specs.Constraints.{Has}
 use Rattle.re_laws.specs.Trees.{IsView, backs, shift}
 
 -- what is listed by the ports of a list is the list

@@ -12,8 +12,8 @@ use Rattle.re_given.specs.InputViews.{Fits, FitsAround, InputView}
 use Rattle.re_labels.proofs.Membership.{get_or-count_from, length-count_from}
 use Rattle.re_labels.specs.Lists.{count_from}
 use Rattle.re_laws.proofs.Ports.{AllByRecursion-count, length-ports}
-use Rattle.re_table.proofs.Goodness.{Has-Rearranged}
-use Rattle.re_table.specs.Constraints.{Constraint, Has}
+use Rattle.re_labels.proofs.Goodness.{Has-Rearranged}
+use Rattle.re_labels.specs.Constraints.{Constraint, Has}
 use Rattle.re_laws.proofs.JoinedBranches.{backs-child}
 use Rattle.re_laws.proofs.ViewLaws.{IsChild, others-cut, put-others, shift-at}
 use Rattle.re_laws.specs.Trees.{Child, IsTree, IsView, backs, child_at, cut, leaf, more, others, put, shift, turned}

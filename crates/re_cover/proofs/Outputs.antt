@@ -12,7 +12,7 @@ use Rattle.re_labels.proofs.Membership.{get_or-count_from, length-count_from}
 use Rattle.re_labels.specs.Lists.{count_from}
 use Rattle.re_laws.proofs.Ports.{AllByRecursion-count, length-ports}
 use Rattle.re_laws.specs.Algorithms.{Plain, answer, around, at_port, back_at}
-use Rattle.re_table.specs.Constraints.{Has}
+use Rattle.re_labels.specs.Constraints.{Has}
 use Rattle.re_laws.specs.Trees.{IsView, shift}
 
 pub edge_law : EdgeLaw

@@ -11,9 +11,9 @@ use Rattle.re_labels.proofs.Sorting.{sorted_again}
 use Rattle.re_labels.specs.Configs.{IsConfig, sorted}
 use Rattle.re_labels.specs.Rows.{Dominates, dominates, singles}
 use Rattle.re_labels.proofs.Membership.{AllByRecursion-contains, any_found, any_true, Contains-In, Contains-cases, Contains-here, Contains-none, In-Contains, In-append_left}
-use Rattle.re_table.proofs.ClosureLaw.{closure_law}
-use Rattle.re_table.specs.Constraints.{Constraint, IsConstraint}
-use Rattle.re_table.specs.GoodRows.{IsDominated, IsGood, is_dominated, max_rows}
+use Rattle.re_labels.proofs.ClosureLaw.{closure_law}
+use Rattle.re_labels.specs.Constraints.{Constraint, IsConstraint}
+use Rattle.re_labels.specs.GoodRows.{IsDominated, IsGood, is_dominated, max_rows}
 use Rattle.re_step.proofs.Keeping.{up_to, contains_last, contains_either}
 use Rattle.re_given.proofs.Itself.{only_choice}
 use Rattle.re_describe.specs.Spelling.{Spells, TakesIn}

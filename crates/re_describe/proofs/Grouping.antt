@@ -13,11 +13,11 @@ use Rattle.re_labels.specs.Configs.{IsConfig, sorted}
 use Rattle.re_labels.specs.Rows.{Dominates, dominates, singles}
 use Rattle.re_labels.specs.declared.TheConstants.{MAX_ROWS}
 use Rattle.re_labels.proofs.Membership.{AllByRecursion-contains, Contains-In, Contains-cases, Contains-here, Contains-later, Contains-none}
-use Rattle.re_table.proofs.Closure.{Choice-singles}
-use Rattle.re_table.proofs.ClosureLaw.{closure_law}
-use Rattle.re_table.proofs.MaxRows.{max_rows-IsMaximal}
-use Rattle.re_table.specs.Constraints.{Constraint, IsConstraint}
-use Rattle.re_table.specs.GoodRows.{IsDominated, max_rows}
+use Rattle.re_labels.proofs.Closure.{Choice-singles}
+use Rattle.re_labels.proofs.ClosureLaw.{closure_law}
+use Rattle.re_labels.proofs.MaxRows.{max_rows-IsMaximal}
+use Rattle.re_labels.specs.Constraints.{Constraint, IsConstraint}
+use Rattle.re_labels.specs.GoodRows.{IsDominated, max_rows}
 use Rattle.re_step.proofs.Keeping.{contains_either}
 use Rattle.re_given.proofs.Itself.{only_choice}
 use Rattle.re_describe.proofs.Covering.{Rows, SpellsFirst, all_first, max_spells, spells_moved, taken_in}

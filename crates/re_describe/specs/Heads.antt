@@ -6,7 +6,7 @@ use Rattle.re_check.specs.declared.verdict.Verdict.{Verdict}
 use Rattle.re_check.specs.declared.verdict.Verdict.TheVariants.{Accepted, Refused}
 use Rattle.re_evidence.specs.GraphRounds.{rounds_above, rounds_below}
 use Rattle.re_problem.specs.NamedProblems.{NamedProblem}
-use Rattle.re_table.specs.Constraints.{Constraint}
+use Rattle.re_labels.specs.Constraints.{Constraint}
 
 -- ---- numbers of rounds
 -- so many or fewer of them

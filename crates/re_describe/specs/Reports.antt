@@ -12,7 +12,7 @@ use Rattle.re_flexible.specs.declared.levels.Flexibility.{Flexibility}
 use Rattle.re_flexible.specs.declared.levels.Flexibility.TheVariants.{Flexible, Length, NoSolution}
 use Rattle.re_frame.specs.Check.{verdict_line}
 use Rattle.re_problem.specs.NamedProblems.{NamedProblem, unnamed}
-use Rattle.re_table.specs.Constraints.{Constraint}
+use Rattle.re_labels.specs.Constraints.{Constraint}
 use Rattle.re_describe.specs.Blocks.{report_of}
 use Rattle.re_describe.specs.Heads.{claim, graph_claim, identifiers_claim, model, problem_text}
 use Rattle.re_describe.specs.Pieces.{index_of, items_text, listed, shown}

@@ -3,8 +3,8 @@ use Rattle.std.specs.Prelude.{◌≡◌, ℕ, ◌<◌, ◌≤◌, ◌⊎◌, Boo
 use Rattle.std.specs.List.{IsDistinct}
 use Rattle.re_labels.specs.Rows.{Dominates, dominates, singles}
 use Rattle.re_labels.specs.declared.TheConstants.{MAX_ROWS}
-use Rattle.re_table.specs.Constraints.{Constraint}
-use Rattle.re_table.specs.GoodRows.{IsDominated, IsGood, IsMaximal, max_rows}
+use Rattle.re_labels.specs.Constraints.{Constraint}
+use Rattle.re_labels.specs.GoodRows.{IsDominated, IsGood, IsMaximal, max_rows}
 use Rattle.re_describe.specs.declared.condensing.TheConstants.{MOST_LISTED}
 
 -- every choice of one label of each set of a row is a configuration, and each configuration is such a choice, in some order

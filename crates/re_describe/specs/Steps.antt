@@ -8,7 +8,7 @@ use Rattle.re_labels.specs.Sets.{IsLabelSet}
 use Rattle.re_problem.specs.NamedProblems.{NamedProblem}
 use Rattle.re_problem.specs.Steps.{LowerMap, SetEntry}
 use Rattle.re_problem.specs.Steps.LowerMap.{by_row, by_set}
-use Rattle.re_table.specs.Constraints.{Constraint}
+use Rattle.re_labels.specs.Constraints.{Constraint}
 use Rattle.re_describe.specs.Meanings.{Means}
 use Rattle.re_describe.specs.Pieces.{group_text, image_text, index_of, listed, places_text, shown}
 use Rattle.re_describe.specs.declared.meanings.Meaning.{Meaning}

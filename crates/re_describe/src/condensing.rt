@@ -2,14 +2,13 @@
 ghost use Rattle.re_labels.specs.Rows.{singles};
 ghost use Rattle.re_describe.specs.Spelling.{AreAlone, AreApart, AreSources, AreTaken, Condenses, Spells, TakesIn};
 ghost use Rattle.re_labels.specs.declared.TheConstants.{MAX_LABELS};
-ghost use Rattle.re_table.specs.Constraints.{IsConstraint};
-ghost use Rattle.re_table.specs.GoodRows.{IsDominated, is_dominated};
+ghost use Rattle.re_labels.specs.Constraints.{IsConstraint};
+ghost use Rattle.re_labels.specs.GoodRows.{IsDominated, is_dominated};
 ghost use Rattle.std.specs.Prelude.{◌≡◌, ◌≤◌, ◌∷◌, [], ℕ, Contains, IfOk, List, OnOk, length, option_map};
 
 use re_boxes::{dominates, row_order};
-use re_labels::{NoMemory, Row};
+use re_labels::{Constraint, NoMemory, Row};
 use re_step::{RowsFault, maximal_rows};
-use re_table::Constraint;
 use std::alloc::Global;
 use std::cmp::Ordering;
 

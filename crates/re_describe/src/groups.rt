@@ -3,7 +3,7 @@ ghost use Rattle.re_chains.specs.ChainTexts.{chain_fault, is_certificate_text, t
 ghost use Rattle.re_describe.specs.DescribeWords.{WritesSame};
 ghost use Rattle.re_io.specs.declared.read.TheConstants.{MAX_BYTES};
 ghost use Rattle.re_labels.specs.declared.TheConstants.{MAX_LABELS};
-ghost use Rattle.re_table.specs.Constraints.{IsConstraint};
+ghost use Rattle.re_labels.specs.Constraints.{IsConstraint};
 ghost use Rattle.std.specs.Prelude.{◌≡◌, ◌≤◌, IfOk, IsTrue, None, length};
 
 use crate::condensing::condensed;
@@ -15,9 +15,8 @@ use re_cert::Certificate;
 use re_chains::{is_certificate_text, read_bound};
 use re_frame::push_words;
 use re_io::MAX_BYTES;
-use re_labels::{Names, NoMemory, Row};
+use re_labels::{Constraint, Names, NoMemory, Row};
 use re_problem::{Problem, TextFault};
-use re_table::Constraint;
 use re_texts::print_certificate;
 use std::alloc::Global;
 

@@ -2,8 +2,7 @@
 ghost use Rattle.std.specs.Prelude.{◌≡◌, ◌<◌, ◌≤◌, ◌++◌, ◌∷◌, [], length};
 
 use arrayvec::ArrayVec;
-use re_labels::{LabelSet, NoMemory, Row};
-use re_table::Constraint;
+use re_labels::{Constraint, LabelSet, NoMemory, Row};
 use std::alloc::Global;
 use std::cmp::Ordering;
 use std::marker::Model;

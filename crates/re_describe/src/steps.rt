@@ -17,9 +17,8 @@ use crate::pieces::{
 use re_boxes::Strength;
 use re_cert::{LowerMap, RowImage, SetEntry, Step, StepParts, set_fits};
 use re_frame::push_words;
-use re_labels::{LabelSet, Names, NoMemory, Row};
+use re_labels::{Constraint, LabelSet, Names, NoMemory, Row};
 use re_problem::Problem;
-use re_table::Constraint;
 use std::alloc::Global;
 
 /// A label, and what a set that becomes it means.

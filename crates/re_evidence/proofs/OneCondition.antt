@@ -28,7 +28,7 @@ use Rattle.re_local.proofs.FewerColours.{degree_within}
 use Rattle.re_problem.proofs.StepLaws.{map-map}
 use Rattle.re_problem.specs.Problems.{IsProblem, Problem}
 use Rattle.re_problem.specs.Steps.{IsRelaxed}
-use Rattle.re_table.specs.Constraints.{Constraint, Has, IsConstraint}
+use Rattle.re_labels.specs.Constraints.{Constraint, Has, IsConstraint}
 
 -- ---- pairs the other way round
 abbrev swapped : ℕ → ℕ → ℕ → ℕ

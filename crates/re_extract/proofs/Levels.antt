@@ -17,7 +17,7 @@ use Rattle.re_pool.specs.Pools.{IsPool, Keeps, tree_at}
 use Rattle.re_pool.specs.declared.shape.Shape.{Shape}
 use Rattle.re_problem.specs.Problems.{Problem}
 use Rattle.re_problem.specs.Steps.{SetEntry, set_for}
-use Rattle.re_table.specs.Constraints.{Constraint, has_config}
+use Rattle.re_labels.specs.Constraints.{Constraint, has_config}
 use Rattle.re_laws.specs.Trees.{IsView, shift}
 
 -- ---- the views that are seen

@@ -17,8 +17,8 @@ use Rattle.re_pool.specs.Pools.{tree_at}
 use Rattle.re_pool.specs.declared.shape.Shape.{Shape}
 use Rattle.re_problem.specs.NamedProblems.{NamedProblem, unnamed}
 use Rattle.re_problem.specs.Problems.{Problem}
-use Rattle.re_table.proofs.Goodness.{Has-has_config}
-use Rattle.re_table.specs.Constraints.{has_config}
+use Rattle.re_labels.proofs.Goodness.{Has-has_config}
+use Rattle.re_labels.specs.Constraints.{has_config}
 use Rattle.re_laws.proofs.ViewLaws.{IsView-shift, child_of}
 use Rattle.re_laws.specs.Trees.{IsTree, IsView, backs, leaf, end, more, shift}
 

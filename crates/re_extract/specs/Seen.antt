@@ -3,7 +3,7 @@ use Rattle.std.specs.Prelude.{◌≡◌, ◌⊎◌, ℕ, ◌<◌, List, [], ◌�
 use Rattle.std.specs.List.{AllByRecursion}
 use Rattle.arrayvec.specs.ArrayVec.{ArrayVec}
 use Rattle.re_labels.specs.Rows.{choices}
-use Rattle.re_table.specs.Constraints.{Constraint, has_config}
+use Rattle.re_labels.specs.Constraints.{Constraint, has_config}
 use Rattle.re_problem.specs.Steps.{SetEntry, set_for}
 use Rattle.re_laws.specs.Trees.{IsView}
 use Rattle.re_laws.specs.Algorithms.{at_port}

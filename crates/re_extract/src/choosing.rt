@@ -12,10 +12,9 @@ use crate::sights::Sight;
 use arrayvec::ArrayVec;
 use re_algo::first_choice;
 use re_cert::SetEntry;
-use re_labels::{LabelSet, NoMemory, PortLabels};
+use re_labels::{Constraint, LabelSet, NoMemory, PortLabels};
 use re_pool::NodeId;
 use re_problem::{Problem, zero_round};
-use re_table::Constraint;
 use std::alloc::Global;
 
 // The first configuration of a problem that shows that it is Zero.

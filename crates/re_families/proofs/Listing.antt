@@ -16,7 +16,7 @@ use Rattle.re_labels.specs.ListSets.{list_set, with_list}
 use Rattle.re_labels.specs.Lists.{IsBefore}
 use Rattle.re_problem.proofs.ListSizes.{length-list_set}
 use Rattle.re_families.proofs.Sizes.{few_multisets}
-use Rattle.re_table.specs.declared.constraint_table.TheConstants.{MAX_CONFIGURATIONS}
+use Rattle.re_labels.specs.declared.constraint_table.TheConstants.{MAX_CONFIGURATIONS}
 
 -- one list more is passed
 pub passed : (all done rest behind : List (List ℕ)) (x : List ℕ) → done ++ rest ≡ all → rest ≡ x ∷ behind → (done ++ x ∷ []) ++ behind ≡ all

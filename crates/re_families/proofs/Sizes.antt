@@ -6,7 +6,7 @@ use Rattle.re_labels.specs.Orders.{begun, multisets}
 use Rattle.re_labels.proofs.Membership.{length-map'}
 use Rattle.re_labels.specs.Lists.{count_from}
 use Rattle.re_problem.proofs.UsedLabels.{counted_all}
-use Rattle.re_table.specs.declared.constraint_table.TheConstants.{MAX_CONFIGURATIONS}
+use Rattle.re_labels.specs.declared.constraint_table.TheConstants.{MAX_CONFIGURATIONS}
 
 -- f 1 + .. + f k
 sums : (ℕ → ℕ) → ℕ → ℕ

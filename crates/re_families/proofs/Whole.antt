@@ -18,7 +18,7 @@ use Rattle.re_labels.specs.declared.sides.Side.TheVariants.{Active, Passive}
 use Rattle.re_problem.proofs.Building.{all_occur-facts, constraint_named, occurs-fact}
 use Rattle.re_problem.proofs.UsedLabels.{counted_all}
 use Rattle.re_problem.specs.NamedProblems.{OccursIn, built, occurs}
-use Rattle.re_table.specs.Constraints.{Constraint, IsConstraint}
+use Rattle.re_labels.specs.Constraints.{Constraint, IsConstraint}
 use Rattle.re_families.specs.Families.{Rules, are_equal, colour_name, colouring, constraint_of, family_of, independent_set, is_degree, matching, number_fits, orientation, out_of_range, passive_fits, rule, rules_of}
 use Rattle.re_families.specs.declared.types.Family.{Family}
 use Rattle.re_families.specs.declared.types.Family.TheVariants.{Colouring, Matching, Mis, Orientation}

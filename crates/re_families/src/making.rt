@@ -9,9 +9,10 @@ ghost use Rattle.std.specs.Prelude.{◌≡◌, ◌↔◌, ◌≤◌, ◌<◌, �
 use crate::naming::names_of;
 use crate::types::{Family, FamilyFault};
 use arrayvec::ArrayVec;
-use re_labels::{Config, MAX_LABELS, Multisets, NoMemory, Side};
+use re_labels::{
+    Config, Constraint, InsertFault, MAX_CONFIGURATIONS, MAX_LABELS, Multisets, NoMemory, Side,
+};
 use re_problem::Problem;
-use re_table::{Constraint, InsertFault, MAX_CONFIGURATIONS};
 use std::alloc::Global;
 
 fn is_degree(degree: u8) -> bool

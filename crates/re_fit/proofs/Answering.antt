@@ -7,7 +7,7 @@ use Rattle.re_changes.proofs.Counted.{filter-next_in, filter-next_out}
 use Rattle.re_labels.specs.Rows.{singles}
 use Rattle.re_labels.specs.Sets.{has}
 use Rattle.re_problem.specs.NamedProblems.{occurs}
-use Rattle.re_table.specs.Constraints.{Constraint}
+use Rattle.re_labels.specs.Constraints.{Constraint}
 use Rattle.re_problem.specs.Problems.{IsProblem, Problem}
 use Rattle.re_problem.specs.Steps.{SetEntry}
 use Rattle.re_check.specs.LabelsOver.{labels_over}

@@ -11,8 +11,8 @@ use Rattle.re_labels.specs.Sets.{IsIn, has}
 use Rattle.re_labels.proofs.Rearranging.{length-AllZip}
 use Rattle.re_labels.proofs.Replacing.{support_law}
 use Rattle.re_labels.specs.Rows.{IsChoice, singles}
-use Rattle.re_table.proofs.Goodness.{Has-Rearranged, Has-has_config}
-use Rattle.re_table.specs.Constraints.{Has, has_config}
+use Rattle.re_labels.proofs.Goodness.{Has-Rearranged, Has-has_config}
+use Rattle.re_labels.specs.Constraints.{Has, has_config}
 use Rattle.re_problem.specs.Problems.{IsProblem, Problem}
 use Rattle.re_problem.specs.Steps.{IsUpper, SetEntry}
 use Rattle.re_check.proofs.AllowedImages.{keeps_allowed_law}

@@ -4,7 +4,7 @@ use Rattle.std.specs.List.{AllByRecursion}
 use Rattle.std.proofs.lemmas.Bool.Decides.{nat_tests}
 use Rattle.std.proofs.lemmas.List.{drop-take, length-take, take-take}
 use Rattle.re_labels.proofs.Tests.{and-true, true-and}
-use Rattle.re_table.specs.Constraints.{Constraint, has_config}
+use Rattle.re_labels.specs.Constraints.{Constraint, has_config}
 use Rattle.re_walks.proofs.ConfigBeginnings.{begun, low-drop, low-take}
 use Rattle.re_walks.specs.Begun.{is_begun}
 use Rattle.re_fit.proofs.InOrder.{in_order-take}

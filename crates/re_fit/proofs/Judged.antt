@@ -13,7 +13,7 @@ use Rattle.re_problem.specs.NamedProblems.{IsNamedProblem, NamedProblem, OccursI
 use Rattle.re_given.specs.Inputs.{IsInput}
 use Rattle.re_fit.specs.InputProblems.{IsJudged, input_fault, is_one_sided, side_fault}
 use Rattle.re_fit.specs.declared.inputs.InputFault.TheVariants.{Degrees, Empty}
-use Rattle.re_table.specs.Constraints.{Constraint}
+use Rattle.re_labels.specs.Constraints.{Constraint}
 
 -- what is found is there, and passes
 found_one : (p : ℕ → Bool) (xs : List ℕ) (x : ℕ) → find p xs ≡ Some x → Contains xs x × (p x ≡ true)

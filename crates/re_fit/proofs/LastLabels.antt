@@ -7,7 +7,7 @@ use Rattle.re_labels.proofs.Membership.{AllByRecursion-contains, AllByRecursion-
 use Rattle.re_labels.proofs.Tests.{eqb-same}
 use Rattle.re_labels.specs.Lists.{count_from}
 use Rattle.re_labels.specs.Configs.{IsConfig}
-use Rattle.re_table.specs.Constraints.{Constraint, IsConstraint}
+use Rattle.re_labels.specs.Constraints.{Constraint, IsConstraint}
 use Rattle.re_fit.specs.Fits.{by_last, ends_in}
 
 -- each configuration is there

@@ -12,9 +12,9 @@ use Rattle.re_labels.specs.Sets.{IsIn, IsLabelSet, has}
 use Rattle.re_labels.proofs.Replacing.{support_law}
 use Rattle.re_labels.specs.Configs.{IsConfig}
 use Rattle.re_labels.specs.Rows.{IsChoice, set_at, singles}
-use Rattle.re_table.proofs.Goodness.{has_config-Has}
-use Rattle.re_table.specs.Constraints.{Constraint, IsConstraint, has_config}
-use Rattle.re_table.specs.GoodRows.{IsAllowed, IsGood}
+use Rattle.re_labels.proofs.Goodness.{has_config-Has}
+use Rattle.re_labels.specs.Constraints.{Constraint, IsConstraint, has_config}
+use Rattle.re_labels.specs.GoodRows.{IsAllowed, IsGood}
 use Rattle.re_problem.proofs.Building.{fact-occurs, occurs-fact}
 use Rattle.re_problem.specs.NamedProblems.{occurs}
 use Rattle.re_problem.specs.Problems.{IsProblem, Problem}

@@ -14,9 +14,8 @@ use crate::ordering::{by_last, places_of};
 use crate::passing::passes;
 use re_bridge::entries_for;
 use re_check::all_labels_over;
-use re_labels::{Config, LabelSet, MAX_LABELS, NoMemory};
+use re_labels::{Config, Constraint, LabelSet, MAX_LABELS, NoMemory};
 use re_problem::Problem;
-use re_table::Constraint;
 use re_walks::follow;
 use std::alloc::Global;
 

@@ -5,8 +5,7 @@ ghost use Rattle.re_fit.specs.Fits.{by_last, ends_in, joined, loose};
 ghost use Rattle.re_labels.specs.declared.TheConstants.{MAX_LABELS};
 ghost use Rattle.std.specs.Prelude.{◌≡◌, ◌++◌, ◌≤◌, IfOk, filter};
 
-use re_labels::{Config, LabelSet, MAX_LABELS, NoMemory};
-use re_table::Constraint;
+use re_labels::{Config, Constraint, LabelSet, MAX_LABELS, NoMemory};
 use std::alloc::Global;
 
 // Whether the configuration of this degree has this last label.

@@ -6,9 +6,8 @@ ghost use Rattle.std.specs.Prelude.{◌≡◌, ◌<◌, ◌≤◌, IfOk, length}
 
 use re_bridge::entries_for;
 use re_check::keeps_allowed;
-use re_labels::{Config, LabelSet, MAX_LABELS, NoMemory};
+use re_labels::{Config, Constraint, LabelSet, MAX_LABELS, NoMemory};
 use re_problem::Problem;
-use re_table::Constraint;
 use re_walks::is_begun;
 use std::alloc::Global;
 

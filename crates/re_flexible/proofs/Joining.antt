@@ -12,7 +12,7 @@ use Rattle.re_forests.specs.Flexible.{Joins}
 use Rattle.re_labels.proofs.Sets.{IsIn-union, IsIn-union_cases, IsIn-with_label_cases, IsWithin-within, within-IsWithin}
 use Rattle.re_labels.specs.Sets.{IsIn, IsWithin, union, within}
 use Rattle.re_labels.proofs.Replacing.{Contains-support_of}
-use Rattle.re_table.specs.Constraints.{Constraint, IsConstraint}
+use Rattle.re_labels.specs.Constraints.{Constraint, IsConstraint}
 use Rattle.re_flexible.proofs.Standing.{Contains-Stands, Stands-Contains, Stands-rest, rest-Stands}
 use Rattle.re_flexible.specs.Families.{AreApart, AreJoins, AreOfOne, AreStanding, set_with}
 use Rattle.re_flexible.specs.Relations.{Relates, Stands}

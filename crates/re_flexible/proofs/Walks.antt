@@ -10,7 +10,7 @@ use Rattle.re_forests.proofs.Rounds.{after_not}
 use Rattle.re_labels.specs.Sets.{IsIn, IsWithin}
 use Rattle.re_labels.proofs.Tests.{not_not}
 use Rattle.re_problem.specs.Problems.{Problem}
-use Rattle.re_table.specs.Constraints.{Constraint}
+use Rattle.re_labels.specs.Constraints.{Constraint}
 use Rattle.re_flexible.specs.Families.{AreApart, AreJoins, set_with}
 use Rattle.re_flexible.specs.Relations.{Composes, Reaches, Relates, Steps}
 

@@ -4,7 +4,7 @@ use Rattle.re_forests.specs.Flexible.{AreJoined, Joins, Leads, Turns}
 use Rattle.re_forests.specs.Trimmed.{IsFlexibleWithin, IsTrimmed}
 use Rattle.re_labels.specs.Sets.{IsIn}
 use Rattle.re_problem.specs.Problems.{Problem}
-use Rattle.re_table.specs.Constraints.{Constraint}
+use Rattle.re_labels.specs.Constraints.{Constraint}
 use Rattle.re_flexible.specs.Relations.{Relates, Rounds}
 
 -- the set that the label is in, or the empty one

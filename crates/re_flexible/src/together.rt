@@ -7,8 +7,7 @@ ghost use Rattle.std.specs.List.{AllByRecursion};
 ghost use Rattle.std.specs.Prelude.{◌≡◌, ◌<◌, ◌↔◌, ◌⊎◌, ℕ, IsTrue, length, slice_index_or};
 
 use arrayvec::ArrayVec;
-use re_labels::{Config, LabelSet, MAX_LABELS};
-use re_table::Constraint;
+use re_labels::{Config, Constraint, LabelSet, MAX_LABELS};
 
 // The labels at the other places.
 fn others(labels: &[u8], place: usize) -> LabelSet

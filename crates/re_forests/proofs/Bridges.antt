@@ -20,7 +20,7 @@ use Rattle.re_labels.proofs.Membership.{Contains-count_from, AllByRecursion-cont
 use Rattle.re_labels.specs.Lists.{count_from}
 use Rattle.re_layers.specs.Networks.{IsForest, IsLocal, Network}
 use Rattle.re_problem.specs.Problems.{IsProblem, Problem}
-use Rattle.re_table.specs.Constraints.{Constraint, Has, IsConstraint}
+use Rattle.re_labels.specs.Constraints.{Constraint, Has, IsConstraint}
 
 pub around_weaker : (G : Network) (P P' : ℕ → Type 0) → ((v : ℕ) → P v → P' v) → (n v : ℕ) → Around G P n v → Around G P' n v
 around_weaker G P P' weaker zero v around = weaker v around

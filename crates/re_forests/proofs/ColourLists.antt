@@ -12,7 +12,7 @@ use Rattle.re_labels.specs.Lists.{count_from}
 use Rattle.re_laws.proofs.Ports.{AllByRecursion-count, length-ports}
 use Rattle.re_labels.proofs.Membership.{Contains-cases, Contains-here, Contains-later, Contains-none}
 use Rattle.re_layers.specs.Networks.{AreDifferent}
-use Rattle.re_table.specs.Constraints.{Has}
+use Rattle.re_labels.specs.Constraints.{Has}
 use Rattle.re_local.proofs.ColouredLocal.{rising_strictly}
 
 -- ---- one colour

@@ -14,7 +14,7 @@ use Rattle.re_given.specs.Unavoidable.{colouring}
 use Rattle.re_labels.specs.Lists.{count_from}
 use Rattle.re_layers.proofs.FreeNumbers.{free_most}
 use Rattle.re_layers.specs.Networks.{IsForest, Network}
-use Rattle.re_table.specs.Constraints.{Constraint, Has}
+use Rattle.re_labels.specs.Constraints.{Constraint, Has}
 
 -- the side of the colouring that nodes of a kind have
 abbrev pub colour_side : ℕ → ℕ → ℕ → Bool → Constraint

@@ -11,7 +11,7 @@ use Rattle.re_forests.specs.OnForests.{SolvesOn, label_towards}
 use Rattle.re_labels.proofs.Membership.{Contains-map_cases, AllByRecursion-from_contains, Contains-cases, Contains-here, Contains-later, Contains-none}
 use Rattle.re_layers.specs.Networks.{IsForest, Network}
 use Rattle.re_problem.specs.Problems.{IsProblem, Problem}
-use Rattle.re_table.specs.Constraints.{Has}
+use Rattle.re_labels.specs.Constraints.{Has}
 use Rattle.re_laws.proofs.Mapping.{count_of}
 
 -- the label on the edge of v and w, which its active node puts there

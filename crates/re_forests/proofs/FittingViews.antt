@@ -7,8 +7,8 @@ use Rattle.re_forests.proofs.Views.{IsPorted, Ported, child, child_at-view, payl
 use Rattle.re_given.proofs.Fitting.{FitsAround-others, Rearranged-front}
 use Rattle.re_given.specs.InputViews.{FitsAround}
 use Rattle.re_labels.specs.Lists.{count_from}
-use Rattle.re_table.proofs.Goodness.{Has-Rearranged}
-use Rattle.re_table.specs.Constraints.{Constraint, Has}
+use Rattle.re_labels.proofs.Goodness.{Has-Rearranged}
+use Rattle.re_labels.specs.Constraints.{Constraint, Has}
 use Rattle.re_laws.specs.Trees.{others}
 
 module _ {X : Type 0} (P : Ported X ℕ) (good : X → Type 0) (is : IsPorted P good) (side : Bool → Constraint)

@@ -17,7 +17,7 @@ use Rattle.re_layers.proofs.Balls.{ball_before, ball_near}
 use Rattle.re_layers.specs.Layers.{IsColoured}
 use Rattle.re_layers.specs.Networks.{IsForest, IsLocal, Network}
 use Rattle.re_problem.specs.Problems.{IsProblem, Problem}
-use Rattle.re_table.specs.Constraints.{Has}
+use Rattle.re_labels.specs.Constraints.{Has}
 
 module _ (problem : Problem) (is : IsProblem problem) (n N r k : ℕ) (colour : Network → ℕ → ℕ) (enough : problem.passive.degree ≤ suc n) (local : IsLocal r colour)
     (coloured : (G : Network) → IsForest problem.active.degree problem.passive.degree N G → AreApartAround (suc n) G (colour G))

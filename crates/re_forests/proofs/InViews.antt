@@ -13,7 +13,7 @@ use Rattle.re_labels.proofs.Membership.{AllByRecursion-from_contains, Contains-c
 use Rattle.re_labels.specs.Lists.{count_from}
 use Rattle.re_laws.specs.Algorithms.{Plain, SolvesBy, answer, around, at_port, back_at}
 use Rattle.re_problem.specs.Problems.{IsProblem, Problem}
-use Rattle.re_table.specs.Constraints.{Has}
+use Rattle.re_labels.specs.Constraints.{Has}
 use Rattle.re_forests.specs.TrimmedWithPorts.{NothingLeftLaw, TrimmedProblemLaw}
 use Rattle.re_laws.proofs.JoinedBranches.{back-shift, backs-child}
 use Rattle.re_laws.proofs.ViewLaws.{IsTree-full, IsView-pad, IsView-shift, child_of, cut-pad, shift-shift}

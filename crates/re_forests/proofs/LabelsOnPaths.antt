@@ -15,7 +15,7 @@ use Rattle.re_labels.proofs.Membership.{AllByRecursion-contains}
 use Rattle.re_labels.proofs.Tests.{eqb-apart, eqb-same, not_not}
 use Rattle.re_layers.specs.Networks.{Network}
 use Rattle.re_problem.specs.Problems.{IsProblem, Problem}
-use Rattle.re_table.specs.Constraints.{Constraint, Has, IsConstraint}
+use Rattle.re_labels.specs.Constraints.{Constraint, Has, IsConstraint}
 
 -- ---- configurations
 config_of : (n : ℕ) (constraint : Constraint) → IsConstraint n constraint → (labels : List ℕ) → Has constraint labels → IsConfig constraint.degree n (sorted labels)

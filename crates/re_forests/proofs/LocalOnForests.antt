@@ -27,7 +27,7 @@ use Rattle.re_laws.proofs.Ports.{AllByRecursion-count, length-ports}
 use Rattle.re_layers.specs.Networks.{AreDifferent, IsForest, IsLocal, Network}
 use Rattle.re_local.specs.LocalAlgorithms.{SolvesApart, behind_passive, identified, shown}
 use Rattle.re_problem.specs.Problems.{IsProblem, Problem}
-use Rattle.re_table.specs.Constraints.{Constraint, Has}
+use Rattle.re_labels.specs.Constraints.{Constraint, Has}
 
 -- the identifier of a place
 abbrev pub name : ℕ → ℕ → Place → ℕ

@@ -18,7 +18,7 @@ use Rattle.re_layers.proofs.NodeNumbers.{place}
 use Rattle.re_layers.specs.Full.{IsFull}
 use Rattle.re_layers.specs.Networks.{AreSame, IsForest, IsLocal, Network}
 use Rattle.re_problem.specs.Problems.{IsProblem, Problem}
-use Rattle.re_table.specs.Constraints.{Has}
+use Rattle.re_labels.specs.Constraints.{Has}
 
 -- the port of a neighbour stays, where more neighbours come behind
 port_kept : (xs ys : List ℕ) (w : ℕ) → Contains xs w → port (xs ++ ys) w ≡ port xs w

@@ -12,7 +12,7 @@ use Rattle.re_labels.specs.Rearranging.{Rearranged}
 use Rattle.re_forests.proofs.Filled.{port}
 use Rattle.re_labels.proofs.Membership.{AllByRecursion-contains}
 use Rattle.re_layers.specs.Networks.{AreDifferent, IsForest, Network}
-use Rattle.re_table.specs.Constraints.{Constraint, Has}
+use Rattle.re_labels.specs.Constraints.{Constraint, Has}
 
 -- the place of a member
 pub placed : (near : List ℕ) (w : ℕ) → Contains near w → (k : ℕ) × (k < length near) × (get_or near k 0 ≡ w)

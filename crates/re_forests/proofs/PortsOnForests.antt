@@ -9,7 +9,7 @@ use Rattle.re_forests.specs.FromViews.{PortsOnForestsLaw}
 use Rattle.re_laws.specs.Algorithms.{Entry, Plain, Solves, answer}
 use Rattle.re_layers.specs.Networks.{IsForest, IsLocal, Network}
 use Rattle.re_problem.specs.Problems.{IsProblem, Problem}
-use Rattle.re_table.specs.Constraints.{Has}
+use Rattle.re_labels.specs.Constraints.{Has}
 
 module _ (problem : Problem) (is : IsProblem problem) (k N : ℕ) (table : List Entry) (solves : Solves problem k table) where
   -- what a node sees without colours

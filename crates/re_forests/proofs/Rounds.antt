@@ -10,7 +10,7 @@ use Rattle.re_labels.proofs.Membership.{Contains-count_from, Contains-flat_map, 
 use Rattle.re_labels.specs.Lists.{count_from}
 use Rattle.re_labels.proofs.Tests.{not_not}
 use Rattle.re_problem.specs.Problems.{Problem}
-use Rattle.re_table.specs.Constraints.{Constraint, Has}
+use Rattle.re_labels.specs.Constraints.{Constraint, Has}
 
 pub after_not : (active : Bool) (m : ℕ) → after (not active) m ≡ not (after active m)
 after_not active zero = refl

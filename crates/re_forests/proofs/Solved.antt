@@ -17,7 +17,7 @@ use Rattle.re_labels.proofs.Membership.{Contains-filter_cases, Contains-here, ma
 use Rattle.re_layers.specs.Layers.{IsLayered, IsPath, upper}
 use Rattle.re_layers.specs.Networks.{IsForest, IsLocal, Network}
 use Rattle.re_problem.specs.Problems.{IsProblem, Problem}
-use Rattle.re_table.specs.Constraints.{Has, IsConstraint}
+use Rattle.re_labels.specs.Constraints.{Has, IsConstraint}
 use Rattle.re_laws.proofs.Mapping.{count_of}
 
 first_member : (highers near : List ℕ) → ((w : ℕ) → Contains highers w → Contains near w) → 0 < length near → Contains near (get_or (highers ++ near) 0 0)

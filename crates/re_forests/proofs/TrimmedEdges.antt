@@ -11,8 +11,8 @@ use Rattle.re_labels.proofs.Membership.{Contains-filter, Contains-filter_cases, 
 use Rattle.re_labels.proofs.Tests.{and-true, true-and}
 use Rattle.re_layers.specs.Networks.{IsForest, Network}
 use Rattle.re_problem.specs.Problems.{IsProblem, Problem}
-use Rattle.re_table.proofs.Goodness.{Has-has_config, has_config-Has}
-use Rattle.re_table.specs.Constraints.{Constraint, Has, IsConstraint, has_config}
+use Rattle.re_labels.proofs.Goodness.{Has-has_config, has_config-Has}
+use Rattle.re_labels.specs.Constraints.{Constraint, Has, IsConstraint, has_config}
 use Rattle.re_laws.proofs.Mapping.{count_of}
 
 -- all lists of so many labels of the set

@@ -17,7 +17,7 @@ use Rattle.re_labels.proofs.Tests.{and-true, eqb-same, eqb-true, true-and}
 use Rattle.re_labels.specs.Lists.{IsBefore}
 use Rattle.re_layers.proofs.Filters.{filter_all}
 use Rattle.re_problem.specs.Problems.{IsProblem, Problem}
-use Rattle.re_table.specs.Constraints.{Constraint, Has, IsConstraint}
+use Rattle.re_labels.specs.Constraints.{Constraint, Has, IsConstraint}
 use Rattle.re_given.proofs.GrownInputs.{without_one}
 
 -- ---- labels of a set, and of its configurations

@@ -13,7 +13,7 @@ use Rattle.re_forests.specs.Flexible.{side}
 use Rattle.re_forests.specs.OnForests.{SolvesOn}
 use Rattle.re_layers.specs.Networks.{IsForest, Network}
 use Rattle.re_problem.specs.Problems.{IsProblem, Problem}
-use Rattle.re_table.specs.Constraints.{Has}
+use Rattle.re_labels.specs.Constraints.{Has}
 
 -- the identifiers of a block in order, or in the reverse order
 abbrev line : Bool → ℕ → ℕ → ℕ → ℕ

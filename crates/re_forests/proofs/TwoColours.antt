@@ -13,7 +13,7 @@ use Rattle.re_forests.specs.OnForests.{SolvableOnForests}
 use Rattle.re_forests.specs.Trimmed.{IsTrimmed}
 use Rattle.re_labels.proofs.Membership.{Contains-cases, Contains-here, Contains-later, Contains-none}
 use Rattle.re_problem.specs.Problems.{IsProblem}
-use Rattle.re_table.specs.Constraints.{Has}
+use Rattle.re_labels.specs.Constraints.{Has}
 
 pub two_colours_is : IsProblem two_colours
 two_colours_is = record {

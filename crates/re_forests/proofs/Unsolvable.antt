@@ -14,7 +14,7 @@ use Rattle.re_layers.proofs.RegularTrees.{forest, reach, reach_more, whole, whol
 use Rattle.re_layers.specs.Full.{IsFull}
 use Rattle.re_layers.specs.Networks.{IsForest, Network}
 use Rattle.re_problem.specs.Problems.{IsProblem, Problem}
-use Rattle.re_table.specs.Constraints.{Has}
+use Rattle.re_labels.specs.Constraints.{Has}
 use Rattle.re_laws.proofs.Mapping.{count_of}
 
 module _ (problem : Problem) (is : IsProblem problem) (count : Bool → ℕ) (ports : (k : Bool) → count k ≡ (side problem k).degree)

@@ -25,7 +25,7 @@ use Rattle.re_laws.specs.Algorithms.{at_port}
 use Rattle.re_layers.specs.Networks.{AreDifferent, IsForest, IsLocal, Network}
 use Rattle.re_local.specs.LocalAlgorithms.{behind_passive, identified, shown}
 use Rattle.re_problem.specs.Problems.{Problem}
-use Rattle.re_table.specs.Constraints.{Has}
+use Rattle.re_labels.specs.Constraints.{Has}
 use Rattle.re_laws.proofs.JoinedBranches.{backs-child}
 use Rattle.re_laws.proofs.ViewLaws.{HasRoom, HasRoom-tree, IsChild, child_of, shift-at}
 use Rattle.re_laws.specs.Trees.{Child, IsView, Tree, backs, child_at, cut, end, leaf, more, others, shift}

@@ -9,7 +9,7 @@ use Rattle.re_forests.specs.Flexible.{Leads, side}
 use Rattle.re_labels.proofs.Membership.{any_found, any_true}
 use Rattle.re_labels.proofs.Tests.{eqb-same, eqb-true}
 use Rattle.re_problem.specs.Problems.{Problem}
-use Rattle.re_table.specs.Constraints.{Has}
+use Rattle.re_labels.specs.Constraints.{Has}
 
 -- the kind of a node i hops from one of this kind
 abbrev pub turned : ℕ → Bool → Bool

@@ -16,7 +16,7 @@ use Rattle.re_labels.proofs.Tests.{not_not}
 use Rattle.re_layers.proofs.Locality.{same_active, same_branch, same_fewer, same_near}
 use Rattle.re_layers.specs.Networks.{AreSame, IsForest, IsLocal, Network, branch}
 use Rattle.re_problem.specs.Problems.{IsProblem, Problem}
-use Rattle.re_table.specs.Constraints.{Has}
+use Rattle.re_labels.specs.Constraints.{Has}
 
 -- the last element
 abbrev pub end_of : List ℕ → ℕ

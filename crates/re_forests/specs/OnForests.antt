@@ -3,7 +3,7 @@ use Rattle.std.specs.Prelude.{◌≡◌, ℕ, ◌==◌, true, false, List, lengt
 use Rattle.std.specs.List.{position_or_len}
 use Rattle.re_layers.specs.Networks.{IsForest, IsLocal, Network}
 use Rattle.re_problem.specs.Problems.{Problem}
-use Rattle.re_table.specs.Constraints.{Has}
+use Rattle.re_labels.specs.Constraints.{Has}
 
 -- the label that v puts on its edge to w
 abbrev pub label_towards : Network → (ℕ → List ℕ) → ℕ → ℕ → ℕ

@@ -8,7 +8,7 @@ use Rattle.re_labels.specs.Lists.{count_from}
 use Rattle.re_layers.specs.Full.{IsFull}
 use Rattle.re_layers.specs.Networks.{IsForest, Network}
 use Rattle.re_problem.specs.Problems.{IsProblem, Problem}
-use Rattle.re_table.specs.Constraints.{Constraint, Has}
+use Rattle.re_labels.specs.Constraints.{Constraint, Has}
 
 -- whether a label is of a set
 abbrev pub held : List ℕ → ℕ → Bool

@@ -17,7 +17,7 @@ use Rattle.re_labels.proofs.Membership.{Contains-map_cases}
 use Rattle.re_labels.proofs.Membership.{AllByRecursion-contains, AllByRecursion-from_contains, Contains-map}
 use Rattle.re_layers.specs.Networks.{Network}
 use Rattle.re_problem.specs.Problems.{IsProblem, Problem}
-use Rattle.re_table.specs.Constraints.{Has, IsConstraint}
+use Rattle.re_labels.specs.Constraints.{Has, IsConstraint}
 
 module _ (problem : Problem) (is : IsProblem problem) (G : Network) (labels : ℕ → List ℕ)
     (tree : IsTree problem.active.degree problem.passive.degree G)

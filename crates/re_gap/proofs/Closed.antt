@@ -10,7 +10,7 @@ use Rattle.re_layers.proofs.FreeNumbers.{Contains-holds, holds, holds-Contains}
 use Rattle.re_labels.proofs.Membership.{AllByRecursion-contains, Contains-cases, Contains-here, Contains-none}
 use Rattle.re_layers.specs.Networks.{AreDifferent}
 use Rattle.re_problem.specs.Problems.{Problem}
-use Rattle.re_table.specs.Constraints.{Constraint, Has}
+use Rattle.re_labels.specs.Constraints.{Constraint, Has}
 use Rattle.std.proofs.lemmas.Bool.{false≢true}
 
 -- x and y stand together in some configuration whose other labels are of the kind

@@ -19,7 +19,7 @@ use Rattle.re_layers.specs.Layers.{IsColoured}
 use Rattle.re_layers.specs.Networks.{IsForest, IsLocal, Network, ball}
 use Rattle.re_problem.proofs.StepLaws.{map-map}
 use Rattle.re_problem.specs.Problems.{IsProblem, Problem}
-use Rattle.re_table.specs.Constraints.{Has}
+use Rattle.re_labels.specs.Constraints.{Has}
 
 -- how far colours differ
 abbrev pub far : ℕ → ℕ

@@ -9,8 +9,8 @@ use Rattle.re_labels.proofs.Membership.{AllByRecursion-contains, Contains-count_
 use Rattle.re_labels.proofs.Tests.{and-true, true-and}
 use Rattle.re_labels.specs.Lists.{count_from}
 use Rattle.re_problem.specs.Problems.{IsProblem, Problem}
-use Rattle.re_table.proofs.Goodness.{Has-has_config, has_config-Has}
-use Rattle.re_table.specs.Constraints.{Constraint, Has, IsConstraint, has_config}
+use Rattle.re_labels.proofs.Goodness.{Has-has_config, has_config-Has}
+use Rattle.re_labels.specs.Constraints.{Constraint, Has, IsConstraint, has_config}
 use Rattle.re_laws.specs.Trees.{IsTree, IsView, end, leaf, more}
 
 -- all lists of n children with a back port from 1 to e, a label below l, and one of these branches

@@ -24,8 +24,8 @@ use Rattle.re_laws.specs.Chains as chain
 use Rattle.re_problem.specs.Problems.{IsProblem, Problem}
 use Rattle.re_problem.specs.Steps.{Becomes, IsRelaxed, IsUpper}
 use Rattle.re_problem.specs.Zero.{Zero}
-use Rattle.re_table.specs.Constraints.{Has}
-use Rattle.re_table.specs.GoodRows.{IsAllowed}
+use Rattle.re_labels.specs.Constraints.{Has}
+use Rattle.re_labels.specs.GoodRows.{IsAllowed}
 
 module _ (problem input : Problem) (is : IsProblem problem) (is_input : IsInput problem input) (sets : ℕ → List ℕ) (upper : IsUpper problem (exchanged input) sets) where
   -- each active input configuration gets the first choice from its sets that is active

@@ -13,7 +13,7 @@ use Rattle.re_laws.specs.Chains as chain
 use Rattle.re_problem.proofs.DerivedProblem.{IsProblem-derived, IsUpper-derived}
 use Rattle.re_problem.specs.Derived.{derived, derived_by}
 use Rattle.re_labels.specs.Rows.{set_at}
-use Rattle.re_table.specs.GoodRows.{max_sets}
+use Rattle.re_labels.specs.GoodRows.{max_sets}
 use Rattle.re_problem.specs.Problems.{IsProblem, Problem}
 use Rattle.re_problem.specs.Steps.{IsRelaxed, IsUpper}
 

@@ -33,7 +33,7 @@ use Rattle.re_problem.specs.NamedProblems.{OccursIn}
 use Rattle.re_problem.specs.Problems.{IsProblem, Problem}
 use Rattle.re_problem.specs.Steps.{Becomes, IsRelaxed}
 use Rattle.re_problem.specs.Zero.{Zero}
-use Rattle.re_table.specs.Constraints.{IsConstraint}
+use Rattle.re_labels.specs.Constraints.{IsConstraint}
 
 -- ---- many numbers with one image
 length-parts : (t : ℕ → Bool) (xs : List ℕ) → length (filter t xs) + length (filter (λ x. not (t x)) xs) ≡ length xs

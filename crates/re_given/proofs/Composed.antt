@@ -10,7 +10,7 @@ use Rattle.re_laws.proofs.Ports.{over_view}
 use Rattle.re_laws.proofs.Tables.{Solvable-by}
 use Rattle.re_laws.specs.Algorithms.{Plain, Solvable, SolvesBy, answer, at_port, back_at}
 use Rattle.re_problem.specs.Problems.{Problem}
-use Rattle.re_table.specs.Constraints.{Has}
+use Rattle.re_labels.specs.Constraints.{Has}
 use Rattle.re_laws.proofs.ViewLaws.{IsTree-cut, child_of, cut-cut, shift-cut}
 use Rattle.re_laws.specs.Trees.{IsView, cut, shift}
 

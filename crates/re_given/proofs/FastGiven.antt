@@ -36,11 +36,11 @@ use Rattle.re_problem.proofs.Places.{places_listed}
 use Rattle.re_problem.proofs.StepLaws.{map-map}
 use Rattle.re_problem.specs.Derived.{derived}
 use Rattle.re_problem.specs.Problems.{IsProblem, Problem}
-use Rattle.re_table.proofs.Goodness.{IsAllowed-Rearranged, IsAllowed-is_allowed}
-use Rattle.re_table.proofs.MaxRows.{dominated}
-use Rattle.re_table.proofs.MaxSets.{max_sets-row}
-use Rattle.re_table.specs.Constraints.{Has}
-use Rattle.re_table.specs.GoodRows.{IsGood, is_allowed, max_rows, max_sets}
+use Rattle.re_labels.proofs.Goodness.{IsAllowed-Rearranged, IsAllowed-is_allowed}
+use Rattle.re_labels.proofs.MaxRows.{dominated}
+use Rattle.re_labels.proofs.MaxSets.{max_sets-row}
+use Rattle.re_labels.specs.Constraints.{Has}
+use Rattle.re_labels.specs.GoodRows.{IsGood, is_allowed, max_rows, max_sets}
 use Rattle.re_laws.proofs.JoinedBranches.{back-shift, backs-child}
 use Rattle.re_laws.proofs.ViewLaws.{IsChild, IsView-shift, child_of, shift-shift}
 use Rattle.re_laws.specs.Trees.{Child, IsTree, IsView, Tree, backs, child_at, cut, shift}

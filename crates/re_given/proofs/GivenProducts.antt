@@ -19,7 +19,7 @@ use Rattle.re_problem.specs.Problems.{IsProblem, Problem}
 use Rattle.re_problem.specs.Steps.{IsMapped, IsRelaxed}
 use Rattle.re_given.proofs.Pairs.{IsProblem-product, firsts-paired, from_parts, paired, product_parts, seconds-paired}
 use Rattle.re_given.specs.Products.{pairs_of, product}
-use Rattle.re_table.specs.Constraints.{Constraint, Has, IsConstraint}
+use Rattle.re_labels.specs.Constraints.{Constraint, Has, IsConstraint}
 use Rattle.re_laws.proofs.JoinedBranches.{backs-child}
 use Rattle.re_laws.proofs.ViewLaws.{IsChild, child_of}
 use Rattle.re_laws.specs.Trees.{Child, IsView, backs, child_at, shift}

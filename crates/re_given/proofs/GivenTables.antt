@@ -12,7 +12,7 @@ use Rattle.re_labels.proofs.Tests.{and-true}
 use Rattle.re_laws.proofs.Ports.{map-count}
 use Rattle.re_laws.specs.Algorithms.{at_port}
 use Rattle.re_problem.specs.Problems.{Problem}
-use Rattle.re_table.specs.Constraints.{Constraint}
+use Rattle.re_labels.specs.Constraints.{Constraint}
 use Rattle.re_laws.proofs.ViewLaws.{IsView-shift, child_of}
 use Rattle.re_laws.specs.Trees.{IsView, backs, end, leaf, more, shift}
 

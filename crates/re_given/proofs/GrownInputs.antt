@@ -12,8 +12,8 @@ use Rattle.re_given.specs.Inputs.{IsInput}
 use Rattle.re_problem.specs.NamedProblems.{OccursIn}
 use Rattle.re_labels.proofs.Membership.{AllByRecursion-contains, Contains-here, Contains-later}
 use Rattle.re_problem.specs.Problems.{Problem}
-use Rattle.re_table.proofs.Goodness.{Has-Rearranged}
-use Rattle.re_table.specs.Constraints.{Constraint, Has, IsConstraint}
+use Rattle.re_labels.proofs.Goodness.{Has-Rearranged}
+use Rattle.re_labels.specs.Constraints.{Constraint, Has, IsConstraint}
 use Rattle.re_laws.specs.Trees.{IsTree, cut, end, leaf, more}
 
 -- both sides of an input problem, from one of them

@@ -8,13 +8,13 @@ use Rattle.re_given.proofs.FastGiven.{IsInput-exchanged}
 use Rattle.re_given.proofs.SlowGiven.{SolvableGiven-upper, SolvableGiven-zero}
 use Rattle.re_given.proofs.ZeroGiven.{config-Has}
 use Rattle.re_laws.proofs.Mapping.{count_of}
-use Rattle.re_table.proofs.Closure.{Choice-singles}
+use Rattle.re_labels.proofs.Closure.{Choice-singles}
 use Rattle.re_given.specs.Given.{SolvableGiven, ZeroGiven}
 use Rattle.re_given.specs.Inputs.{IsInput, exchanged}
 use Rattle.re_labels.proofs.Membership.{Contains-cases, Contains-none}
 use Rattle.re_problem.specs.Problems.{IsProblem, Problem}
 use Rattle.re_problem.specs.Steps.{IsUpper}
-use Rattle.re_table.specs.Constraints.{Has}
+use Rattle.re_labels.specs.Constraints.{Has}
 
 -- the only choice of one label each from sets of one label
 pub only_choice : (config labels : List ℕ) → IsChoice labels (singles config) → labels ≡ config

@@ -10,8 +10,8 @@ use Rattle.re_given.specs.Given.{around_known}
 use Rattle.re_given.specs.InputViews.{Fits, FitsAround, InputView, known, payloads}
 use Rattle.re_laws.proofs.Ports.{AllZip-count}
 use Rattle.re_laws.specs.Algorithms.{at_port}
-use Rattle.re_table.proofs.Goodness.{Has-Rearranged}
-use Rattle.re_table.specs.Constraints.{Constraint, Has}
+use Rattle.re_labels.proofs.Goodness.{Has-Rearranged}
+use Rattle.re_labels.specs.Constraints.{Constraint, Has}
 use Rattle.re_laws.proofs.JoinedBranches.{backs-child}
 use Rattle.re_laws.proofs.ViewLaws.{HasRoom, HasRoom-tree, IsChild, IsTree-others, child_at-put, child_of, others-put, put-others, shift-at}
 use Rattle.re_laws.specs.Trees.{Child, IsTree, IsView, backs, child_at, cut, end, leaf, more, others, put, shift}

@@ -12,8 +12,8 @@ use Rattle.re_laws.proofs.Ports.{map-count}
 use Rattle.re_laws.specs.Algorithms.{at_port}
 use Rattle.re_laws.proofs.Mapping.{count_of}
 use Rattle.re_problem.specs.Problems.{IsProblem, Problem}
-use Rattle.re_table.proofs.Goodness.{Has-Rearranged}
-use Rattle.re_table.specs.Constraints.{Constraint, Has}
+use Rattle.re_labels.proofs.Goodness.{Has-Rearranged}
+use Rattle.re_labels.specs.Constraints.{Constraint, Has}
 use Rattle.re_laws.proofs.JoinedBranches.{back-shift, backs-child}
 use Rattle.re_laws.proofs.ViewLaws.{IsChild, IsTree-others, child_of, others-cut, put-others, shift-at, shift-cut, shift-shift}
 use Rattle.re_laws.specs.Trees.{Child, IsTree, IsView, Tree, backs, child_at, cut, end, leaf, more, others, put, shift}

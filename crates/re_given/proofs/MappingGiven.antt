@@ -17,8 +17,8 @@ use Rattle.re_laws.specs.Algorithms.{at_port}
 use Rattle.re_problem.proofs.StepLaws.{IsMapped-relaxed}
 use Rattle.re_problem.specs.Problems.{IsProblem, Problem}
 use Rattle.re_problem.specs.Steps.{Becomes, IsMapped, IsRelaxed}
-use Rattle.re_table.proofs.Goodness.{Has-Rearranged}
-use Rattle.re_table.specs.Constraints.{Has}
+use Rattle.re_labels.proofs.Goodness.{Has-Rearranged}
+use Rattle.re_labels.specs.Constraints.{Has}
 use Rattle.re_laws.proofs.ViewLaws.{IsChild, IsView-shift, child_of}
 use Rattle.re_laws.specs.Trees.{Child, IsView, backs, child_at, shift}
 

@@ -14,7 +14,7 @@ use Rattle.re_problem.proofs.Building.{occurs-fact}
 use Rattle.re_problem.proofs.UsedLabels.{counted_all}
 use Rattle.re_problem.specs.NamedProblems.{OccursIn, occurs}
 use Rattle.re_problem.specs.Problems.{IsProblem, Problem}
-use Rattle.re_table.specs.Constraints.{Constraint}
+use Rattle.re_labels.specs.Constraints.{Constraint}
 
 -- whether each of n labels stands in some multiset of d of them that passes
 abbrev pub are_there : ℕ → (List ℕ → Bool) → ℕ → Bool

@@ -13,8 +13,8 @@ use Rattle.re_laws.proofs.Ports.{map-count}
 use Rattle.re_laws.specs.Algorithms.{at_port}
 use Rattle.re_problem.specs.Problems.{Problem}
 use Rattle.re_problem.specs.Steps.{IsRelaxed}
-use Rattle.re_table.proofs.Goodness.{Has-Rearranged}
-use Rattle.re_table.specs.Constraints.{Constraint, Has}
+use Rattle.re_labels.proofs.Goodness.{Has-Rearranged}
+use Rattle.re_labels.specs.Constraints.{Constraint, Has}
 use Rattle.re_laws.proofs.ViewLaws.{IsChild, child_of}
 use Rattle.re_laws.specs.Trees.{Child, IsView, backs, child_at, end, leaf, more, shift}
 

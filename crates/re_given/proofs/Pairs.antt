@@ -25,8 +25,8 @@ use Rattle.re_problem.proofs.StepLaws.{map-map}
 use Rattle.re_problem.specs.Problems.{IsProblem, Problem}
 use Rattle.re_problem.specs.Steps.{IsRelaxed}
 use Rattle.re_given.specs.Products.{are_pairs, firsts, pairs_of, product, seconds}
-use Rattle.re_table.proofs.Goodness.{Has-Rearranged, Has-has_config, has_config-Has}
-use Rattle.re_table.specs.Constraints.{Constraint, Has, IsConstraint, has_config}
+use Rattle.re_labels.proofs.Goodness.{Has-Rearranged, Has-has_config, has_config-Has}
+use Rattle.re_labels.specs.Constraints.{Constraint, Has, IsConstraint, has_config}
 
 pair_below : (x n m : ℕ) → x / m < n → x % m < m → x < n * m
 pair_below x n m l r =

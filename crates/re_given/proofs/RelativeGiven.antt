@@ -22,7 +22,7 @@ use Rattle.re_problem.proofs.DerivedProblem.{IsProblem-derived}
 use Rattle.re_problem.specs.Derived.{derived, derived_by}
 use Rattle.re_problem.specs.Problems.{IsProblem, Problem}
 use Rattle.re_problem.specs.Steps.{IsUpper}
-use Rattle.re_table.specs.Constraints.{Has}
+use Rattle.re_labels.specs.Constraints.{Has}
 use Rattle.re_laws.proofs.JoinedBranches.{backs-child}
 use Rattle.re_laws.proofs.ViewLaws.{IsChild, IsView-shift, child_of}
 use Rattle.re_laws.specs.Trees.{Child, IsView, backs, child_at, shift}

@@ -20,9 +20,9 @@ use Rattle.re_laws.proofs.Ports.{AllZip-count, length-ports, map-count}
 use Rattle.re_laws.specs.Algorithms.{at_port}
 use Rattle.re_problem.specs.Problems.{Problem}
 use Rattle.re_problem.specs.Steps.{IsUpper}
-use Rattle.re_table.proofs.Goodness.{Has-Rearranged, Has-has_config, has_config-Has}
-use Rattle.re_table.specs.Constraints.{Constraint, Has, has_config}
-use Rattle.re_table.specs.GoodRows.{IsAllowed, IsGood}
+use Rattle.re_labels.proofs.Goodness.{Has-Rearranged, Has-has_config, has_config-Has}
+use Rattle.re_labels.specs.Constraints.{Constraint, Has, has_config}
+use Rattle.re_labels.specs.GoodRows.{IsAllowed, IsGood}
 use Rattle.re_laws.proofs.JoinedBranches.{back-shift, backs-child}
 use Rattle.re_laws.proofs.ViewLaws.{HasRoom, HasRoom-tree, IsChild, IsTree-cut, IsView-shift, child_at-put, child_of, shift-at, shift-shift}
 use Rattle.re_laws.specs.Trees.{Child, IsTree, IsView, backs, child_at, cut, end, leaf, more, others, put, shift}

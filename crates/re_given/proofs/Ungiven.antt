@@ -17,7 +17,7 @@ use Rattle.re_laws.specs.Algorithms.{Plain, Solvable, SolvesBy, answer, around, 
 use Rattle.re_laws.proofs.Tables.{Solvable-by}
 use Rattle.re_problem.specs.NamedProblems.{OccursIn}
 use Rattle.re_problem.specs.Problems.{IsProblem, Problem}
-use Rattle.re_table.specs.Constraints.{Constraint, Has, IsConstraint}
+use Rattle.re_labels.specs.Constraints.{Constraint, Has, IsConstraint}
 use Rattle.re_laws.proofs.ViewLaws.{IsChild, IsTree-cut, IsView-shift, IsView-pad, child_of, cut-pad, shift-cut}
 use Rattle.re_laws.specs.Trees.{Child, IsTree, IsView, backs, child_at, cut, end, leaf, more, pad, shift}
 

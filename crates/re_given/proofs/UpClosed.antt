@@ -18,11 +18,11 @@ use Rattle.re_laws.proofs.Ports.{AllByRecursion-count, length-ports}
 use Rattle.re_laws.proofs.FastRounds.{some_member}
 use Rattle.re_problem.specs.Problems.{IsProblem, Problem}
 use Rattle.re_problem.specs.Steps.{IsUpper}
-use Rattle.re_table.proofs.Goodness.{Has-Rearranged}
-use Rattle.re_table.proofs.Strengths.{IsAtLeastAsStrong-refl, IsAtLeastAsStrong-test, IsAtLeastAsStrong-trans, is_at_least_as_strong-fact, stronger_first}
-use Rattle.re_table.specs.Constraints.{Constraint, Has, IsConstraint}
-use Rattle.re_table.specs.GoodRows.{IsAllowed, IsGood}
-use Rattle.re_table.specs.Strength.{IsAtLeastAsStrong, is_at_least_as_strong}
+use Rattle.re_labels.proofs.Goodness.{Has-Rearranged}
+use Rattle.re_labels.proofs.Strengths.{IsAtLeastAsStrong-refl, IsAtLeastAsStrong-test, IsAtLeastAsStrong-trans, is_at_least_as_strong-fact, stronger_first}
+use Rattle.re_labels.specs.Constraints.{Constraint, Has, IsConstraint}
+use Rattle.re_labels.specs.GoodRows.{IsAllowed, IsGood}
+use Rattle.re_labels.specs.Strength.{IsAtLeastAsStrong, is_at_least_as_strong}
 
 -- a choice from sets none of which is empty
 some_choice : (row : List (List ℕ)) → AllByRecursion (λ (s : List ℕ). 0 < length s) row → (labels : List ℕ) × IsChoice labels row

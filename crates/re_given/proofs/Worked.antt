@@ -22,7 +22,7 @@ use Rattle.re_problem.specs.Examples.{orientation, relaxed_sinkless}
 use Rattle.re_problem.specs.NamedProblems.{OccursIn}
 use Rattle.re_problem.specs.Problems.{IsProblem, Problem}
 use Rattle.re_problem.specs.Steps.{IsRelaxed}
-use Rattle.re_table.specs.Constraints.{Has}
+use Rattle.re_labels.specs.Constraints.{Has}
 
 -- ---- an orientation
 IsProblem-orientation : IsProblem orientation

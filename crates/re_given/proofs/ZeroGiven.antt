@@ -28,9 +28,9 @@ use Rattle.re_laws.proofs.Ports.{AllZip-count, map-at_port}
 use Rattle.re_laws.specs.Algorithms.{at_port}
 use Rattle.re_problem.specs.Problems.{IsProblem, Problem}
 use Rattle.re_problem.specs.Steps.{IsUpper}
-use Rattle.re_table.proofs.Goodness.{Has-Rearranged}
-use Rattle.re_table.specs.Constraints.{Constraint, Has, IsConstraint}
-use Rattle.re_table.specs.GoodRows.{IsAllowed}
+use Rattle.re_labels.proofs.Goodness.{Has-Rearranged}
+use Rattle.re_labels.specs.Constraints.{Constraint, Has, IsConstraint}
+use Rattle.re_labels.specs.GoodRows.{IsAllowed}
 use Rattle.re_laws.proofs.ViewLaws.{child_of}
 use Rattle.re_laws.specs.Trees.{IsTree, IsView, end, leaf, more}
 

@@ -6,7 +6,7 @@ use Rattle.re_labels.specs.Lists.{count_from}
 use Rattle.re_laws.specs.Algorithms.{at_port}
 use Rattle.re_problem.specs.Problems.{Problem}
 use Rattle.re_problem.specs.Steps.{IsUpper}
-use Rattle.re_table.specs.Constraints.{Has}
+use Rattle.re_labels.specs.Constraints.{Has}
 use Rattle.re_laws.specs.Trees.{IsView, backs, end, leaf, more, shift}
 
 -- the labels that a node outputs where this is what it knows, one for each port

@@ -1,6 +1,6 @@
 -- Views whose payloads are input labels: the payload of a child is the label of the edge to it.
 use Rattle.std.specs.Prelude.{ℕ, zero, suc, List, [], ◌∷◌, ⊤}
-use Rattle.re_table.specs.Constraints.{Constraint, Has}
+use Rattle.re_labels.specs.Constraints.{Constraint, Has}
 use Rattle.re_laws.specs.Trees.{Tree, leaf, end, more}
 
 -- an input view

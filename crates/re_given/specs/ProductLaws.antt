@@ -5,7 +5,7 @@ use Rattle.re_given.specs.Inputs.{IsInput}
 use Rattle.re_problem.specs.Problems.{IsProblem, Problem}
 use Rattle.re_problem.specs.Steps.{IsMapped, IsRelaxed}
 use Rattle.re_given.specs.Products.{firsts, product, seconds}
-use Rattle.re_table.specs.Constraints.{Has}
+use Rattle.re_labels.specs.Constraints.{Has}
 
 -- the product of a problem is a problem
 abbrev pub ProductProblemLaw : Type 0

@@ -2,7 +2,7 @@
 use Rattle.std.specs.Prelude.{ℕ, ◌*◌, ◌/◌, ◌%◌, Bool, ◌&&◌, List, map, filter}
 use Rattle.re_labels.specs.Orders.{multisets}
 use Rattle.re_problem.specs.Problems.{Problem}
-use Rattle.re_table.specs.Constraints.{Constraint, has_config}
+use Rattle.re_labels.specs.Constraints.{Constraint, has_config}
 
 -- the first parts of pairs x * m + y of a number x and a number y below m, in order
 abbrev pub firsts : ℕ → List ℕ → List ℕ

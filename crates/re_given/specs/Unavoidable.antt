@@ -7,7 +7,7 @@ use Rattle.re_laws.specs.Chains as chain
 use Rattle.re_laws.specs.Chains.{IsLowerChain}
 use Rattle.re_problem.specs.Problems.{Problem}
 use Rattle.re_problem.specs.Steps.{Becomes}
-use Rattle.re_table.specs.Constraints.{Has}
+use Rattle.re_labels.specs.Constraints.{Has}
 
 -- whatever labels of the list are drawn for a passive node, they stand beside input labels that may stand around it: each beside its input
 -- label in some active configuration and its list

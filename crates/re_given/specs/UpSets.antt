@@ -6,8 +6,8 @@ use Rattle.re_labels.specs.Rows.{set_at}
 use Rattle.re_labels.specs.Sets.{IsIn, IsLabelSet}
 use Rattle.re_problem.specs.Problems.{Problem}
 use Rattle.re_problem.specs.Steps.{IsUpper}
-use Rattle.re_table.specs.Constraints.{Constraint}
-use Rattle.re_table.specs.Strength.{IsAtLeastAsStrong}
+use Rattle.re_labels.specs.Constraints.{Constraint}
+use Rattle.re_labels.specs.Strength.{IsAtLeastAsStrong}
 
 -- a set of labels below n that holds, with each label, those at least as strong
 pub record IsUpSet (constraint : Constraint) (n : ℕ) (set : List ℕ) : Type 0 where

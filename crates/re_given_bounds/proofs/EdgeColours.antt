@@ -28,7 +28,7 @@ use Rattle.re_local.proofs.Complete.{alike_choice, length-alike}
 use Rattle.re_local.proofs.FewerRounds.{held, part_different}
 use Rattle.re_layers.specs.Networks.{AreDifferent}
 use Rattle.re_local.specs.LocalAlgorithms.{SolvableLocal, behind_active, behind_passive, identified, shown}
-use Rattle.re_table.specs.Constraints.{Has}
+use Rattle.re_labels.specs.Constraints.{Has}
 use Rattle.re_laws.proofs.JoinedBranches.{backs-child}
 use Rattle.re_laws.proofs.ViewLaws.{HasRoom, HasRoom-tree, IsChild, child_at-put, child_of, shift-at}
 use Rattle.re_laws.specs.Trees.{Child, IsTree, IsView, backs, child_at, cut, end, leaf, more, others, put, shift}

@@ -28,9 +28,9 @@ use Rattle.re_problem.specs.Derived.{derived, derived_by}
 use Rattle.re_problem.specs.NamedProblems.{OccursIn}
 use Rattle.re_problem.specs.Problems.{Problem}
 use Rattle.re_problem.specs.Steps.{IsUpper}
-use Rattle.re_table.proofs.Goodness.{IsAllowed-Rearranged, IsGood-Rearranged}
-use Rattle.re_table.specs.Constraints.{Has, IsConstraint}
-use Rattle.re_table.specs.GoodRows.{IsAllowed, IsGood}
+use Rattle.re_labels.proofs.Goodness.{IsAllowed-Rearranged, IsGood-Rearranged}
+use Rattle.re_labels.specs.Constraints.{Has, IsConstraint}
+use Rattle.re_labels.specs.GoodRows.{IsAllowed, IsGood}
 
 -- ---- lists in which nothing stands twice
 distinct_parts : (xs ys : List ℕ) → Distinct (xs ++ ys) → Distinct xs × Distinct ys × ((x : ℕ) → Contains xs x → Contains ys x → ⊥)

@@ -12,7 +12,7 @@ use Rattle.re_labels.proofs.Membership.{AllByRecursion-contains, AllByRecursion-
 use Rattle.re_labels.proofs.Numbers.{same_labels}
 use Rattle.re_labels.proofs.Tests.{eqb-same, eqb-true}
 use Rattle.re_labels.specs.Sets.{IsLabelSet, has}
-use Rattle.re_table.specs.Constraints.{Constraint, IsConstraint}
+use Rattle.re_labels.specs.Constraints.{Constraint, IsConstraint}
 
 length-flat : (d n : ℕ) (configs : List (List ℕ)) → AllByRecursion (IsConfig d n) configs → length (flat_map (λ c. c) configs) ≡ length configs * d
 length-flat d n [] all = omega arith

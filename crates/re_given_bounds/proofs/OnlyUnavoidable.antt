@@ -27,9 +27,9 @@ use Rattle.re_laws.proofs.FastRounds.{some_member}
 use Rattle.re_problem.specs.Problems.{IsProblem, Problem}
 use Rattle.re_problem.specs.Steps.{Becomes}
 use Rattle.re_problem.specs.Zero.{Zero}
-use Rattle.re_table.proofs.Goodness.{IsAllowed-Rearranged, IsAllowed-is_allowed, is_allowed-IsAllowed}
-use Rattle.re_table.specs.Constraints.{Has}
-use Rattle.re_table.specs.GoodRows.{IsAllowed, is_allowed}
+use Rattle.re_labels.proofs.Goodness.{IsAllowed-Rearranged, IsAllowed-is_allowed, is_allowed-IsAllowed}
+use Rattle.re_labels.specs.Constraints.{Has}
+use Rattle.re_labels.specs.GoodRows.{IsAllowed, is_allowed}
 
 -- ---- labels that stand place by place
 chosen-stand : (R : ℕ → ℕ → Type 0) (sets : ℕ → List ℕ) → ((y x : ℕ) → Contains (sets x) y → R y x) → (ys xs : List ℕ) → IsChoice ys (map sets xs) → AllZip R ys xs

@@ -24,8 +24,8 @@ use Rattle.re_layers.specs.Networks.{AreDifferent}
 use Rattle.re_local.specs.LocalAlgorithms.{SolvableLocal, SolvesApart, behind_passive, identified, shown}
 use Rattle.re_problem.specs.NamedProblems.{OccursIn}
 use Rattle.re_problem.specs.Problems.{IsProblem, Problem}
-use Rattle.re_table.proofs.Goodness.{Has-Rearranged}
-use Rattle.re_table.specs.Constraints.{Constraint, Has, IsConstraint}
+use Rattle.re_labels.proofs.Goodness.{Has-Rearranged}
+use Rattle.re_labels.specs.Constraints.{Constraint, Has, IsConstraint}
 use Rattle.re_laws.proofs.JoinedBranches.{backs-child}
 use Rattle.re_laws.proofs.ViewLaws.{IsChild, child_of}
 use Rattle.re_laws.specs.Trees.{Child, IsView, backs, child_at, shift}

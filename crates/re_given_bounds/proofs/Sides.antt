@@ -5,7 +5,7 @@ use Rattle.re_given.proofs.ChainGiven.{exchanged_by-twice}
 use Rattle.re_given.specs.Inputs.{exchanged, exchanged_by}
 use Rattle.re_given_bounds.specs.Telling.{TellsConfig, TellsPassive}
 use Rattle.re_problem.specs.Problems.{Problem}
-use Rattle.re_table.specs.Constraints.{Constraint}
+use Rattle.re_labels.specs.Constraints.{Constraint}
 
 pub even_itself : (k : ℕ) (problem : Problem) → k % 2 ≡ 0 → exchanged_by k problem ≡ problem
 even_itself k problem even = let halves : k / 2 + k / 2 ≡ k = omega (arith, even) in subst (λ n. exchanged_by n problem ≡ problem) halves (exchanged_by-twice (k / 2) problem)

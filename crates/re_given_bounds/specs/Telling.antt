@@ -5,7 +5,7 @@ use Rattle.re_labels.specs.Configs.{support_of}
 use Rattle.re_given.specs.Given.{SolvableGiven}
 use Rattle.re_given.specs.Inputs.{IsInput, exchanged_by}
 use Rattle.re_problem.specs.Problems.{IsProblem, Problem}
-use Rattle.re_table.specs.Constraints.{Constraint}
+use Rattle.re_labels.specs.Constraints.{Constraint}
 
 -- each label tells in which configuration it stands: in all configurations, one behind the other, no label stands twice
 abbrev pub TellsConfig : Constraint → Type 0

@@ -3,8 +3,8 @@ ghost use Rattle.re_given_bounds.specs.Telling.{TellsConfig, TellsPassive};
 ghost use Rattle.re_problem.specs.NamedProblems.{unnamed};
 ghost use Rattle.std.specs.Prelude.{◌↔◌, IsTrue};
 
+use re_labels::Constraint;
 use re_problem::Problem;
-use re_table::Constraint;
 
 /// Whether each label of the constraint tells in which configuration it stands: whether it has as many labels as places in its configurations.
 pub fn tells_config(constraint: &Constraint) -> bool

@@ -13,9 +13,9 @@ use Rattle.re_labels.proofs.Sorting.{IsConfig-sorted, Rearranged-sorted, count_f
 use Rattle.re_labels.specs.Configs.{IsConfig, sorted}
 use Rattle.re_labels.specs.Orders.{multisets}
 use Rattle.re_labels.specs.Rows.{placed, set_at}
-use Rattle.re_table.proofs.Goodness.{IsAllowed-Rearranged}
-use Rattle.re_table.specs.Constraints.{Constraint, Has}
-use Rattle.re_table.specs.GoodRows.{IsAllowed, IsGood}
+use Rattle.re_labels.proofs.Goodness.{IsAllowed-Rearranged}
+use Rattle.re_labels.specs.Constraints.{Constraint, Has}
+use Rattle.re_labels.specs.GoodRows.{IsAllowed, IsGood}
 use Rattle.re_problem.specs.Problems.{IsProblem, Problem}
 use Rattle.re_problem.specs.Steps.{IsUpper}
 use Rattle.re_problem.specs.Zero.{Zero}

@@ -1,7 +1,7 @@
 -- One and two rounds are told by rows.
 use Rattle.std.proofs.Common.{ℕ, List, map, ◌↔◌}
 use Rattle.re_labels.specs.Rows.{set_at}
-use Rattle.re_table.specs.GoodRows.{max_sets}
+use Rattle.re_labels.specs.GoodRows.{max_sets}
 use Rattle.re_problem.proofs.DerivedProblem.{IsProblem-derived, IsUpper-derived}
 use Rattle.re_problem.specs.Derived.{derived}
 use Rattle.re_problem.specs.Problems.{IsProblem, Problem}

@@ -12,10 +12,10 @@ use Rattle.re_labels.proofs.LawsOfRows.{multisets_law}
 use Rattle.re_labels.specs.Configs.{IsConfig}
 use Rattle.re_labels.specs.Orders.{multisets}
 use Rattle.re_labels.specs.Rows.{choices, placed, set_at}
-use Rattle.re_table.proofs.Goodness.{IsAllowed-is_allowed, is_allowed-IsAllowed}
-use Rattle.re_table.proofs.MaxSets.{max_sets-row, maximal}
-use Rattle.re_table.specs.Constraints.{has_config}
-use Rattle.re_table.specs.GoodRows.{max_rows, max_sets}
+use Rattle.re_labels.proofs.Goodness.{IsAllowed-is_allowed, is_allowed-IsAllowed}
+use Rattle.re_labels.proofs.MaxSets.{max_sets-row, maximal}
+use Rattle.re_labels.specs.Constraints.{has_config}
+use Rattle.re_labels.specs.GoodRows.{max_rows, max_sets}
 use Rattle.re_problem.proofs.DerivedProblem.{IsProblem-derived, IsUpper-derived}
 use Rattle.re_problem.proofs.ZeroPlaces.{none-fails}
 use Rattle.re_problem.specs.Derived.{derived}

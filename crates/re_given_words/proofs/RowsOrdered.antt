@@ -14,10 +14,10 @@ use Rattle.re_labels.specs.Configs.{IsConfig, sorted}
 use Rattle.re_labels.specs.Orders.{multisets, placements}
 use Rattle.re_labels.specs.Rearranging.{Rearranged}
 use Rattle.re_labels.specs.Rows.{placed, set_at}
-use Rattle.re_table.proofs.Goodness.{IsGood-Rearranged}
-use Rattle.re_table.proofs.MaxSets.{max_sets-row, maximal}
-use Rattle.re_table.specs.Constraints.{Has}
-use Rattle.re_table.specs.GoodRows.{IsAllowed, max_rows, max_sets}
+use Rattle.re_labels.proofs.Goodness.{IsGood-Rearranged}
+use Rattle.re_labels.proofs.MaxSets.{max_sets-row, maximal}
+use Rattle.re_labels.specs.Constraints.{Has}
+use Rattle.re_labels.specs.GoodRows.{IsAllowed, max_rows, max_sets}
 use Rattle.re_problem.proofs.DerivedProblem.{IsUpper-derived}
 use Rattle.re_problem.specs.Derived.{derived}
 use Rattle.re_problem.specs.Problems.{IsProblem, Problem}

@@ -6,7 +6,7 @@ use Rattle.std.proofs.lemmas.List.Elements.{Contains-append_cases, Contains-appe
 use Rattle.re_labels.proofs.Membership.{Contains-cases, Contains-here, Contains-later, Contains-none}
 use Rattle.re_labels.proofs.Rearranging.{Contains-Rearranged, Rearranged-refl, Rearranged-sym, length-Rearranged}
 use Rattle.re_labels.specs.Rearranging.{Rearranged, chained, kept as beside, swapped}
-use Rattle.re_table.specs.Constraints.{Constraint}
+use Rattle.re_labels.specs.Constraints.{Constraint}
 use Rattle.re_problem.specs.Problems.{Problem}
 use Rattle.re_given_words.specs.Ahead.{HaveChoices, StandsAt}
 use Rattle.re_given_words.specs.Searching.{AreLeft, IsAdded, IsLeft, IsOrdered, IsPart, IsPassed, IsRefused, IsSupplied, IsUnderWay, ShowsTwoBy}

@@ -8,9 +8,9 @@ use Rattle.std.proofs.Math.Seq.{take-length, take-suc}
 use Rattle.re_labels.proofs.Membership.{Contains-cases, Contains-here, Contains-none}
 use Rattle.re_labels.proofs.Tests.{eqb-apart, same_or_not}
 use Rattle.re_labels.specs.Lists.{count_from}
-use Rattle.re_table.proofs.Goodness.{IsAllowed-is_allowed, is_allowed-IsAllowed}
-use Rattle.re_table.specs.Constraints.{Constraint}
-use Rattle.re_table.specs.GoodRows.{IsAllowed, is_allowed}
+use Rattle.re_labels.proofs.Goodness.{IsAllowed-is_allowed, is_allowed-IsAllowed}
+use Rattle.re_labels.specs.Constraints.{Constraint}
+use Rattle.re_labels.specs.GoodRows.{IsAllowed, is_allowed}
 use Rattle.re_given_words.proofs.TwoRounds.{stand}
 use Rattle.re_given_words.specs.Ahead.{HaveChoices, StandsAt}
 use Rattle.re_given_words.specs.Searching.{AreAllowed, AreDrawn, IsAdded, IsDrawn, IsMissed, IsPart, IsRefused}

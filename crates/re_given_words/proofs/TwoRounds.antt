@@ -16,10 +16,10 @@ use Rattle.re_labels.proofs.Sorting.{IsConfig-sorted, Rearranged-sorted}
 use Rattle.re_labels.specs.Configs.{IsConfig, sorted}
 use Rattle.re_labels.specs.Orders.{multisets}
 use Rattle.re_labels.specs.Rows.{IsChoice, placed, set_at}
-use Rattle.re_table.proofs.Goodness.{IsAllowed-Rearranged, IsGood-Rearranged, IsGood-is_good, is_good-IsGood}
-use Rattle.re_table.proofs.MaxSets.{allowed_law}
-use Rattle.re_table.specs.Constraints.{Has}
-use Rattle.re_table.specs.GoodRows.{IsAllowed, IsGood, allowed, is_good}
+use Rattle.re_labels.proofs.Goodness.{IsAllowed-Rearranged, IsGood-Rearranged, IsGood-is_good, is_good-IsGood}
+use Rattle.re_labels.proofs.MaxSets.{allowed_law}
+use Rattle.re_labels.specs.Constraints.{Has}
+use Rattle.re_labels.specs.GoodRows.{IsAllowed, IsGood, allowed, is_good}
 use Rattle.re_problem.specs.Problems.{Problem}
 use Rattle.re_problem.specs.Steps.{IsUpper}
 use Rattle.re_families.proofs.Whole.{alike_rise}

@@ -4,8 +4,8 @@ use Rattle.std.specs.List.{AllZip}
 use Rattle.re_labels.specs.Lists.{count_from}
 use Rattle.re_labels.specs.Configs.{IsConfig}
 use Rattle.re_labels.specs.Rows.{placed}
-use Rattle.re_table.specs.Constraints.{Constraint}
-use Rattle.re_table.specs.GoodRows.{IsAllowed, IsGood}
+use Rattle.re_labels.specs.Constraints.{Constraint}
+use Rattle.re_labels.specs.GoodRows.{IsAllowed, IsGood}
 use Rattle.re_problem.specs.Problems.{Problem}
 use Rattle.re_laws.specs.Algorithms.{Solvable}
 use Rattle.re_given_words.specs.declared.looking.Ahead.{Ahead}

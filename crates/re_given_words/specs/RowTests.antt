@@ -3,7 +3,7 @@ use Rattle.std.specs.Prelude.{ℕ, Bool, List, find, is_some}
 use Rattle.std.specs.List.{list_all}
 use Rattle.re_labels.specs.Orders.{multisets}
 use Rattle.re_labels.specs.Rows.{choices, placed}
-use Rattle.re_table.specs.Constraints.{Constraint, has_config}
+use Rattle.re_labels.specs.Constraints.{Constraint, has_config}
 
 -- whether the sets of the row at these places have an active choice
 abbrev pub has_choice : Constraint → List (List ℕ) → List ℕ → Bool

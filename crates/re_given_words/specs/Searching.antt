@@ -6,8 +6,8 @@ use Rattle.re_labels.specs.Configs.{IsConfig}
 use Rattle.re_labels.specs.Orders.{placements}
 use Rattle.re_labels.specs.Rearranging.{Rearranged}
 use Rattle.re_labels.specs.Rows.{placed}
-use Rattle.re_table.specs.Constraints.{Constraint}
-use Rattle.re_table.specs.GoodRows.{IsAllowed}
+use Rattle.re_labels.specs.Constraints.{Constraint}
+use Rattle.re_labels.specs.GoodRows.{IsAllowed}
 use Rattle.re_problem.specs.Problems.{Problem}
 use Rattle.re_given_words.specs.Ahead.{HaveChoices, StandsAt}
 use Rattle.re_given_words.specs.declared.searching.Next.{Next}

@@ -2,15 +2,14 @@
 ghost use Rattle.re_given_words.specs.Ahead.{HaveChoices, StandsAt};
 ghost use Rattle.re_given_words.specs.Searching.{AreAllowed, IsAdded, IsMissed, IsRefused};
 ghost use Rattle.re_given_words.specs.declared.standing.Standing.{Standing as Stands};
-ghost use Rattle.re_table.specs.GoodRows.{is_allowed};
+ghost use Rattle.re_labels.specs.GoodRows.{is_allowed};
 ghost use Rattle.std.specs.Prelude.{◌≡◌, ◌++◌, ◌∷◌, ◌<◌, ◌≤◌, [], IfOk, IfSome, IsTrue, List, None, false, length, true};
 
 use crate::standing::Standing;
 use crate::stopping::{TryFault, spend};
 use arrayvec::ArrayVec;
 use re_algo::are_sets;
-use re_labels::{LabelSet, Row};
-use re_table::Constraint;
+use re_labels::{Constraint, LabelSet, Row};
 use std::alloc::Global;
 
 // The sets with one more behind them.

@@ -2,7 +2,7 @@
 ghost use Rattle.re_given_words.specs.Ahead.{IsTold};
 ghost use Rattle.re_laws.specs.Algorithms.{Solvable};
 ghost use Rattle.re_problem.specs.NamedProblems.{unnamed};
-ghost use Rattle.re_table.specs.GoodRows.{max_rows};
+ghost use Rattle.re_labels.specs.GoodRows.{max_rows};
 ghost use Rattle.std.specs.Prelude.{◌≡◌, ◌≤◌, IfOk, length, ℕ};
 
 use crate::one::find_row;

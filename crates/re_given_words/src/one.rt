@@ -4,16 +4,15 @@ ghost use Rattle.re_labels.specs.Orders.{multisets};
 ghost use Rattle.re_labels.specs.Rows.{placed};
 ghost use Rattle.re_laws.specs.Algorithms.{Solvable};
 ghost use Rattle.re_problem.specs.NamedProblems.{unnamed};
-ghost use Rattle.re_table.specs.GoodRows.{max_rows};
+ghost use Rattle.re_labels.specs.GoodRows.{max_rows};
 ghost use Rattle.std.specs.List.{list_all, position};
 ghost use Rattle.std.specs.Prelude.{◌≡◌, ◌≤◌, [], IfOk, IfSome, None, length, slice_index_or};
 
 use crate::listing::multisets_of;
 use arrayvec::ArrayVec;
 use re_algo::first_choice;
-use re_labels::{Config, LabelSet, NoMemory, Row};
+use re_labels::{Config, Constraint, LabelSet, NoMemory, Row};
 use re_problem::Problem;
-use re_table::Constraint;
 use std::alloc::Global;
 
 // The set at the place, or the empty one.

@@ -10,9 +10,8 @@ use crate::drawing::{added, fits};
 use crate::ordering::PortSets;
 use crate::standing::Standing;
 use crate::stopping::TryFault;
-use re_labels::{Config, LabelSet, Row};
+use re_labels::{Config, Constraint, LabelSet, Row};
 use re_problem::Problem;
-use re_table::Constraint;
 use std::alloc::Global;
 
 /// A multiset of ports that is to be served, and the sets that may serve it, each of them at the port at its place.

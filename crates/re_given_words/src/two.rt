@@ -2,7 +2,7 @@
 ghost use Rattle.re_given_words.specs.Searching.{IsUnderWay};
 ghost use Rattle.re_laws.specs.Algorithms.{Solvable};
 ghost use Rattle.re_problem.specs.NamedProblems.{unnamed};
-ghost use Rattle.re_table.specs.GoodRows.{max_rows};
+ghost use Rattle.re_labels.specs.GoodRows.{max_rows};
 ghost use Rattle.std.specs.Prelude.{◌≡◌, [], IfOk, false, length, true};
 ghost use Rattle.re_given_words.specs.declared.two.Told.TheVariants.{Enough, TooFew};
 

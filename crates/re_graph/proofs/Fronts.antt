@@ -6,7 +6,7 @@ use Rattle.std.proofs.lemmas.List.{drop-take}
 use Rattle.re_cover.specs.declared.ends.GraphEnd.{GraphEnd}
 use Rattle.re_graph.specs.Solving.{are_active, are_kept, have_labels, is_kept, labels_at, place_of}
 use Rattle.re_labels.proofs.Tests.{and-true, below-true, true-and, true-below}
-use Rattle.re_table.specs.Constraints.{Constraint, has_config}
+use Rattle.re_labels.specs.Constraints.{Constraint, has_config}
 use Rattle.re_walks.proofs.ConfigBeginnings.{begun, low-drop, low-take}
 use Rattle.re_walks.specs.Begun.{is_begun}
 use Rattle.std.proofs.lemmas.Bool.{le-ltb}

@@ -14,9 +14,9 @@ use Rattle.re_labels.specs.declared.TheConstants.{MAX_LABELS}
 use Rattle.re_problem.proofs.ZeroPlaces.{none-fails}
 use Rattle.std.proofs.lemmas.List.Quantifiers.{position-Some}
 use Rattle.re_problem.specs.Problems.{Problem}
-use Rattle.re_table.proofs.Goodness.{Has-has_config, has_config-Has}
-use Rattle.re_table.specs.Constraints.{Constraint, Has, IsConstraint, has_config}
-use Rattle.re_table.proofs.ConstraintImages.{held_labels}
+use Rattle.re_labels.proofs.Goodness.{Has-has_config, has_config-Has}
+use Rattle.re_labels.specs.Constraints.{Constraint, Has, IsConstraint, has_config}
+use Rattle.re_labels.proofs.ConstraintImages.{held_labels}
 
 -- ---- what is no configuration
 no-config : (constraint : Constraint) (labels : List ℕ) → (Has constraint labels → ⊥) → false ≡ has_config constraint labels

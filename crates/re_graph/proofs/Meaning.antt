@@ -8,9 +8,9 @@ use Rattle.re_graph.proofs.Fronts.{active-front, all-kept-front, kept-has, long-
 use Rattle.re_graph.specs.Solving.{SolutionWalkLaw, are_active, are_kept, have_labels, is_kept, labels_at, labels_of, passes_on, place_of}
 use Rattle.re_labels.proofs.Membership.{AllByRecursion-weaker}
 use Rattle.re_labels.proofs.Tests.{and-true, or-right, true-and, true-below}
-use Rattle.re_table.proofs.Goodness.{Has-has_config, has_config-Has}
-use Rattle.re_table.specs.Constraints.{Constraint, Has, has_config}
-use Rattle.re_table.proofs.ConstraintImages.{held_labels}
+use Rattle.re_labels.proofs.Goodness.{Has-has_config, has_config-Has}
+use Rattle.re_labels.specs.Constraints.{Constraint, Has, has_config}
+use Rattle.re_labels.proofs.ConstraintImages.{held_labels}
 use Rattle.re_walks.specs.Begun.{is_begun}
 use Rattle.re_walks.specs.Walking.{IsAssignment}
 use Rattle.std.proofs.lemmas.Bool.{le-ltb}

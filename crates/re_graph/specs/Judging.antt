@@ -3,7 +3,7 @@ use Rattle.std.specs.Prelude.{ℕ, ◌+◌, List, map, not, Option, None, Some}
 use Rattle.std.specs.List.{position}
 use Rattle.re_cover.specs.Graphs.{IsSolution, PortGraph, label_at}
 use Rattle.re_problem.specs.Problems.{Problem}
-use Rattle.re_table.specs.Constraints.{Constraint, has_config}
+use Rattle.re_labels.specs.Constraints.{Constraint, has_config}
 use Rattle.re_graph.specs.declared.judging.LabelsFault.{LabelsFault}
 use Rattle.re_graph.specs.declared.judging.LabelsFault.TheVariants.{Active, Passive}
 

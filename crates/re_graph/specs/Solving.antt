@@ -4,7 +4,7 @@ use Rattle.std.specs.List.{list_all}
 use Rattle.re_cover.specs.declared.ends.GraphEnd.{GraphEnd}
 use Rattle.re_cover.specs.Graphs.{IsGraphOf, IsSolution, PortGraph}
 use Rattle.re_problem.specs.Problems.{IsProblem, Problem}
-use Rattle.re_table.specs.Constraints.{Constraint, has_config}
+use Rattle.re_labels.specs.Constraints.{Constraint, has_config}
 use Rattle.re_walks.specs.Begun.{is_begun}
 use Rattle.re_walks.specs.Walking.{BeginningsPass, IsAssignment, Walk, walk}
 

@@ -2,7 +2,7 @@
 ghost use Rattle.re_cover.specs.Graphs.{IsSolution, label_at as label_there};
 ghost use Rattle.re_graph.specs.Judging.{IsJudged, labels_fault as fault_of};
 ghost use Rattle.re_problem.specs.NamedProblems.{unnamed};
-ghost use Rattle.re_table.specs.Constraints.{has_config as holds};
+ghost use Rattle.re_labels.specs.Constraints.{has_config as holds};
 ghost use Rattle.std.specs.List.{position};
 ghost use Rattle.std.specs.Prelude.{◌≡◌, ◌≤◌, ◌<◌, ◌==◌, IfSome, length, map, not, slice_index};
 
@@ -11,9 +11,8 @@ use crate::passing::is_config;
 use arrayvec::ArrayVec;
 use re_algo::are_labels;
 use re_cover::GraphEnd;
-use re_labels::PortLabels;
+use re_labels::{Constraint, PortLabels};
 use re_problem::Problem;
-use re_table::Constraint;
 
 /// The first node whose labels show that they are no solution. Nodes count from 1.
 #[derive(Clone, Copy, Debug, PartialEq, Eq)]

@@ -1,16 +1,15 @@
 //! Whether labels of the first ends may begin a solution.
 ghost use Rattle.re_graph.specs.Solving.{are_active, are_kept, have_labels, is_kept, labels_at, passes_on, place_of};
 ghost use Rattle.re_problem.specs.NamedProblems.{unnamed};
-ghost use Rattle.re_table.specs.Constraints.{has_config};
+ghost use Rattle.re_labels.specs.Constraints.{has_config};
 ghost use Rattle.std.specs.List.{AllByRecursion};
 ghost use Rattle.std.specs.Prelude.{◌≡◌, ◌<◌, ◌≤◌, length, true};
 
 use crate::graph::{Graph, PassiveEnds};
 use arrayvec::ArrayVec;
 use re_cover::GraphEnd;
-use re_labels::{Config, MAX_LABELS};
+use re_labels::{Config, Constraint, MAX_LABELS};
 use re_problem::Problem;
-use re_table::Constraint;
 use re_walks::is_begun;
 
 /// Whether these labels are a configuration.

@@ -3,9 +3,8 @@ use crate::MAX_NODES;
 use crate::gadgets::{Allowed, Gadget, Made, allows_less, has_others, node_of};
 use crate::joining::{Numbered, node_ends, push_at_node, push_series};
 use crate::multisets::{Multiset, multiset_of};
-use re_labels::{LabelSet, MAX_LABELS, NoMemory, Side};
+use re_labels::{Constraint, LabelSet, MAX_LABELS, NoMemory, Side};
 use re_problem::Problem;
-use re_table::Constraint;
 use std::alloc::Global;
 
 /// How many gadgets are kept and joined to others.

@@ -17,8 +17,8 @@ use Rattle.re_labels.proofs.Membership.{AllByRecursion-contains, AllByRecursion-
 use Rattle.re_labels.proofs.Tests.{eqb-same, eqb-true}
 use Rattle.re_labels.specs.Sets.{IsIn, has}
 use Rattle.re_problem.specs.Problems.{IsProblem, Problem}
-use Rattle.re_table.specs.Constraints.{Constraint, Has}
-use Rattle.re_table.specs.GoodRows.{IsAllowed}
+use Rattle.re_labels.specs.Constraints.{Constraint, Has}
+use Rattle.re_labels.specs.GoodRows.{IsAllowed}
 use Rattle.re_local.proofs.ColouredHops.{chosen_in, in_replicate}
 
 -- labels of a configuration are below the number of labels

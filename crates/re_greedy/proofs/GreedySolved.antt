@@ -20,7 +20,7 @@ use Rattle.re_greedy.specs.Greedy.{IsGreedy}
 use Rattle.re_labels.proofs.Membership.{AllByRecursion-contains, AllByRecursion-from_contains, Contains-map_cases, Distinct, Distinct-map}
 use Rattle.re_problem.specs.Problems.{IsProblem, Problem}
 use Rattle.re_problem.specs.Steps.{IsRelaxed}
-use Rattle.re_table.specs.Constraints.{Constraint, Has}
+use Rattle.re_labels.specs.Constraints.{Constraint, Has}
 
 module _ (problem : Problem) (partial : List (List ℕ)) (c : ℕ) (is : IsProblem problem) (greedy : IsGreedy problem partial) (enough : problem.passive.degree ≤ c) where
   abbrev n : ℕ

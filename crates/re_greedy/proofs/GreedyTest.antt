@@ -19,9 +19,9 @@ use Rattle.re_labels.specs.Lists.{count_from, place_of, same_list}
 use Rattle.re_problem.proofs.StepLaws.{map-map}
 use Rattle.re_problem.specs.Problems.{IsProblem, Problem}
 use Rattle.re_problem.proofs.HeldLabels.{is_held}
-use Rattle.re_table.proofs.Goodness.{IsAllowed-Rearranged, IsAllowed-is_allowed, is_allowed-IsAllowed}
-use Rattle.re_table.specs.Constraints.{Has}
-use Rattle.re_table.specs.GoodRows.{IsAllowed, is_allowed}
+use Rattle.re_labels.proofs.Goodness.{IsAllowed-Rearranged, IsAllowed-is_allowed, is_allowed-IsAllowed}
+use Rattle.re_labels.specs.Constraints.{Has}
+use Rattle.re_labels.specs.GoodRows.{IsAllowed, is_allowed}
 use Rattle.std.proofs.lemmas.List.Elements.{Contains-get_or}
 use Rattle.std.proofs.lemmas.List.{get_or-map}
 

@@ -16,11 +16,11 @@ use Rattle.re_labels.specs.Rows.{IsChoice, placed, set_at}
 use Rattle.re_labels.specs.Sets.{IsIn, IsWithin, within}
 use Rattle.re_labels.proofs.Lists.{Contains-more_cases}
 use Rattle.re_problem.specs.Problems.{Problem}
-use Rattle.re_table.proofs.Goodness.{IsAllowed-Rearranged, IsAllowed-is_allowed, is_allowed-IsAllowed}
+use Rattle.re_labels.proofs.Goodness.{IsAllowed-Rearranged, IsAllowed-is_allowed, is_allowed-IsAllowed}
 use Rattle.re_greedy.specs.Findings.{IsTried}
 use Rattle.re_greedy.specs.declared.answering.Tried.{Tried}
-use Rattle.re_table.specs.Constraints.{Constraint}
-use Rattle.re_table.specs.GoodRows.{IsAllowed, is_allowed}
+use Rattle.re_labels.specs.Constraints.{Constraint}
+use Rattle.re_labels.specs.GoodRows.{IsAllowed, is_allowed}
 use Rattle.std.proofs.Math.Seq.{get_or-append_seam}
 use Rattle.std.proofs.lemmas.List.{get_or_append_left}
 

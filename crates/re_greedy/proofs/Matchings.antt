@@ -13,8 +13,8 @@ use Rattle.re_labels.proofs.LabelPlaces.{each_degree}
 use Rattle.re_laws.specs.Chains as chain
 use Rattle.re_problem.specs.Problems.{IsProblem}
 use Rattle.re_problem.specs.Steps.{IsUpper}
-use Rattle.re_table.proofs.Goodness.{is_allowed-IsAllowed, is_good-IsGood}
-use Rattle.re_table.specs.GoodRows.{is_allowed, is_good}
+use Rattle.re_labels.proofs.Goodness.{is_allowed-IsAllowed, is_good-IsGood}
+use Rattle.re_labels.specs.GoodRows.{is_allowed, is_good}
 
 module _ (a : ℕ) (low : 2 ≤ a) (high : a ≤ 6) where
   is_matchings : IsProblem (matchings a)

@@ -27,8 +27,8 @@ use Rattle.re_labels.specs.Lists.{count_from, place_of}
 use Rattle.re_labels.specs.Sets.{IsIn, has}
 use Rattle.re_problem.proofs.StepLaws.{map-map}
 use Rattle.re_problem.specs.Problems.{IsProblem, Problem}
-use Rattle.re_table.specs.Constraints.{Has}
-use Rattle.re_table.specs.GoodRows.{IsAllowed, IsGood}
+use Rattle.re_labels.specs.Constraints.{Has}
+use Rattle.re_labels.specs.GoodRows.{IsAllowed, IsGood}
 
 module _ (a p N : ℕ) (a_low : 2 ≤ a) (a_high : a ≤ 6) (p_low : 2 ≤ p) (p_high : p ≤ 6) (enough : p ≤ N) where
   -- what may stand around a passive node, where active ones number their edges

@@ -24,7 +24,7 @@ use Rattle.re_labels.specs.Lists.{count_from, same_list}
 use Rattle.re_labels.specs.Sets.{IsIn}
 use Rattle.re_problem.specs.Problems.{IsProblem, Problem}
 use Rattle.re_problem.specs.Steps.{IsUpper}
-use Rattle.re_table.specs.Constraints.{Has}
+use Rattle.re_labels.specs.Constraints.{Has}
 
 -- an active node has the a numbers from its colour times a on, one for each edge, and those of a passive node are of different colours
 abbrev pub ported : ℕ → ℕ → ℕ → Problem

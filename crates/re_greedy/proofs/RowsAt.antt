@@ -7,10 +7,10 @@ use Rattle.re_labels.proofs.Sorting.{take_all}
 use Rattle.re_labels.specs.Rows.{in_order, is_full, placed, row_of, set_at}
 use Rattle.re_labels.specs.Sets.{IsLabelSet}
 use Rattle.re_labels.specs.declared.TheConstants.{MAX_LABELS}
-use Rattle.re_table.proofs.Goodness.{filled-is_full, is_allowed-IsAllowed, is_full-filled}
-use Rattle.re_table.proofs.SetsInOrder.{AreSets, row_is}
-use Rattle.re_table.specs.Constraints.{Constraint}
-use Rattle.re_table.specs.GoodRows.{is_allowed}
+use Rattle.re_labels.proofs.Goodness.{filled-is_full, is_allowed-IsAllowed, is_full-filled}
+use Rattle.re_labels.proofs.SetsInOrder.{AreSets, row_is}
+use Rattle.re_labels.specs.Constraints.{Constraint}
+use Rattle.re_labels.specs.GoodRows.{is_allowed}
 use Rattle.re_labels.proofs.ChoicesOfRows.{IsChoice-filled}
 
 pub placed_all : (joining sets given : List (List ℕ)) (places : List ℕ) (i : ℕ) → given ≡ sets → sets ≡ map (set_at joining) (take i places) → length places ≤ i → given ≡ placed joining places

@@ -18,7 +18,7 @@ use Rattle.re_problem.proofs.HeldLabels.{is_held}
 use Rattle.re_problem.specs.Problems.{IsProblem, Problem}
 use Rattle.re_labels.proofs.Tests.{below-cases}
 use Rattle.re_labels.proofs.Lists.{Contains-last, Contains-more, Contains-more_cases}
-use Rattle.re_table.specs.Constraints.{Constraint}
+use Rattle.re_labels.specs.Constraints.{Constraint}
 use Rattle.std.proofs.Common.{append_assoc, get_or, take}
 use Rattle.std.proofs.lemmas.List.{get_or_append_left, take_all}
 use Rattle.std.proofs.lemmas.List.Edits.{length-remove}

@@ -19,8 +19,8 @@ use Rattle.re_labels.proofs.Membership.{Contains-In, Contains-count_from, Contai
 use Rattle.re_labels.proofs.Tests.{and-true, below-true, or-left, or-right, or-true, true-and, true-below}
 use Rattle.re_labels.specs.Lists.{count_from, same_list}
 use Rattle.re_problem.specs.Problems.{IsProblem, Problem}
-use Rattle.re_table.proofs.Goodness.{Has-Rearranged, Has-has_config, has_config-Has}
-use Rattle.re_table.specs.Constraints.{Constraint, Has, has_config}
+use Rattle.re_labels.proofs.Goodness.{Has-Rearranged, Has-has_config, has_config-Has}
+use Rattle.re_labels.specs.Constraints.{Constraint, Has, has_config}
 
 -- ---- what stands around a node
 -- around an active node: an active configuration, or its colour, from q on

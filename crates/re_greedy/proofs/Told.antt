@@ -8,8 +8,8 @@ use Rattle.re_labels.proofs.Tests.{and-true, below-true, eqb-apart, eqb-same, eq
 use Rattle.re_labels.specs.Lists.{count_from}
 use Rattle.re_labels.specs.Sets.{has}
 use Rattle.re_problem.specs.Problems.{Problem}
-use Rattle.re_table.proofs.Goodness.{Has-has_config, has_config-Has}
-use Rattle.re_table.specs.Constraints.{Constraint, Has, has_config}
+use Rattle.re_labels.proofs.Goodness.{Has-has_config, has_config-Has}
+use Rattle.re_labels.specs.Constraints.{Constraint, Has, has_config}
 
 module _ (problem : Problem) (partial : List (List ℕ)) (c q : ℕ) where
   abbrev pub n : ℕ

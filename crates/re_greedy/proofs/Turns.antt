@@ -14,7 +14,7 @@ use Rattle.re_labels.proofs.LabelPlaces.{get-place_of, place_of-below}
 use Rattle.re_labels.proofs.Tests.{eqb-same, eqb-true}
 use Rattle.re_labels.specs.Lists.{place_of}
 use Rattle.re_problem.specs.Problems.{IsProblem, Problem}
-use Rattle.re_table.specs.Constraints.{Constraint}
+use Rattle.re_labels.specs.Constraints.{Constraint}
 
 module _ (problem : Problem) (partial : List (List ℕ)) (c q : ℕ) (is : IsProblem problem) (greedy : IsGreedy problem partial) (turn : q < c) where
   abbrev n : ℕ

@@ -13,8 +13,8 @@ use Rattle.re_greedy.specs.declared.judging.ListVerdict.TheVariants.{Greedy as G
 use Rattle.re_labels.specs.Orders.{multisets}
 use Rattle.re_labels.specs.Rows.{placed}
 use Rattle.re_problem.specs.Problems.{Problem}
-use Rattle.re_table.specs.Constraints.{Constraint}
-use Rattle.re_table.specs.GoodRows.{is_allowed}
+use Rattle.re_labels.specs.Constraints.{Constraint}
+use Rattle.re_labels.specs.GoodRows.{is_allowed}
 
 -- a multiset of places from whose sets no choice is a configuration, or that there is none
 abbrev pub IsTried : Constraint → List (List ℕ) → Tried → Type 0

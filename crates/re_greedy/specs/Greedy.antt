@@ -6,8 +6,8 @@ use Rattle.re_labels.specs.Orders.{multisets}
 use Rattle.re_labels.specs.Rows.{placed}
 use Rattle.re_labels.specs.Lists.{count_from, same_list}
 use Rattle.re_problem.specs.Problems.{Problem}
-use Rattle.re_table.specs.Constraints.{Has}
-use Rattle.re_table.specs.GoodRows.{is_allowed}
+use Rattle.re_labels.specs.Constraints.{Has}
+use Rattle.re_labels.specs.GoodRows.{is_allowed}
 
 -- the multisets of the list may stand around a passive node while some of its active nodes have put out their labels and others haven't: none at
 -- all may, those of all are passive configurations, and whatever an active node sees around its passive nodes, which still want its

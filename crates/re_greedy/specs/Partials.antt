@@ -4,7 +4,7 @@ use Rattle.std.specs.List.{AllByRecursion, AllZip, remove}
 use Rattle.re_labels.specs.Configs.{sorted}
 use Rattle.re_labels.specs.Sets.{IsIn, IsWithin}
 use Rattle.re_problem.specs.Problems.{Problem}
-use Rattle.re_table.specs.Constraints.{Constraint, Has}
+use Rattle.re_labels.specs.Constraints.{Constraint, Has}
 
 -- the label with which the second multiset is the first one, or none where none is
 abbrev pub IsExtra : List ℕ → List ℕ → Option ℕ → Type 0

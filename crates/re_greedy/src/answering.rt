@@ -1,7 +1,7 @@
 //! Whether active nodes can answer all that they may see.
 ghost use Rattle.re_greedy.specs.Findings.{IsReply, IsTried};
 ghost use Rattle.re_labels.specs.Rows.{placed};
-ghost use Rattle.re_table.specs.GoodRows.{is_allowed};
+ghost use Rattle.re_labels.specs.GoodRows.{is_allowed};
 ghost use Rattle.re_problem.specs.NamedProblems.{unnamed};
 ghost use Rattle.std.specs.List.{AllByRecursion};
 ghost use Rattle.std.specs.Prelude.{◌≡◌, ◌<◌, ◌^◌, IfOk, length};
@@ -9,9 +9,8 @@ ghost use Rattle.std.specs.Prelude.{◌≡◌, ◌<◌, ◌^◌, IfOk, length};
 use crate::joining::hardest_of;
 use crate::partials::Partial;
 use arrayvec::ArrayVec;
-use re_labels::{LabelSet, Multisets, NoMemory, Picks, Row};
+use re_labels::{Constraint, LabelSet, Multisets, NoMemory, Picks, Row};
 use re_problem::Problem;
-use re_table::Constraint;
 use std::alloc::Global;
 
 /// What comes of trying.

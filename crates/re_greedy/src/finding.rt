@@ -6,9 +6,8 @@ ghost use Rattle.std.specs.Prelude.{◌≡◌, ◌<◌, ◌≤◌, ◌↔◌, �
 
 use crate::answering::{Reply, reply_to};
 use crate::partials::Partial;
-use re_labels::NoMemory;
+use re_labels::{Constraint, NoMemory};
 use re_problem::Problem;
-use re_table::Constraint;
 use std::alloc::Global;
 
 /// At most so many multisets are looked at.

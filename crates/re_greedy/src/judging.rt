@@ -7,9 +7,8 @@ ghost use Rattle.std.specs.Prelude.{◌≡◌, ◌↔◌, Contains, IfOk, IsTrue
 use crate::answering::{Reply, reply_to};
 use crate::finding::has_member;
 use crate::partials::Partial;
-use re_labels::{Config, NoMemory};
+use re_labels::{Config, Constraint, NoMemory};
 use re_problem::Problem;
-use re_table::Constraint;
 use std::alloc::Global;
 
 /// Whether a list shows it, and else what fails first.

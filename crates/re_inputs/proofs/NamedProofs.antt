@@ -19,7 +19,7 @@ use Rattle.re_labels.specs.Names.{IsNames}
 use Rattle.re_problem.proofs.Building.{all_occur-facts, constraint_named}
 use Rattle.re_problem.specs.NamedProblems.{IsNamedProblem, NamedProblem, built, unnamed}
 use Rattle.re_problem.specs.Problems.{IsProblem, Problem}
-use Rattle.re_table.specs.Constraints.{Constraint}
+use Rattle.re_labels.specs.Constraints.{Constraint}
 use Rattle.re_inputs.specs.NamedInputs.{ColouringFamilyLaw, InputsLaw, NamedInputsLaw, edge_colours, fits, input_of, named, oriented, named_exchanged}
 use Rattle.re_inputs.specs.declared.kinds.InputKind.{InputKind}
 use Rattle.re_inputs.specs.declared.kinds.InputKind.TheVariants.{Both, Colouring, Edges, Nothing, Orientation, Sides}

@@ -26,9 +26,9 @@ use Rattle.re_labels.specs.Lists.{IsBefore, IsRising, count_from}
 use Rattle.re_labels.specs.declared.TheConstants.{MAX_LABELS}
 use Rattle.re_laws.proofs.Ports.{AllZip-count}
 use Rattle.re_problem.proofs.Walks.{alone}
-use Rattle.re_table.proofs.ConstraintImages.{itself-held}
-use Rattle.re_table.specs.Constraints.{Constraint, Has, IsConstraint}
-use Rattle.re_table.specs.declared.constraint_table.TheConstants.{MAX_CONFIGURATIONS}
+use Rattle.re_labels.proofs.ConstraintImages.{itself-held}
+use Rattle.re_labels.specs.Constraints.{Constraint, Has, IsConstraint}
+use Rattle.re_labels.specs.declared.constraint_table.TheConstants.{MAX_CONFIGURATIONS}
 use Rattle.re_inputs.specs.Pairings.{all_pairings, beside, beside_in, pairings, pairings_with}
 
 -- ---- pairs

@@ -27,9 +27,9 @@ use Rattle.re_labels.specs.declared.TheConstants.{MAX_LABELS}
 use Rattle.re_problem.specs.NamedProblems.{IsNamedProblem, NamedProblem, OccursIn, unnamed}
 use Rattle.re_problem.specs.Problems.{IsProblem}
 use Rattle.re_problem.specs.Steps.{IsRelaxed}
-use Rattle.re_table.proofs.ConstraintImages.{IsConstraint-image, back-held, config-below, image-held, itself-held}
-use Rattle.re_table.proofs.Goodness.{Has-Rearranged}
-use Rattle.re_table.specs.Constraints.{Constraint, Has, IsConstraint}
+use Rattle.re_labels.proofs.ConstraintImages.{IsConstraint-image, back-held, config-below, image-held, itself-held}
+use Rattle.re_labels.proofs.Goodness.{Has-Rearranged}
+use Rattle.re_labels.specs.Constraints.{Constraint, Has, IsConstraint}
 use Rattle.re_inputs.proofs.PairingLemmas.{firsts-beside, seconds-beside}
 use Rattle.re_inputs.proofs.ProductNames.{few_names, first_low, name_there, second_low}
 use Rattle.re_inputs.specs.NamedProducts.{NamedProductLaw, is_full, is_long, is_nameless, is_taken, name_fault, named_product, nameless, pair_count, pair_name, pair_names, product_fault, product_labels, product_names, relabelled, full_fault}

@@ -10,7 +10,7 @@ use Rattle.re_given.specs.Inputs as inputs
 use Rattle.re_given.specs.Unavoidable.{colouring}
 use Rattle.re_problem.specs.NamedProblems.{NamedProblem, unnamed}
 use Rattle.re_problem.specs.Problems.{IsProblem, Problem}
-use Rattle.re_table.specs.Constraints.{Constraint}
+use Rattle.re_labels.specs.Constraints.{Constraint}
 use Rattle.re_inputs.specs.declared.kinds.InputKind.{InputKind}
 use Rattle.re_inputs.specs.declared.kinds.InputKind.TheVariants.{Both, Colouring, Edges, Nothing, Orientation, Sides}
 

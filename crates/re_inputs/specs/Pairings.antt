@@ -3,7 +3,7 @@ use Rattle.std.specs.Prelude.{ℕ, ◌+◌, ◌*◌, List, [], ◌∷◌, length
 use Rattle.std.specs.List.{flat_map}
 use Rattle.re_labels.specs.Configs.{image_at, sorted}
 use Rattle.re_labels.specs.Orders.{placements}
-use Rattle.re_table.specs.Constraints.{Constraint}
+use Rattle.re_labels.specs.Constraints.{Constraint}
 
 -- the pairs x * m + y of the numbers that stand at the same places
 abbrev pub beside : ℕ → List ℕ → List ℕ → List ℕ

@@ -6,9 +6,8 @@ ghost use Rattle.std.specs.Prelude.{◌≡◌, ◌≤◌, IfOk, true};
 
 use crate::kinds::InputKind;
 use re_families::{Family, config_of, family_problem, put};
-use re_labels::{Config, Multisets, Names, NoMemory};
+use re_labels::{Config, Constraint, Multisets, Names, NoMemory};
 use re_problem::Problem;
-use re_table::Constraint;
 use std::alloc::Global;
 
 // Whether the edges of an active node may be directed so: in any way, or edges lead into it and out of it.

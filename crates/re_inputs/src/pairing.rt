@@ -3,13 +3,12 @@ ghost use Rattle.re_labels.specs.Configs.{IsConfig, image_at, sorted};
 ghost use Rattle.re_given.specs.Products.{pairs_of};
 ghost use Rattle.re_inputs.specs.Pairings.{all_pairings, beside, beside_in, pairings, pairings_with};
 ghost use Rattle.re_labels.specs.ListSets.{list_set};
-ghost use Rattle.re_table.specs.Constraints.{IsConstraint};
+ghost use Rattle.re_labels.specs.Constraints.{IsConstraint};
 ghost use Rattle.std.specs.List.{AllByRecursion};
 ghost use Rattle.std.specs.Prelude.{◌≡◌, ◌≤◌, ◌<◌, ◌+◌, ◌*◌, ◌++◌, ◌∷◌, [], IfOk, IsErrOf, OnOk, length, map};
 
 use arrayvec::ArrayVec;
-use re_labels::{Config, MAX_LABELS, Placements};
-use re_table::{Constraint, InsertFault, MAX_CONFIGURATIONS};
+use re_labels::{Config, Constraint, InsertFault, MAX_CONFIGURATIONS, MAX_LABELS, Placements};
 use std::alloc::Global;
 
 // The pair of a label below n and one below m.

@@ -4,15 +4,16 @@ ghost use Rattle.re_given.specs.Products.{pairs_of};
 ghost use Rattle.re_inputs.specs.NamedProducts.{ProductGives, is_full, is_nameless, named_product, nameless, pair_count, pair_name, pair_names, product_labels, product_names, relabelled};
 ghost use Rattle.re_labels.specs.ListSets.{list_set};
 ghost use Rattle.re_problem.specs.NamedProblems.{unnamed};
-ghost use Rattle.re_table.specs.Constraints.{IsConstraint};
+ghost use Rattle.re_labels.specs.Constraints.{IsConstraint};
 ghost use Rattle.std.specs.List.{AllByRecursion};
 ghost use Rattle.std.specs.Prelude.{◌≡◌, ◌≤◌, ◌<◌, ◌+◌, ◌*◌, [], IfOk, IsErrOf, None, length, not, true, false};
 
 use crate::making::problem_of;
 use crate::pairing::pairs_of;
-use re_labels::{MAX_LABELS, Name, Names, NamesFault, NoMemory};
+use re_labels::{
+    Constraint, InsertFault, MAX_CONFIGURATIONS, MAX_LABELS, Name, Names, NamesFault, NoMemory,
+};
 use re_problem::Problem;
-use re_table::{Constraint, InsertFault, MAX_CONFIGURATIONS};
 use std::alloc::Global;
 
 /// Why a product isn't given.

@@ -12,8 +12,8 @@ use Rattle.re_problem.proofs.NewNumbers.{map-same}
 use Rattle.re_problem.proofs.StepLaws.{IsRelaxed-renamed}
 use Rattle.re_problem.specs.Problems.{IsProblem, Problem}
 use Rattle.re_problem.specs.Steps.{IsRelaxed, IsRenamed}
-use Rattle.re_table.proofs.ConstraintImages.{back-held, config-below, itself-held}
-use Rattle.re_table.specs.Constraints.{Constraint, Has, IsConstraint, images_of}
+use Rattle.re_labels.proofs.ConstraintImages.{back-held, config-below, itself-held}
+use Rattle.re_labels.specs.Constraints.{Constraint, Has, IsConstraint, images_of}
 
 module _ (problem next : Problem) (images : List ℕ) (is : IsProblem problem) (renamed : IsRenamed problem next images) where
   -- the label with this image

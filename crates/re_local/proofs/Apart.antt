@@ -22,7 +22,7 @@ use Rattle.re_local.specs.LocalAlgorithms.{behind_active, behind_passive, shown}
 use Rattle.re_local.specs.Separating.{AreApart}
 use Rattle.re_local.proofs.Walks.{joined, turned}
 use Rattle.re_local.specs.Hypergraphs.{Hyper, IsHyper, IsSparse, On, Walk, one, step}
-use Rattle.re_table.specs.Constraints.{Constraint, Has}
+use Rattle.re_labels.specs.Constraints.{Constraint, Has}
 use Rattle.re_laws.specs.Trees.{IsTree, IsView, end, leaf, more}
 
 different_across : (xs ys : List ℕ) → AreDifferent (xs ++ ys) → (y z : ℕ) → In y xs → In z ys → y ≡ z → ⊥

@@ -25,7 +25,7 @@ use Rattle.re_labels.specs.Sets.{IsIn}
 use Rattle.re_local.proofs.Complete.{alike_choice}
 use Rattle.re_local.proofs.Supports.{Distinct-support, alike_support}
 use Rattle.re_problem.specs.Problems.{IsProblem}
-use Rattle.re_table.specs.GoodRows.{IsAllowed, IsGood}
+use Rattle.re_labels.specs.GoodRows.{IsAllowed, IsGood}
 
 -- ---- lists and choices
 pub alike_cases : (n k : ℕ) (labels : List ℕ) → IsChoice labels (replicate k (count_from 0 n)) → (length labels ≡ k) × AllByRecursion (λ x. x < n) labels

@@ -21,7 +21,7 @@ use Rattle.re_local.proofs.FewerRounds.{IsPart, held, left_out, none, part_diffe
 use Rattle.re_layers.specs.Networks.{AreDifferent}
 use Rattle.re_local.specs.LocalAlgorithms.{SolvableLocal, behind_active, behind_passive, identified, shown}
 use Rattle.re_problem.specs.Problems.{IsProblem, Problem}
-use Rattle.re_table.specs.Constraints.{Has}
+use Rattle.re_labels.specs.Constraints.{Has}
 use Rattle.re_laws.specs.Trees.{IsTree, IsView, end, leaf, more}
 
 pub different_Rearranged : {xs ys : List ℕ} → Rearranged xs ys → AreDifferent xs → AreDifferent ys

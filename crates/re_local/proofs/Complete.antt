@@ -32,8 +32,8 @@ use Rattle.re_layers.specs.Networks.{AreDifferent}
 use Rattle.re_local.specs.LocalAlgorithms.{behind_active, behind_passive, shown}
 use Rattle.re_local.specs.Separating.{AreApart, HasAllEdges, Separates, complete}
 use Rattle.re_local.proofs.VirtualLabels.{different_rising}
-use Rattle.re_table.proofs.Goodness.{Has-Rearranged, Has-has_config, has_config-Has}
-use Rattle.re_table.specs.Constraints.{Has}
+use Rattle.re_labels.proofs.Goodness.{Has-Rearranged, Has-has_config, has_config-Has}
+use Rattle.re_labels.specs.Constraints.{Has}
 use Rattle.re_laws.specs.Trees.{IsTree, IsView, end, leaf, more}
 
 pub different_distinct : (xs : List ℕ) → Distinct xs → AreDifferent xs

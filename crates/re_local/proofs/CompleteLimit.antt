@@ -20,8 +20,8 @@ use Rattle.re_local.specs.LocalAlgorithms.{behind_active, behind_passive, shown}
 use Rattle.re_local.specs.Separating.{AreApart, complete}
 use Rattle.re_problem.specs.NamedProblems.{OccursIn}
 use Rattle.re_problem.specs.Problems.{IsProblem, Problem}
-use Rattle.re_table.proofs.Goodness.{Has-Rearranged}
-use Rattle.re_table.specs.Constraints.{Has}
+use Rattle.re_labels.proofs.Goodness.{Has-Rearranged}
+use Rattle.re_labels.specs.Constraints.{Has}
 use Rattle.re_laws.specs.Trees.{IsTree, end, more}
 
 -- the degrees are b + 2 and r + 2

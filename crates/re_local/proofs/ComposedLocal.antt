@@ -20,7 +20,7 @@ use Rattle.re_local.proofs.FewerRounds.{IsPart, behind_active-cut, behind_passiv
 use Rattle.re_layers.specs.Networks.{AreDifferent}
 use Rattle.re_local.specs.LocalAlgorithms.{SolvableLocal, SolvesApart, behind_active, behind_passive, identified, shown}
 use Rattle.re_problem.specs.Problems.{IsProblem, Problem}
-use Rattle.re_table.specs.Constraints.{Has}
+use Rattle.re_labels.specs.Constraints.{Has}
 use Rattle.re_laws.proofs.ViewLaws.{HasRoom, HasRoom-tree, IsChild, IsTree-cut, IsView-shift, child_at-put, child_of, others-put, shift-at, shift-cut}
 use Rattle.re_laws.specs.Trees.{Child, IsView, backs, child_at, cut, end, leaf, more, others, put, shift}
 

@@ -17,7 +17,7 @@ use Rattle.re_local.specs.Identifiers.{IdHypergraph, JoinsAlike, id_labels, iden
 use Rattle.re_local.specs.Separating.{HasAllEdges}
 use Rattle.re_problem.specs.NamedProblems.{OccursIn}
 use Rattle.re_problem.specs.Problems.{IsProblem, Problem}
-use Rattle.re_table.specs.Constraints.{IsConstraint}
+use Rattle.re_labels.specs.Constraints.{IsConstraint}
 
 module _ (a N : ℕ) where
   labels_is : (x : ℕ) → x < N → IsConfig a (a * N) (id_labels a x)

@@ -26,7 +26,7 @@ use Rattle.re_local.specs.LocalAlgorithms.{SolvableLabelled, SolvableLocal, Solv
 use Rattle.re_local.specs.Separating.{AreApart}
 use Rattle.re_problem.proofs.StepLaws.{map-map}
 use Rattle.re_problem.specs.Problems.{Problem}
-use Rattle.re_table.specs.Constraints.{Constraint, Has}
+use Rattle.re_labels.specs.Constraints.{Constraint, Has}
 use Rattle.re_laws.proofs.ViewLaws.{IsChild, child_of}
 use Rattle.re_laws.specs.Trees.{Child, IsView, backs, child_at, end, leaf, more, shift}
 

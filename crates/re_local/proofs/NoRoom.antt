@@ -17,7 +17,7 @@ use Rattle.re_local.proofs.FewerRounds.{none}
 use Rattle.re_layers.specs.Networks.{AreDifferent}
 use Rattle.re_local.specs.LocalAlgorithms.{behind_active, behind_passive, identified, shown}
 use Rattle.re_local.specs.Shown.{LinearRoomLaw, LogarithmicRoomLaw, NoRoomLaw, NodesSeenLaw, nodes_behind, nodes_seen}
-use Rattle.re_table.specs.Constraints.{Has}
+use Rattle.re_labels.specs.Constraints.{Has}
 use Rattle.re_laws.specs.Trees.{IsTree, IsView, end, leaf, more}
 use Rattle.re_layers.proofs.Different.{pigeonhole}
 

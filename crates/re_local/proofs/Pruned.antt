@@ -14,7 +14,7 @@ use Rattle.re_local.specs.Separating.{HasAllEdges}
 use Rattle.re_labels.proofs.Membership.{Contains-here, Contains-later, any_found, any_true}
 use Rattle.re_labels.proofs.Tests.{eqb-apart, eqb-same, eqb-true}
 use Rattle.re_problem.specs.NamedProblems.{OccursIn}
-use Rattle.re_table.specs.Constraints.{Constraint, Has}
+use Rattle.re_labels.specs.Constraints.{Constraint, Has}
 
 -- identifiers of one colour, one for each of these ports, that the hypergraph joins by these ports
 pub record AreJoined (a N : ℕ) (hyper : IdHypergraph) (colour : ℕ → ℕ) (shade : ℕ) (ports : List ℕ) : Type 0 where

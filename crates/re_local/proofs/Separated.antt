@@ -13,7 +13,7 @@ use Rattle.re_local.proofs.VirtualLabels.{around_different, around_one}
 use Rattle.re_local.specs.Identifiers.{IdHypergraph, JoinsAlike, identifiers, virtual_identifiers}
 use Rattle.re_local.specs.Separating.{AreApart, HasAllEdges}
 use Rattle.re_local.proofs.Apart.{AreApart-own, identifiers_different, identifiers_one}
-use Rattle.re_table.specs.Constraints.{Constraint, Has}
+use Rattle.re_labels.specs.Constraints.{Constraint, Has}
 use Rattle.re_local.proofs.Matched.{JoinsAlike-within, matched, matched_joins}
 use Rattle.re_local.proofs.Pruned.{Pruned, pruned}
 use Rattle.re_local.specs.Hypergraphs.{hypergraph_base}

@@ -12,7 +12,7 @@ use Rattle.re_local.specs.Identifiers.{AreAlike, IdHypergraph, JoinsAlike, id_la
 use Rattle.re_labels.proofs.Membership.{Contains-cases, Contains-count_from, Contains-filter, Contains-here, Contains-later, Contains-map, Contains-none, get_or-count_from, length-count_from}
 use Rattle.re_labels.specs.Lists.{count_from}
 use Rattle.re_problem.specs.Steps.{Becomes}
-use Rattle.re_table.specs.Constraints.{Has}
+use Rattle.re_labels.specs.Constraints.{Has}
 
 -- ---- labels of identifiers at ports
 pub length-labels_at : (a : ℕ) (ids ports : List ℕ) → length ids ≡ length ports → length (labels_at a ids ports) ≡ length ports

@@ -26,7 +26,7 @@ use Rattle.re_local.proofs.LocalGiven.{SolvesApart-taken, SolvesGivenBy-apart, T
 use Rattle.re_local.specs.LocalAlgorithms.{SolvableLocal, identified}
 use Rattle.re_problem.specs.NamedProblems.{OccursIn}
 use Rattle.re_problem.specs.Problems.{IsProblem, Problem}
-use Rattle.re_table.specs.Constraints.{Has}
+use Rattle.re_labels.specs.Constraints.{Has}
 use Rattle.re_local.proofs.VirtualLabels.{labels_of, like_first, of_one, ports_there}
 
 -- ---- an input problem

@@ -16,7 +16,7 @@ use Rattle.re_labels.specs.Lists.{IsRising}
 use Rattle.re_labels.specs.Sets.{IsLabelSet}
 use Rattle.re_local.proofs.ColouredLocal.{different_Rearranged}
 use Rattle.re_layers.specs.Networks.{AreDifferent}
-use Rattle.re_table.specs.Constraints.{Has}
+use Rattle.re_labels.specs.Constraints.{Has}
 use Rattle.re_given.proofs.Colourings.{first_below}
 
 -- ---- what the test tells

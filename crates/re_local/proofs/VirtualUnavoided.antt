@@ -20,7 +20,7 @@ use Rattle.re_labels.proofs.Tests.{and-true, eqb-same, eqb-true, true-and}
 use Rattle.re_labels.specs.Lists.{count_from}
 use Rattle.re_labels.specs.Sets.{IsLabelSet, number, set_of}
 use Rattle.re_problem.specs.Steps.{Becomes}
-use Rattle.re_table.specs.Constraints.{Constraint}
+use Rattle.re_labels.specs.Constraints.{Constraint}
 use Rattle.re_local.proofs.VirtualLabels.{labels_of, labels_rise, ports_there}
 
 -- ---- the first of a list

@@ -7,7 +7,7 @@ use Rattle.re_local.specs.Identifiers.{id_labels}
 use Rattle.re_given.specs.InputViews.{Fits, InputView, known}
 use Rattle.re_labels.specs.Lists.{count_from}
 use Rattle.re_problem.specs.Problems.{Problem}
-use Rattle.re_table.specs.Constraints.{Has}
+use Rattle.re_labels.specs.Constraints.{Has}
 use Rattle.re_laws.specs.Trees.{IsView, end, leaf, more}
 
 -- for each active node that these children of an active node show, and those of a passive node, the input label of the edge to it; one of

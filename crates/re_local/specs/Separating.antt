@@ -7,7 +7,7 @@ use Rattle.re_layers.specs.Networks.{AreDifferent}
 use Rattle.re_local.specs.LocalAlgorithms.{behind_passive, shown}
 use Rattle.re_problem.specs.NamedProblems.{OccursIn}
 use Rattle.re_problem.specs.Problems.{Problem}
-use Rattle.re_table.specs.Constraints.{has_config}
+use Rattle.re_labels.specs.Constraints.{has_config}
 use Rattle.re_laws.specs.Trees.{IsView}
 
 -- wherever the input labels fit, the active nodes that are shown have different identifiers

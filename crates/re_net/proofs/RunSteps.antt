@@ -22,7 +22,7 @@ use Rattle.re_net.specs.Rounds.{IsLegal, round}
 use Rattle.re_net.specs.declared.joins.Neighbour.{Neighbour}
 use Rattle.re_net.specs.declared.messages.Message.{Message}
 use Rattle.re_problem.specs.Problems.{Problem}
-use Rattle.re_table.specs.Constraints.{Has}
+use Rattle.re_labels.specs.Constraints.{Has}
 use Rattle.re_laws.specs.Trees.{IsView}
 use Rattle.re_net.specs.RunReading.{AreMessages}
 use Rattle.re_net.specs.Runs.{first_illegal, has_output, is_active, label_at, labels_around, messages_of, output_of, standing_of, standings_of}

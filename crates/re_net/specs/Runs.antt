@@ -10,7 +10,7 @@ use Rattle.re_net.specs.Rounds.{IsLegal, round}
 use Rattle.re_net.specs.declared.joins.Neighbour.{Neighbour}
 use Rattle.re_net.specs.declared.messages.Message.{Message}
 use Rattle.re_problem.specs.Problems.{Problem}
-use Rattle.re_table.specs.Constraints.{Has}
+use Rattle.re_labels.specs.Constraints.{Has}
 use Rattle.re_net.specs.RunReading.{AreMessages}
 use Rattle.re_net.specs.declared.reading.Delivery.{Delivery}
 use Rattle.re_net.specs.declared.runs.Run.{Run}

@@ -12,7 +12,7 @@ use Rattle.re_labels.specs.Lists.{count_from, same_list}
 use Rattle.re_labels.specs.Sets.{set_of}
 use Rattle.re_problem.specs.Derived.{derived, derived_by}
 use Rattle.re_problem.specs.Problems.{Problem}
-use Rattle.re_table.specs.GoodRows.{max_rows}
+use Rattle.re_labels.specs.GoodRows.{max_rows}
 
 length-all_sets : (n : ℕ) → length (all_sets n) ≤ 2 ^ n
 length-all_sets n =

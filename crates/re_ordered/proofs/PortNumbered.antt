@@ -32,8 +32,8 @@ use Rattle.re_ordered.proofs.Ranks.{count_from_rises, labels, ordered_different,
 use Rattle.re_ordered.proofs.Tagged.{places, places_around, tagged_passive, untagged_passive}
 use Rattle.re_ordered.proofs.Turns.{Ordered, Turn, active_turns, active_turns-relabelled, ordered_shift, passive_turns, turned_to}
 use Rattle.re_problem.specs.Problems.{IsProblem, Problem}
-use Rattle.re_table.proofs.Goodness.{Has-has_config, has_config-Has}
-use Rattle.re_table.specs.Constraints.{Has, has_config}
+use Rattle.re_labels.proofs.Goodness.{Has-has_config, has_config-Has}
+use Rattle.re_labels.specs.Constraints.{Has, has_config}
 use Rattle.re_laws.proofs.ViewLaws.{IsChild, IsView-shift, child_of}
 use Rattle.re_laws.specs.Trees.{Child, IsTree, IsView, backs, child_at, cut, end, leaf, more, shift}
 

@@ -11,7 +11,7 @@ use Rattle.re_labels.specs.Rearranging.{Rearranged, chained, kept, swapped}
 use Rattle.re_labels.proofs.Membership.{AllByRecursion-weaker, Contains-cases, Contains-here, Contains-later, Contains-none}
 use Rattle.re_problem.proofs.ZeroPlaces.{ShowsZero-shows_zero, shows_zero-ShowsZero}
 use Rattle.re_problem.specs.Zero.{shows_zero}
-use Rattle.re_table.specs.Constraints.{Constraint, Has}
+use Rattle.re_labels.specs.Constraints.{Constraint, Has}
 use Rattle.re_problem.specs.Drawing.{AlwaysFits}
 
 -- ---- all are drawn

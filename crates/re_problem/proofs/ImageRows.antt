@@ -6,10 +6,10 @@ use Rattle.re_labels.specs.Configs.{IsConfig}
 use Rattle.re_labels.specs.Rows.{set_at}
 use Rattle.re_labels.proofs.Membership.{AllByRecursion-weaker}
 use Rattle.re_labels.specs.Sets.{IsLabelSet}
-use Rattle.re_table.specs.Constraints.{Constraint, IsConstraint}
+use Rattle.re_labels.specs.Constraints.{Constraint, IsConstraint}
 use Rattle.re_problem.proofs.VerdictLaws.{empty-none}
 use Rattle.re_problem.specs.Verdicts.{first_empty}
-use Rattle.re_table.proofs.SetsInOrder.{AreSets}
+use Rattle.re_labels.proofs.SetsInOrder.{AreSets}
 use Rattle.re_labels.specs.declared.TheConstants.{MAX_LABELS}
 
 -- the sets that labels stand for

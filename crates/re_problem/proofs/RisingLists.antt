@@ -15,7 +15,7 @@ use Rattle.re_labels.specs.Lists.{IsBefore, IsRising}
 use Rattle.re_labels.specs.ListSets.{list_set}
 use Rattle.re_problem.proofs.ListSizes.{length-list_set}
 use Rattle.re_problem.proofs.StepLaws.{map-map}
-use Rattle.re_table.specs.Constraints.{Constraint, IsConstraint, images_of}
+use Rattle.re_labels.specs.Constraints.{Constraint, IsConstraint, images_of}
 
 -- each of a rising list that stands behind x is among ys, where it is x or among ys
 behind_head : (x : List ℕ) (xs ys : List (List ℕ)) (y : List ℕ) → IsRising IsBefore (x ∷ xs) → x ≡ y → ((z : List ℕ) → In z (x ∷ xs) → In z (y ∷ ys)) → (z : List ℕ) → In z xs → In z ys

@@ -22,9 +22,9 @@ use Rattle.re_labels.specs.declared.sides.Side.{Side}
 use Rattle.re_labels.specs.declared.sides.Side.TheVariants.{Active as ActiveSide, Passive as PassiveSide}
 use Rattle.re_problem.specs.Problems.{Problem}
 use Rattle.re_problem.specs.Steps.{IsRelaxed, IsRenamed, IsUpper}
-use Rattle.re_table.proofs.Goodness.{Has-has_config, IsAllowed-is_allowed, IsGood-is_good, has_config-Has, is_allowed-IsAllowed, is_good-IsGood}
-use Rattle.re_table.specs.Constraints.{Constraint, Has, IsConstraint, has_config, images_of}
-use Rattle.re_table.specs.GoodRows.{is_allowed, is_good}
+use Rattle.re_labels.proofs.Goodness.{Has-has_config, IsAllowed-is_allowed, IsGood-is_good, has_config-Has, is_allowed-IsAllowed, is_good-IsGood}
+use Rattle.re_labels.specs.Constraints.{Constraint, Has, IsConstraint, has_config, images_of}
+use Rattle.re_labels.specs.GoodRows.{is_allowed, is_good}
 use Rattle.re_problem.proofs.RisingLists.{images-few, images-many, rising-whole}
 use Rattle.re_problem.specs.MapLaws.{RelaxesLaw, RenamesLaw, RestrictsLaw}
 use Rattle.re_problem.specs.Verdicts.{first_empty, first_label, first_lost, first_not_allowed, first_not_good, first_twice, first_violation, has_degrees, larger, relaxation_verdict, renaming_verdict, restriction_verdict, unless}

@@ -7,8 +7,8 @@ use Rattle.re_labels.specs.declared.sides.Side.{Side}
 use Rattle.re_labels.specs.declared.sides.Side.TheVariants.{Active as ActiveSide, Passive as PassiveSide}
 use Rattle.re_labels.specs.Configs.{image_at}
 use Rattle.re_labels.specs.Rows.{set_at}
-use Rattle.re_table.specs.Constraints.{Constraint, has_config}
-use Rattle.re_table.specs.GoodRows.{is_allowed, is_good}
+use Rattle.re_labels.specs.Constraints.{Constraint, has_config}
+use Rattle.re_labels.specs.GoodRows.{is_allowed, is_good}
 use Rattle.re_problem.specs.Problems.{Problem}
 use Rattle.re_problem.specs.declared.verdict.MapVerdict.{MapVerdict}
 use Rattle.re_problem.specs.declared.verdict.MapVerdict.TheVariants.{Active, Count, Degrees, Empty, Passive, Twice, Yes}

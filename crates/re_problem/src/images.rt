@@ -3,14 +3,13 @@ ghost use Rattle.re_labels.specs.Configs.{image_at};
 ghost use Rattle.re_labels.specs.Rows.{in_order, set_at};
 ghost use Rattle.re_labels.specs.Sets.{IsLabelSet};
 ghost use Rattle.re_problem.specs.Verdicts.{first_empty, first_lost, first_not_allowed, first_not_good, first_twice};
-ghost use Rattle.re_table.specs.Constraints.{has_config};
-ghost use Rattle.re_table.specs.GoodRows.{is_allowed, is_good};
+ghost use Rattle.re_labels.specs.Constraints.{has_config};
+ghost use Rattle.re_labels.specs.GoodRows.{is_allowed, is_good};
 ghost use Rattle.std.specs.List.{AllByRecursion};
 ghost use Rattle.std.specs.Prelude.{◌≡◌, ◌<◌, ◌≤◌, length, map};
 
 use arrayvec::ArrayVec;
-use re_labels::{Config, LabelSet, MAX_LABELS, Row};
-use re_table::Constraint;
+use re_labels::{Config, Constraint, LabelSet, MAX_LABELS, Row};
 
 // Whether the image of the configuration is one of the constraint's.
 fn is_kept(constraint: &Constraint, config: &Config, images: &[u8]) -> bool

@@ -8,8 +8,7 @@ ghost use Rattle.std.specs.Prelude.{◌≡◌, ◌≤◌, ◌<◌, ◌↔◌, Is
 
 use crate::named::Problem;
 use arrayvec::ArrayVec;
-use re_labels::{Config, MAX_LABELS};
-use re_table::Constraint;
+use re_labels::{Config, Constraint, MAX_LABELS};
 
 /// Whether the drawn labels are a configuration of the constraint, however they are filled up to its degree with some of
 /// these labels, each as often as may be.

@@ -10,9 +10,9 @@ use Rattle.re_labels.specs.Lists.{count_from, place_of, same_list}
 use Rattle.re_labels.specs.Sets.{IsLabelSet, set_of}
 use Rattle.re_problem.proofs.DerivedProblem.{max_row_ascends}
 use Rattle.re_problem.specs.Problems.{Problem}
-use Rattle.re_table.proofs.MaxSets.{max_sets-from, maximal}
-use Rattle.re_table.specs.Constraints.{Constraint}
-use Rattle.re_table.specs.GoodRows.{max_rows, max_sets}
+use Rattle.re_labels.proofs.MaxSets.{max_sets-from, maximal}
+use Rattle.re_labels.specs.Constraints.{Constraint}
+use Rattle.re_labels.specs.GoodRows.{max_rows, max_sets}
 use Rattle.re_reference.specs.Reading.{AreSets, occurring}
 use Rattle.re_labels.specs.declared.TheConstants.{MAX_LABELS}
 

@@ -9,7 +9,7 @@ use Rattle.re_labels.specs.Rows.{IsRow, row_cmp, row_of}
 use Rattle.re_labels.proofs.Membership.{AllByRecursion-weaker}
 use Rattle.re_labels.proofs.Rising.{rising-map}
 use Rattle.re_labels.specs.Sets.{number}
-use Rattle.re_table.proofs.Goodness.{filled-is_full}
+use Rattle.re_labels.proofs.Goodness.{filled-is_full}
 use Rattle.re_labels.specs.declared.TheConstants.{MAX_LABELS}
 
 pub row_again : (row sets : List (List ℕ)) → 2 ≤ length row → length row ≤ 6 → IsRow (length row) MAX_LABELS row → sets ≡ row → row_of MAX_LABELS sets ≡ Some row

@@ -11,10 +11,10 @@ use Rattle.re_labels.specs.Sets.{IsLabelSet}
 use Rattle.re_problem.proofs.Building.{below_all}
 use Rattle.re_problem.specs.NamedProblems.{NamedProblem, unnamed}
 use Rattle.re_problem.specs.Steps.{SetEntry, entry_sets, label_at, set_for}
-use Rattle.re_table.proofs.MaxSets.{max_sets_law}
-use Rattle.re_table.proofs.MaxRows.{maximal_law}
-use Rattle.re_table.specs.Constraints.{Constraint}
-use Rattle.re_table.specs.GoodRows.{IsMaximal, max_rows, max_sets}
+use Rattle.re_labels.proofs.MaxSets.{max_sets_law}
+use Rattle.re_labels.proofs.MaxRows.{maximal_law}
+use Rattle.re_labels.specs.Constraints.{Constraint}
+use Rattle.re_labels.specs.GoodRows.{IsMaximal, max_rows, max_sets}
 use Rattle.re_changes.proofs.LeftLabels.{labels_left}
 use Rattle.re_cert.specs.Bounds.{entry_fits, is_label, row_fits}
 use Rattle.re_search.specs.Nodes.{entries_of}

@@ -14,7 +14,7 @@ use Rattle.re_labels.specs.declared.sides.Side.TheVariants.{Active as ActiveSide
 use Rattle.re_problem.specs.Verdicts.{first_lost, first_twice, first_violation, has_degrees, larger, renaming_verdict, unless}
 use Rattle.re_problem.specs.declared.verdict.MapVerdict.TheVariants.{Active, Count, Degrees, Passive, Twice}
 use Rattle.re_problem.specs.Problems.{Problem}
-use Rattle.re_table.specs.Constraints.{Constraint, has_config}
+use Rattle.re_labels.specs.Constraints.{Constraint, has_config}
 use Rattle.re_search.specs.Losses.{are_mapped, is_lost, loses, may_become}
 use Rattle.re_labels.specs.declared.TheConstants.{MAX_LABELS}
 

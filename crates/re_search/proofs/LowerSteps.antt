@@ -16,8 +16,8 @@ use Rattle.re_problem.specs.NamedProblems.{NamedProblem, unnamed}
 use Rattle.re_problem.specs.Problems.{IsProblem, Problem}
 use Rattle.re_problem.specs.Steps.LowerMap.{by_set}
 use Rattle.re_problem.specs.Steps.{IsLowerStep, SetEntry, entry_sets, label_at, label_of}
-use Rattle.re_table.specs.Constraints.{Constraint, Has}
-use Rattle.re_table.specs.GoodRows.{allowed, max_rows, max_sets}
+use Rattle.re_labels.specs.Constraints.{Constraint, Has}
+use Rattle.re_labels.specs.GoodRows.{allowed, max_rows, max_sets}
 use Rattle.re_changes.proofs.Merges.{IsMerged}
 use Rattle.re_changes.specs.Changes.{Changed}
 use Rattle.re_step.proofs.NameLemmas.{length-label_names}

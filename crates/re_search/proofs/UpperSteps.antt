@@ -17,8 +17,8 @@ use Rattle.re_problem.specs.Derived.{derived}
 use Rattle.re_problem.specs.NamedProblems.{NamedProblem, unnamed}
 use Rattle.re_problem.specs.Problems.{IsProblem, Problem}
 use Rattle.re_problem.specs.Steps.{SetEntry, entry_sets, set_for}
-use Rattle.re_table.proofs.Goodness.{IsAllowed-is_allowed, IsGood-is_good}
-use Rattle.re_table.specs.GoodRows.{IsAllowed, IsGood, is_allowed, is_good, max_rows, max_sets}
+use Rattle.re_labels.proofs.Goodness.{IsAllowed-is_allowed, IsGood-is_good}
+use Rattle.re_labels.specs.GoodRows.{IsAllowed, IsGood, is_allowed, is_good, max_rows, max_sets}
 use Rattle.re_changes.proofs.LeftLabels.{AreImages, IsLeft, labels_left, left_as}
 use Rattle.re_changes.proofs.OneChange.{below-counted}
 use Rattle.re_changes.specs.Changes.{Changed}

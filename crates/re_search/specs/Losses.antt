@@ -4,7 +4,7 @@ use Rattle.std.specs.List.{list_all, list_any}
 use Rattle.re_labels.specs.Configs.{image_at}
 use Rattle.re_problem.specs.Verdicts.{has_degrees}
 use Rattle.re_problem.specs.Problems.{Problem}
-use Rattle.re_table.specs.Constraints.{Constraint, has_config}
+use Rattle.re_labels.specs.Constraints.{Constraint, has_config}
 
 -- the degrees are equal, and the other problem has no more configurations
 abbrev pub may_become : Problem → Problem → Bool

@@ -3,7 +3,7 @@ use Rattle.std.specs.Prelude.{ℕ, zero, suc, pred, ◌==◌, nat_le, nat_lt, Bo
 use Rattle.re_labels.specs.Lists.{count_from}
 use Rattle.re_labels.specs.Orders.{orders}
 use Rattle.re_labels.specs.Rows.{set_at}
-use Rattle.re_table.specs.GoodRows.{max_rows, max_sets}
+use Rattle.re_labels.specs.GoodRows.{max_rows, max_sets}
 use Rattle.re_problem.specs.NamedProblems.{NamedProblem, unnamed}
 use Rattle.re_problem.specs.Steps.{SetEntry}
 use Rattle.re_problem.specs.Steps.LowerMap.{by_set}

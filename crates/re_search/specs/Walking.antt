@@ -4,7 +4,7 @@ use Rattle.re_problem.specs.NamedProblems.{NamedProblem, unnamed}
 use Rattle.re_problem.specs.ProblemTexts.{last_or}
 use Rattle.re_step.specs.Derivations.{derivation, step_limit}
 use Rattle.re_changes.specs.Changes.{Changed}
-use Rattle.re_table.specs.GoodRows.{max_rows, max_sets}
+use Rattle.re_labels.specs.GoodRows.{max_rows, max_sets}
 use Rattle.re_cert.specs.Bounds.{BoundStep, is_lower, next_problems}
 use Rattle.re_cert.specs.declared.certificate.Kind.{Kind}
 use Rattle.re_search.specs.Nodes.{Node, child, goes_on, is_cut, preorder, step_to, succeeds}

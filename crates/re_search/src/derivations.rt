@@ -6,10 +6,9 @@ ghost use Rattle.re_step.specs.declared.derivation.StepLimit.{StepLimit};
 ghost use Rattle.std.specs.Prelude.{◌≡◌, Err, IfOk, IfSome, IsTrue, None, Some};
 
 use crate::steps::copied;
-use re_labels::{LabelSet, NoMemory};
+use re_labels::{Constraint, LabelSet, NoMemory};
 use re_problem::Problem;
 use re_step::{Derived, StepFault, StepLimit, step};
-use re_table::Constraint;
 use std::alloc::Global;
 use std::marker::Model;
 

@@ -2,13 +2,12 @@
 ghost use Rattle.re_labels.specs.Configs.{image_at};
 ghost use Rattle.re_problem.specs.NamedProblems.{unnamed};
 ghost use Rattle.re_search.specs.Losses.{are_mapped, is_lost, loses, may_become};
-ghost use Rattle.re_table.specs.Constraints.{has_config};
+ghost use Rattle.re_labels.specs.Constraints.{has_config};
 ghost use Rattle.std.specs.List.{AllByRecursion, list_any};
 ghost use Rattle.std.specs.Prelude.{◌≡◌, ◌<◌, ◌||◌, length};
 
-use re_labels::{Config, MAX_LABELS};
+use re_labels::{Config, Constraint, MAX_LABELS};
 use re_problem::Problem;
-use re_table::Constraint;
 
 /// Whether the degrees are equal, and the other problem has no more configurations.
 pub(crate) fn may_become(problem: &Problem, target: &Problem) -> bool

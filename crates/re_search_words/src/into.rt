@@ -1,9 +1,8 @@
 //! The map of the labels by which a problem relaxes to a given one.
 use arrayvec::ArrayVec;
-use re_labels::{Config, MAX_LABELS, NoMemory};
+use re_labels::{Config, Constraint, MAX_LABELS, NoMemory};
 use re_problem::{LabelMap, Problem};
 use re_shaping::are_below;
-use re_table::Constraint;
 use std::alloc::Global;
 
 // The configuration of these labels, if it is one.

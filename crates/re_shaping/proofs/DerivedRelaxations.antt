@@ -19,10 +19,10 @@ use Rattle.re_problem.proofs.Places.{places_listed}
 use Rattle.re_problem.specs.Derived.{derived}
 use Rattle.re_problem.specs.Problems.{Problem}
 use Rattle.re_problem.specs.Steps.{BecomesByRow, IsLowerStepByRow, IsRelaxed}
-use Rattle.re_table.proofs.Goodness.{IsAllowed-Rearranged, IsAllowed-is_allowed}
-use Rattle.re_table.proofs.MaxSets.{allowed_law, max_sets-row}
-use Rattle.re_table.specs.Constraints.{Has}
-use Rattle.re_table.specs.GoodRows.{allowed, is_allowed, max_rows, max_sets}
+use Rattle.re_labels.proofs.Goodness.{IsAllowed-Rearranged, IsAllowed-is_allowed}
+use Rattle.re_labels.proofs.MaxSets.{allowed_law, max_sets-row}
+use Rattle.re_labels.specs.Constraints.{Has}
+use Rattle.re_labels.specs.GoodRows.{allowed, is_allowed, max_rows, max_sets}
 use Rattle.re_shaping.proofs.ImagesOfRows.{in_image, placed_top, top, top_is}
 use Rattle.re_shaping.proofs.RelaxedSteps.{through}
 use Rattle.re_shaping.specs.Laws.{DerivedRelaxationLaw}

@@ -11,7 +11,7 @@ use Rattle.re_labels.specs.Lists.{count_from}
 use Rattle.re_problem.proofs.StepLaws.{map-map}
 use Rattle.re_problem.specs.NamedProblems.{IsNamedProblem, NamedProblem}
 use Rattle.re_problem.specs.Steps.{SetEntry, entry_sets, set_for}
-use Rattle.re_table.specs.GoodRows.{is_allowed, is_good}
+use Rattle.re_labels.specs.GoodRows.{is_allowed, is_good}
 use Rattle.re_changes.proofs.LeftLabels.{IsLeft, IsLeft-left_out, IsLeft-unchanged, labels_left, left_as}
 use Rattle.re_changes.proofs.OneChange.{IsLabelSet-staying, IsProblem-after, after-built, below-counted, counted-below}
 use Rattle.re_changes.specs.Changes.{after, becomes, changed_by, staying, unchanged}

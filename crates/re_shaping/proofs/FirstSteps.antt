@@ -22,8 +22,8 @@ use Rattle.re_step.proofs.StepLemmas.{IsNamedProblem-derived}
 use Rattle.re_step.specs.Derivations.{Derivation, derivation, named_derived, step_limit}
 use Rattle.re_step.specs.declared.derivation.StepFault.{StepFault}
 use Rattle.re_step.specs.declared.derivation.StepLimit.TheVariants.{Rows}
-use Rattle.re_table.specs.GoodRows.{max_rows}
-use Rattle.re_table.proofs.ConstraintImages.{held_labels}
+use Rattle.re_labels.specs.GoodRows.{max_rows}
+use Rattle.re_labels.proofs.ConstraintImages.{held_labels}
 use Rattle.re_search.proofs.Entries.{rows-fit}
 use Rattle.re_shaping.proofs.DerivedRelaxations.{to-derived}
 use Rattle.re_shaping.proofs.LastSteps.{chain_with-bound}

@@ -18,10 +18,10 @@ use Rattle.re_laws.proofs.FastRounds.{fitted_is}
 use Rattle.re_laws.specs.Fast.{fitted}
 use Rattle.re_problem.specs.Problems.{IsProblem, Problem}
 use Rattle.re_problem.specs.Steps.{IsRelaxed}
-use Rattle.re_table.proofs.Goodness.{filled-is_full}
-use Rattle.re_table.proofs.MaxRows.{dominated, max_rows-IsMaximal}
-use Rattle.re_table.specs.Constraints.{Constraint, Has}
-use Rattle.re_table.specs.GoodRows.{IsGood, IsMaximal, max_rows}
+use Rattle.re_labels.proofs.Goodness.{filled-is_full}
+use Rattle.re_labels.proofs.MaxRows.{dominated, max_rows-IsMaximal}
+use Rattle.re_labels.specs.Constraints.{Constraint, Has}
+use Rattle.re_labels.specs.GoodRows.{IsGood, IsMaximal, max_rows}
 use Rattle.re_shaping.proofs.RelaxedSteps.{through}
 use Rattle.re_shaping.specs.Relaxing.{row_image, set_image}
 

@@ -10,7 +10,7 @@ use Rattle.re_labels.specs.declared.TheConstants.{MAX_LABELS}
 use Rattle.re_changes.proofs.OneChange.{below-counted}
 use Rattle.re_shaping.specs.Mixing.{mixed}
 use Rattle.re_problem.specs.NamedProblems.{NamedProblem}
-use Rattle.re_table.specs.Constraints.{Constraint, IsConstraint, images_of}
+use Rattle.re_labels.specs.Constraints.{Constraint, IsConstraint, images_of}
 use Rattle.re_shaping.specs.Answers.{KeepsColours}
 use Rattle.re_shaping.specs.Colours.{colour_at, colours_by, config_number, first_colours, mark_of, next_colour, next_colours, numbers_at, pairs_alike, refined, times_in, with_single}
 use Rattle.re_shaping.specs.declared.colours.TheConstants.{ACTIVE, FIRST, PASSIVE, SINGLED}

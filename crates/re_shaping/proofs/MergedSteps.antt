@@ -16,8 +16,8 @@ use Rattle.re_changes.proofs.OneChange.{IsLabelSet-staying, below-counted, count
 use Rattle.re_changes.proofs.RenumberedProblems.{IsProblem-renumbered, built-along}
 use Rattle.re_changes.specs.declared.change.Change.TheVariants.{Merge}
 use Rattle.re_changes.specs.Renumbering.{number_among, renumbered}
-use Rattle.re_table.proofs.ConstraintImages.{config-below}
-use Rattle.re_table.specs.Constraints.{Constraint, IsConstraint}
+use Rattle.re_labels.proofs.ConstraintImages.{config-below}
+use Rattle.re_labels.specs.Constraints.{Constraint, IsConstraint}
 use Rattle.re_changes.proofs.Counted.{length-map_counted}
 use Rattle.re_cert.specs.Bounds.{BoundStep, is_lower}
 use Rattle.re_cert.specs.declared.certificate.Kind.{Kind}

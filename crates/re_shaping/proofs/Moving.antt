@@ -16,7 +16,7 @@ use Rattle.re_problem.proofs.RisingLists.{images-many}
 use Rattle.re_problem.proofs.VerdictLaws.{renames_law}
 use Rattle.re_problem.specs.NamedProblems.{IsNamedProblem, NamedProblem, OccursIn, unnamed}
 use Rattle.re_problem.specs.Steps.{IsRenamed}
-use Rattle.re_table.specs.Constraints.{Constraint, IsConstraint, images_of}
+use Rattle.re_labels.specs.Constraints.{Constraint, IsConstraint, images_of}
 use Rattle.re_changes.proofs.OneChange.{below-counted, counted-below}
 use Rattle.re_shaping.specs.Renamings.{IsRenaming}
 use Rattle.re_shaping.proofs.Sums.{sum-list_set, sum_by-Rearranged, sum_by-alike, sum_by-map}

@@ -27,10 +27,10 @@ use Rattle.re_problem.specs.NamedProblems.{IsNamedProblem, NamedProblem, all_occ
 use Rattle.re_problem.specs.Problems.{IsProblem}
 use Rattle.re_problem.specs.Steps.LowerMap.{by_row, by_set}
 use Rattle.re_problem.specs.Steps.{IsRelaxed, LowerMap, SetEntry, entry_sets, set_for}
-use Rattle.re_table.proofs.ConstraintImages.{IsConstraint-image, config-below, image-from, image-held}
-use Rattle.re_table.proofs.Goodness.{IsAllowed-Rearranged, IsAllowed-is_allowed, IsGood-Rearranged, IsGood-is_good, is_allowed-IsAllowed, is_good-IsGood}
-use Rattle.re_table.specs.Constraints.{Constraint, IsConstraint}
-use Rattle.re_table.specs.GoodRows.{is_allowed, is_good}
+use Rattle.re_labels.proofs.ConstraintImages.{IsConstraint-image, config-below, image-from, image-held}
+use Rattle.re_labels.proofs.Goodness.{IsAllowed-Rearranged, IsAllowed-is_allowed, IsGood-Rearranged, IsGood-is_good, is_allowed-IsAllowed, is_good-IsGood}
+use Rattle.re_labels.specs.Constraints.{Constraint, IsConstraint}
+use Rattle.re_labels.specs.GoodRows.{is_allowed, is_good}
 use Rattle.re_changes.proofs.Numbering.{image-named, image-occurs}
 use Rattle.re_changes.proofs.OneChange.{below-counted, counted-below}
 use Rattle.re_cert.proofs.KnownEntries.{entries-fit}

@@ -17,15 +17,15 @@ use Rattle.re_labels.specs.declared.TheConstants.{MAX_LABELS}
 use Rattle.re_problem.proofs.NewNumbers.{named_in}
 use Rattle.re_problem.specs.NamedProblems.{IsNamedProblem, NamedProblem, built}
 use Rattle.re_problem.specs.Steps.{SetEntry}
-use Rattle.re_table.proofs.ConstraintImages.{config-below}
-use Rattle.re_table.proofs.Insertions.{list_set-step}
-use Rattle.re_table.specs.Constraints.{Constraint, IsConstraint}
+use Rattle.re_labels.proofs.ConstraintImages.{config-below}
+use Rattle.re_labels.proofs.Insertions.{list_set-step}
+use Rattle.re_labels.specs.Constraints.{Constraint, IsConstraint}
 use Rattle.re_shaping.proofs.NamedSteps.{named-built, named-names}
 use Rattle.std.specs.Prelude.{if◌then◌else◌}
 use Rattle.re_problem.specs.ItemSteps.{is_nil}
 use Rattle.re_labels.specs.Configs.{image_at}
 use Rattle.re_problem.specs.Steps.LowerMap.{by_set}
-use Rattle.re_table.specs.Constraints.{images_of}
+use Rattle.re_labels.specs.Constraints.{images_of}
 use Rattle.re_changes.specs.Renumbering.{constraint_image}
 use Rattle.re_cert.specs.Bounds.{BoundStep, entries_in, built as bound_built}
 use Rattle.re_cert.specs.declared.certificate.Kind.{Kind}

@@ -5,8 +5,8 @@ use Rattle.re_labels.specs.Lists.{count_from}
 use Rattle.re_problem.specs.NamedProblems.{NamedProblem, unnamed}
 use Rattle.re_problem.specs.Steps.{LowerMap, SetEntry, entry_sets}
 use Rattle.re_problem.specs.Steps.LowerMap.{by_row, by_set}
-use Rattle.re_table.specs.Constraints.{Constraint}
-use Rattle.re_table.specs.GoodRows.{max_rows, max_sets}
+use Rattle.re_labels.specs.Constraints.{Constraint}
+use Rattle.re_labels.specs.GoodRows.{max_rows, max_sets}
 use Rattle.re_check.proofs.RowSets.{row_sets_law}
 use Rattle.re_check.specs.StepClauses.{HasRowSets}
 use Rattle.re_changes.specs.Changes.{unchanged}

@@ -13,9 +13,9 @@ use Rattle.re_problem.proofs.StepLaws.{map-map}
 use Rattle.re_problem.specs.Problems.{Problem}
 use Rattle.re_problem.specs.Steps.LowerMap.{by_row, by_set}
 use Rattle.re_problem.specs.Steps.{BecomesByRow, IsLowerStepByRow, IsLowerStepBySet, IsRelaxed, SetEntry, entry_sets, label_at, label_of}
-use Rattle.re_table.proofs.MaxSets.{allowed_law, max_sets-row}
-use Rattle.re_table.specs.Constraints.{Constraint, Has}
-use Rattle.re_table.specs.GoodRows.{allowed, max_sets}
+use Rattle.re_labels.proofs.MaxSets.{allowed_law, max_sets-row}
+use Rattle.re_labels.specs.Constraints.{Constraint, Has}
+use Rattle.re_labels.specs.GoodRows.{allowed, max_sets}
 use Rattle.re_shaping.specs.Chains.{entry_sent}
 use Rattle.re_shaping.specs.Laws.{RelaxedStepLaw}
 

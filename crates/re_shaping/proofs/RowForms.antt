@@ -16,9 +16,9 @@ use Rattle.re_problem.specs.ProblemTexts.{last_or}
 use Rattle.re_problem.specs.Problems.{Problem}
 use Rattle.re_problem.specs.Steps.{AreBeside, BecomesByRow, IsLowerStepByRow, IsLowerStepBySet, LowerMap, SetEntry, entry_sets, label_at, label_of}
 use Rattle.re_problem.specs.Steps.LowerMap.{by_row, by_set}
-use Rattle.re_table.proofs.MaxSets.{allowed_law, max_sets-row, rising-max_sets}
-use Rattle.re_table.specs.Constraints.{Has}
-use Rattle.re_table.specs.GoodRows.{allowed, max_sets}
+use Rattle.re_labels.proofs.MaxSets.{allowed_law, max_sets-row, rising-max_sets}
+use Rattle.re_labels.specs.Constraints.{Has}
+use Rattle.re_labels.specs.GoodRows.{allowed, max_sets}
 use Rattle.re_check.proofs.RowSets.{IsLowerSet, place_of-there, row_sets_law}
 use Rattle.re_check.specs.StepClauses.{HasRowSets}
 use Rattle.re_cert.specs.Bounds.{Bound, BoundStep, entry_fits, image_fits, is_bound, is_by_row, is_fixed, is_label, is_lower, kind_fits, map_fits, next_problems, one_form, pair_fits, renaming_fits, row_fits, step_fits, steps_fit}

@@ -7,7 +7,7 @@ use Rattle.re_labels.proofs.ListSets.{cases_of}
 use Rattle.re_labels.proofs.Membership.{In}
 use Rattle.re_labels.specs.ListSets.{list_set, with_list}
 use Rattle.re_problem.proofs.ListSizes.{length-list_set}
-use Rattle.re_table.proofs.Insertions.{length-with_list_most}
+use Rattle.re_labels.proofs.Insertions.{length-with_list_most}
 
 -- a sum doesn't hang on the order
 pub sum_by-Rearranged : {X : Type 0} (f : X → ℕ) {xs ys : List X} → Rearranged xs ys → sum_by f xs ≡ sum_by f ys

@@ -13,7 +13,7 @@ use Rattle.re_cert.specs.Bounds.{Bound, BoundStep, built, entry_fits, image_fits
 use Rattle.re_cert.specs.declared.certificate.Kind.{Kind}
 use Rattle.re_cert.specs.declared.certificate.TheConstants.{MAX_STEPS}
 use Rattle.re_labels.specs.declared.TheConstants.{MAX_ROWS}
-use Rattle.re_table.proofs.SaidChoices.{all-map}
+use Rattle.re_labels.proofs.SaidChoices.{all-map}
 use Rattle.re_boxes.specs.Ordering.{is_row_before}
 use Rattle.re_shaping.specs.Orders.{in_order, inserted}
 use Rattle.re_shaping.specs.Tidied.{first_row_before, images_in_order, map_in_order, pair_before, step_in_order, tidied}

@@ -13,9 +13,9 @@ use Rattle.re_labels.specs.Lists.{IsRising, count_from}
 use Rattle.re_labels.specs.Sets.{number}
 use Rattle.re_labels.proofs.Rows.{RowBefore}
 use Rattle.re_problem.specs.Verdicts.{renaming_verdict}
-use Rattle.re_table.proofs.MaxRows.{rising-max_rows}
-use Rattle.re_table.proofs.MaxSets.{IsLowerSet, rising-max_sets}
-use Rattle.re_table.specs.GoodRows.{max_rows, max_sets}
+use Rattle.re_labels.proofs.MaxRows.{rising-max_rows}
+use Rattle.re_labels.proofs.MaxSets.{IsLowerSet, rising-max_sets}
+use Rattle.re_labels.specs.GoodRows.{max_rows, max_sets}
 use Rattle.re_problem.specs.NamedProblems.{IsNamedProblem, NamedProblem, unnamed}
 use Rattle.re_problem.specs.ProblemTexts.{last_or}
 use Rattle.re_problem.specs.Steps.{LowerMap, SetEntry, entry_sets}

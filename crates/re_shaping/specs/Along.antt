@@ -1,7 +1,7 @@
 -- The steps along a path of problems, each of which changes have made of the derived problem of the one before it.
 use Rattle.std.specs.Prelude.{ℕ, Bool, true, List, [], ◌∷◌, length, map, if◌then◌else◌, Option, None, Some, is_none, slice_index_or, unwrap_or}
 use Rattle.re_labels.specs.Lists.{place_of}
-use Rattle.re_table.specs.GoodRows.{max_rows, max_sets}
+use Rattle.re_labels.specs.GoodRows.{max_rows, max_sets}
 use Rattle.re_problem.specs.NamedProblems.{NamedProblem, unnamed}
 use Rattle.re_problem.specs.Steps.{LowerMap}
 use Rattle.re_problem.specs.Steps.LowerMap.{by_row, by_set}

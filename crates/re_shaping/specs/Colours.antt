@@ -3,7 +3,7 @@ use Rattle.std.specs.Prelude.{ℕ, zero, suc, ◌+◌, ◌*◌, ◌%◌, ◌^◌
 use Rattle.re_labels.specs.Lists.{count_from}
 use Rattle.re_labels.specs.declared.TheConstants.{MAX_LABELS}
 use Rattle.re_shaping.specs.Mixing.{mixed}
-use Rattle.re_table.specs.Constraints.{Constraint}
+use Rattle.re_labels.specs.Constraints.{Constraint}
 use Rattle.re_problem.specs.NamedProblems.{NamedProblem}
 use Rattle.re_shaping.specs.declared.colours.TheConstants.{ACTIVE, FIRST, PASSIVE, SINGLED}
 

@@ -4,7 +4,7 @@ use Rattle.re_labels.specs.Names.{IsName}
 use Rattle.re_problem.specs.Derived.{derived}
 use Rattle.re_problem.specs.Problems.{Problem}
 use Rattle.re_problem.specs.Steps.{IsLowerStep, IsLowerStepByRow, IsRelaxed, LowerMap}
-use Rattle.re_table.specs.GoodRows.{max_rows}
+use Rattle.re_labels.specs.GoodRows.{max_rows}
 use Rattle.re_cert.specs.Bounds.{Bound}
 use Rattle.re_chains.specs.Chains.{IsSoundChain}
 use Rattle.re_shaping.specs.Chains.{sent_along}

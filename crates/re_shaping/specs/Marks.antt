@@ -1,7 +1,7 @@
 -- Numbers by which configurations and problems are compared as they stand: equal for equal ones, and for others hardly ever. They go by the numbers of
 -- the labels, so a renaming changes them.
 use Rattle.std.specs.Prelude.{◌≡◌, ℕ, ◌+◌, ◌*◌, ◌%◌, ◌^◌, ◌==◌, List, map, sum_by, if◌then◌else◌}
-use Rattle.re_table.specs.Constraints.{Constraint}
+use Rattle.re_labels.specs.Constraints.{Constraint}
 use Rattle.re_problem.specs.NamedProblems.{IsNamedProblem, NamedProblem}
 use Rattle.re_shaping.specs.Colours.{first_colours, mark_of, times_in}
 use Rattle.re_shaping.specs.Mixing.{mixed}

@@ -10,7 +10,7 @@ use Rattle.re_problem.specs.Steps.LowerMap.{by_row}
 use Rattle.re_step.specs.Derivations.{named_derived, step_limit}
 use Rattle.re_step.specs.declared.derivation.StepLimit.{StepLimit}
 use Rattle.re_step.specs.declared.derivation.StepLimit.TheVariants.{Rows}
-use Rattle.re_table.specs.GoodRows.{max_rows, max_sets}
+use Rattle.re_labels.specs.GoodRows.{max_rows, max_sets}
 
 -- the set of the labels that the labels of a set become
 abbrev pub set_image : (ℕ → ℕ) → List ℕ → List ℕ

@@ -10,7 +10,7 @@ use Rattle.re_shaping.specs.Along.{image_left, steps_along}
 use Rattle.re_shaping.specs.declared.routing.Route.{Route}
 use Rattle.re_shaping.specs.declared.along.Stop.{Stop}
 use Rattle.re_problem.specs.NamedProblems.{NamedProblem}
-use Rattle.re_table.specs.GoodRows.{max_rows}
+use Rattle.re_labels.specs.GoodRows.{max_rows}
 
 -- two labels of the problem
 abbrev pub are_two : ℕ × ℕ → NamedProblem → Bool

@@ -5,9 +5,8 @@ ghost use Rattle.std.specs.Prelude.{◌≡◌, ◌==◌, ◌+◌, ◌%◌, ◌^�
 
 use crate::mixed;
 use arrayvec::ArrayVec;
-use re_labels::{Config, MAX_LABELS};
+use re_labels::{Config, Constraint, MAX_LABELS};
 use re_problem::Problem;
-use re_table::Constraint;
 use std::marker::Model;
 
 /// A colour for each label of a problem. Contracts see it as their list, in the order of the labels.

@@ -5,9 +5,8 @@ ghost use Rattle.re_shaping.specs.Marks.{config_mark, constraint_mark, label_mar
 ghost use Rattle.re_shaping.specs.Mixing.{mixed};
 ghost use Rattle.std.specs.Prelude.{◌≡◌, ◌+◌, ◌%◌, ◌^◌};
 
-use re_labels::Config;
+use re_labels::{Config, Constraint};
 use re_problem::Problem;
-use re_table::Constraint;
 
 /// The number with its bits mixed.
 pub fn mixed(number: u64) -> u64

@@ -7,7 +7,7 @@ ghost use Rattle.re_labels.specs.Sets.{IsLabelSet};
 ghost use Rattle.re_problem.specs.NamedProblems.{unnamed};
 ghost use Rattle.re_problem.specs.Steps.{IsRelaxed};
 ghost use Rattle.re_step.specs.declared.derivation.StepLimit.{StepLimit as Passed};
-ghost use Rattle.re_table.specs.GoodRows.{max_rows};
+ghost use Rattle.re_labels.specs.GoodRows.{max_rows};
 ghost use Rattle.std.specs.List.{AllByRecursion};
 ghost use Rattle.std.specs.Prelude.{◌≡◌, ◌≤◌, ◌<◌, ℕ, Err, IfOk, List, None, Some, length, map};
 

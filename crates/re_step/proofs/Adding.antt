@@ -17,9 +17,9 @@ use Rattle.re_labels.proofs.Membership.{AllByRecursion-from_contains, Contains-h
 use Rattle.re_labels.proofs.Numbers.{IsLabelSet-union}
 use Rattle.re_labels.proofs.Sets.{IsIn-has, IsIn-union, IsIn-union_cases, has-IsIn}
 use Rattle.re_labels.specs.Sets.{IsIn, has, union}
-use Rattle.re_table.proofs.Goodness.{Has-Rearranged}
-use Rattle.re_table.specs.Constraints.{Constraint, Has}
-use Rattle.re_table.specs.GoodRows.{IsGood}
+use Rattle.re_labels.proofs.Goodness.{Has-Rearranged}
+use Rattle.re_labels.specs.Constraints.{Constraint, Has}
+use Rattle.re_labels.specs.GoodRows.{IsGood}
 use Rattle.re_boxes.proofs.SetsAtPlaces.{all_set, length-slice_set, set_there, under_set}
 use Rattle.re_boxes.specs.Choosing.{AreGoodBehind, AreGoodChoices}
 use Rattle.re_boxes.specs.Sets.{AreSets}

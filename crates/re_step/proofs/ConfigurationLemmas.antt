@@ -9,7 +9,7 @@ use Rattle.re_labels.proofs.Membership.{AllByRecursion-contains, Contains-here, 
 use Rattle.re_labels.proofs.LabelPlaces.{place_of-below}
 use Rattle.re_labels.specs.Lists.{place_of}
 use Rattle.re_labels.specs.ListSets.{list_set, with_list}
-use Rattle.re_table.proofs.Insertions.{length-with_list_most}
+use Rattle.re_labels.proofs.Insertions.{length-with_list_most}
 use Rattle.re_labels.specs.declared.TheConstants.{MAX_LABELS}
 
 pub places_below : (sets row : List (List ℕ)) (labels : List ℕ) → length sets ≤ MAX_LABELS → ((set : List ℕ) → Contains row set → Contains sets set) → labels ≡ map (place_of sets) row → AllByRecursion (λ x. x < MAX_LABELS) labels

@@ -15,10 +15,10 @@ use Rattle.re_labels.proofs.Membership.{In-Contains}
 use Rattle.re_labels.proofs.Numbers.{IsLabelSet-with_label}
 use Rattle.re_labels.proofs.Sets.{has-IsIn, IsIn-with_label_new}
 use Rattle.re_labels.specs.Sets.{IsIn, has, with_label}
-use Rattle.re_table.proofs.Goodness.{IsGood-Rearranged}
-use Rattle.re_table.proofs.MaxRows.{IsMaximal-max_rows}
-use Rattle.re_table.specs.Constraints.{Constraint}
-use Rattle.re_table.specs.GoodRows.{IsGood, IsMaximal, max_rows}
+use Rattle.re_labels.proofs.Goodness.{IsGood-Rearranged}
+use Rattle.re_labels.proofs.MaxRows.{IsMaximal-max_rows}
+use Rattle.re_labels.specs.Constraints.{Constraint}
+use Rattle.re_labels.specs.GoodRows.{IsGood, IsMaximal, max_rows}
 use Rattle.re_boxes.proofs.RowsOfSets.{AreSets-more, filled, in_order_moved, in_order_row}
 use Rattle.re_boxes.proofs.SetsAtPlaces.{all_set, set_there, under_at}
 use Rattle.re_boxes.specs.Choosing.{AreGoodChoices}

@@ -6,8 +6,8 @@ use Rattle.re_boxes.specs.UpRows.{IsUpRow}
 use Rattle.re_boxes.proofs.Grown.{grown_law}
 use Rattle.re_boxes.specs.Boxes.{IsStrength}
 use Rattle.re_boxes.proofs.BoxesOfRows.{maximal_is_up}
-use Rattle.re_table.specs.Constraints.{Constraint}
-use Rattle.re_table.specs.GoodRows.{max_rows}
+use Rattle.re_labels.specs.Constraints.{Constraint}
+use Rattle.re_labels.specs.GoodRows.{max_rows}
 
 pub maximal_up_row : (constraint : Constraint) (ups : ℕ → List ℕ) (n : ℕ) → IsStrength constraint ups → ((x : ℕ) → x < n → AllByRecursion (λ z. z < n) (ups x)) → (row : List (List ℕ))
     → Contains (max_rows constraint n) row → IsUpRow constraint ups n row

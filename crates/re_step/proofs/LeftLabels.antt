@@ -8,7 +8,7 @@ use Rattle.re_labels.specs.Sets.{IsIn, has, meet, with_label, without_label}
 use Rattle.re_boxes.proofs.NextLabels.{IsIn-with_new}
 use Rattle.re_boxes.proofs.DrawnChoices.{good_last, label_cases, label_kept}
 use Rattle.re_boxes.specs.Choosing.{AreGoodBehind}
-use Rattle.re_table.specs.Constraints.{Constraint, Has}
+use Rattle.re_labels.specs.Constraints.{Constraint, Has}
 
 -- a list with one element set
 pub set_cases : {X : Type 0} (l : List X) (i : ℕ) (v y : X) → Contains (slice_set l i v) y → (y ≡ v) ⊎ Contains l y

@@ -19,9 +19,9 @@ use Rattle.re_labels.proofs.Before.{three_orders}
 use Rattle.re_labels.proofs.Membership.{AllByRecursion-contains, Contains-In, Contains-cases, Contains-here, Contains-later, In, In-Contains, In-append_cases, In-append_left, In-append_right}
 use Rattle.re_labels.specs.Lists.{IsRising}
 use Rattle.re_labels.specs.Sets.{number}
-use Rattle.re_table.proofs.MaxRows.{max_rows-IsMaximal}
-use Rattle.re_table.specs.Constraints.{Constraint, IsConstraint}
-use Rattle.re_table.specs.GoodRows.{IsMaximal, max_rows}
+use Rattle.re_labels.proofs.MaxRows.{max_rows-IsMaximal}
+use Rattle.re_labels.specs.Constraints.{Constraint, IsConstraint}
+use Rattle.re_labels.specs.GoodRows.{IsMaximal, max_rows}
 use Rattle.re_boxes.proofs.Growing.{dominated_longer}
 use Rattle.re_step.proofs.Keeping.{no_longer}
 use Rattle.re_boxes.proofs.UpSets.{constraint_below}

@@ -12,7 +12,7 @@ use Rattle.re_problem.specs.Derived.{derived}
 use Rattle.re_problem.specs.NamedProblems.{unnamed}
 use Rattle.re_problem.specs.Problems.{Problem}
 use Rattle.re_step.specs.Derivations.{named_derived}
-use Rattle.re_table.proofs.Insertions.{length-with_list_most}
+use Rattle.re_labels.proofs.Insertions.{length-with_list_most}
 use Rattle.re_labels.proofs.ListSets.{In-list_set, list_set-In, list_set_push, one_set, rising-list_set}
 use Rattle.re_labels.proofs.Membership.{length-count_from, length-map'}
 use Rattle.re_labels.proofs.Tests.{and-true}

@@ -18,9 +18,9 @@ use Rattle.re_problem.proofs.DerivedProblem.{IsProblem-derived, max_row_ascends,
 use Rattle.re_problem.specs.Derived.{derived}
 use Rattle.re_problem.specs.NamedProblems.{IsNamedProblem, NamedProblem, OccursIn, built}
 use Rattle.re_problem.specs.Problems.{IsProblem, Problem}
-use Rattle.re_table.proofs.MaxSets.{max_sets-from, max_sets-row, maximal, rising-max_sets}
-use Rattle.re_table.specs.Constraints.{Constraint, IsConstraint}
-use Rattle.re_table.specs.GoodRows.{max_rows, max_sets}
+use Rattle.re_labels.proofs.MaxSets.{max_sets-from, max_sets-row, maximal, rising-max_sets}
+use Rattle.re_labels.specs.Constraints.{Constraint, IsConstraint}
+use Rattle.re_labels.specs.GoodRows.{max_rows, max_sets}
 use Rattle.re_step.proofs.NameLemmas.{IsNames-label_names, length-label_names}
 use Rattle.re_step.proofs.SetLemmas.{few_in_rows, least_first, rest_rises, same_sets}
 use Rattle.re_step.specs.Derivations.{named_derived, step_limit}
@@ -28,7 +28,7 @@ use Rattle.re_step.specs.LabelNames.{label_names}
 use Rattle.re_step.specs.declared.derivation.StepLimit.{StepLimit}
 use Rattle.re_step.specs.declared.derivation.StepLimit.TheVariants.{Configurations, Labels, Rows}
 use Rattle.re_labels.proofs.Numbers.{not_same}
-use Rattle.re_table.specs.declared.constraint_table.TheConstants.{MAX_CONFIGURATIONS}
+use Rattle.re_labels.specs.declared.constraint_table.TheConstants.{MAX_CONFIGURATIONS}
 use Rattle.re_labels.specs.declared.TheConstants.{MAX_LABELS}
 use Rattle.re_labels.specs.declared.TheConstants.{MAX_ROWS}
 

@@ -15,13 +15,13 @@ use Rattle.re_labels.proofs.Membership.{Contains-here, Contains-later, Contains-
 use Rattle.re_labels.proofs.ListSets.{In-list_set, list_set-In, list_set-longer, list_set_append, one_set, rising-list_set}
 use Rattle.re_labels.specs.Lists.{IsBefore, IsRising}
 use Rattle.re_labels.specs.ListSets.{list_set}
-use Rattle.re_table.proofs.MaxSets.{allowed_law}
+use Rattle.re_labels.proofs.MaxSets.{allowed_law}
 use Rattle.re_labels.proofs.Sets.{IsIn-has, IsIn-meet, IsIn-meet_cases, has-IsIn, has-with_label}
 use Rattle.re_labels.proofs.Tests.{eqb-apart, eqb-true, or-left, or-right, or-true, same_tests}
 use Rattle.re_labels.specs.Sets.{has, meet, with_label}
-use Rattle.re_table.proofs.Goodness.{IsAllowed-is_allowed, is_allowed-IsAllowed}
-use Rattle.re_table.specs.Constraints.{Constraint, with_each}
-use Rattle.re_table.specs.GoodRows.{IsAllowed, allowed, is_allowed}
+use Rattle.re_labels.proofs.Goodness.{IsAllowed-is_allowed, is_allowed-IsAllowed}
+use Rattle.re_labels.specs.Constraints.{Constraint, with_each}
+use Rattle.re_labels.specs.GoodRows.{IsAllowed, allowed, is_allowed}
 use Rattle.re_step.specs.Rests.{AreRests, SharesLabel, all_begun, allowed_from, allowed_on, constraint_of}
 use Rattle.re_problem.proofs.HeldLabels.{names_alone}
 use Rattle.re_problem.proofs.Walks.{alone}

@@ -1,7 +1,7 @@
 -- Rests of two labels with the labels that complete them.
 use Rattle.std.specs.Prelude.{ℕ, ◌<◌, ◌↔◌, ◌∷◌, [], List, Contains, Option, Some}
 use Rattle.re_labels.specs.Sets.{IsIn}
-use Rattle.re_table.specs.Constraints.{Constraint, Has}
+use Rattle.re_labels.specs.Constraints.{Constraint, Has}
 use Rattle.re_step.specs.declared.completing.Completed.{Completed}
 
 -- of the labels below n the set has those that complete the two labels

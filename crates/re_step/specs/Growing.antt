@@ -3,8 +3,8 @@ use Rattle.std.specs.Prelude.{ℕ, List}
 use Rattle.re_labels.specs.Sets.{IsIn}
 use Rattle.re_labels.specs.Rows.{IsUnder, set_at}
 use Rattle.re_boxes.specs.Grown.{added}
-use Rattle.re_table.specs.Constraints.{Constraint}
-use Rattle.re_table.specs.GoodRows.{IsGood}
+use Rattle.re_labels.specs.Constraints.{Constraint}
+use Rattle.re_labels.specs.GoodRows.{IsGood}
 use Rattle.re_boxes.specs.Sets.{AreSets}
 
 -- good sets of labels below n, in which the sets lie place by place

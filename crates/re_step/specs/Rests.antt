@@ -4,8 +4,8 @@ use Rattle.re_labels.specs.Configs.{sorted}
 use Rattle.re_labels.specs.Orders.{multisets, splits}
 use Rattle.re_labels.specs.Rows.{placed}
 use Rattle.re_labels.specs.Sets.{IsIn, has}
-use Rattle.re_table.specs.Constraints.{Constraint}
-use Rattle.re_table.specs.GoodRows.{is_allowed}
+use Rattle.re_labels.specs.Constraints.{Constraint}
+use Rattle.re_labels.specs.GoodRows.{is_allowed}
 
 -- the multisets that are left of a configuration when one of its labels that lie in the set is taken out
 abbrev pub rests_of : List ℕ → List ℕ → List (List ℕ)

@@ -1,12 +1,11 @@
 //! The existential half step: which multisets of sets have some choice that is a configuration.
 
 ghost use Rattle.re_step.specs.Rests.{constraint_of};
-ghost use Rattle.re_table.specs.GoodRows.{allowed};
+ghost use Rattle.re_labels.specs.GoodRows.{allowed};
 ghost use Rattle.std.specs.Prelude.{◌≡◌, ◌≤◌, ◌<◌, IfOk, IsErrOf, length};
 
 use crate::walk::walk;
-use re_labels::{Config, LabelSet, MAX_LABELS, NoMemory};
-use re_table::{Constraint, MAX_CONFIGURATIONS};
+use re_labels::{Config, Constraint, LabelSet, MAX_CONFIGURATIONS, MAX_LABELS, NoMemory};
 use std::alloc::{AllocError, Global};
 
 /// Why the allowed multisets could not be given.

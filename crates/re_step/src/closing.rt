@@ -2,7 +2,7 @@
 ghost use Rattle.re_boxes.specs.Boxes.{IsStrength};
 ghost use Rattle.re_boxes.specs.Growing.{IsLonger};
 ghost use Rattle.re_labels.specs.Rows.{row_cmp};
-ghost use Rattle.re_table.specs.GoodRows.{max_rows};
+ghost use Rattle.re_labels.specs.GoodRows.{max_rows};
 ghost use Rattle.re_boxes.specs.Boxed.{AreBoxesCovered};
 ghost use Rattle.re_boxes.specs.HeldStrength.{ups_in};
 ghost use Rattle.re_step.specs.Completing.{AreRight};
@@ -14,8 +14,7 @@ use crate::completing::Memo;
 use crate::rows_fault::RowsFault;
 use crate::settling::Found;
 use re_boxes::{RowIndex, Strength, cover_configs, cover_row, row_order};
-use re_labels::{MAX_LABELS, MAX_ROWS, Row};
-use re_table::Constraint;
+use re_labels::{Constraint, MAX_LABELS, MAX_ROWS, Row};
 use std::alloc::Global;
 use std::cmp::Ordering;
 

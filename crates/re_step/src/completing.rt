@@ -2,15 +2,14 @@
 ghost use Rattle.re_labels.specs.Sets.{IsIn, has};
 ghost use Rattle.re_labels.specs.declared.TheConstants.{MAX_LABELS};
 ghost use Rattle.re_boxes.specs.Choosing.{AreGoodBehind};
-ghost use Rattle.re_table.specs.Constraints.{Has};
+ghost use Rattle.re_labels.specs.Constraints.{Has};
 ghost use Rattle.re_step.specs.Completing.{AreRight, IsRight};
 ghost use Rattle.std.specs.List.{AllByRecursion};
 ghost use Rattle.std.specs.Prelude.{◌≡◌, ◌≤◌, ◌<◌, ◌+◌, ◌↔◌, ◌∷◌, [], ◌++◌, ℕ, false, not, Contains, IfOk, IfSome, MatchOption, Some, length};
 
 use arrayvec::ArrayVec;
 use re_boxes::least_of;
-use re_labels::{Config, LabelSet, NoMemory};
-use re_table::{Constraint, Trail};
+use re_labels::{Config, Constraint, LabelSet, NoMemory, Trail};
 use std::alloc::Global;
 
 /// Two labels, and the labels that complete them.

@@ -1,7 +1,7 @@
 //! Good sets grow, label by label, to a maximal row.
 ghost use Rattle.re_boxes.specs.Boxes.{IsStrength};
 ghost use Rattle.re_labels.specs.Rows.{Dominates};
-ghost use Rattle.re_table.specs.GoodRows.{IsGood, max_rows};
+ghost use Rattle.re_labels.specs.GoodRows.{IsGood, max_rows};
 ghost use Rattle.re_boxes.specs.Sets.{AreSets};
 ghost use Rattle.re_step.specs.Completing.{AreRight};
 ghost use Rattle.re_step.specs.Growing.{IsGrownFrom, IsTried};
@@ -11,8 +11,7 @@ ghost use Rattle.std.specs.Prelude.{◌≡◌, ◌≤◌, ◌<◌, ℕ, Contains
 use crate::completing::{Memo, addable, outside};
 use arrayvec::ArrayVec;
 use re_boxes::{Strength, with_set};
-use re_labels::{LabelSet, Row};
-use re_table::Constraint;
+use re_labels::{Constraint, LabelSet, Row};
 
 // The sets with, at the place, each label that can be added.
 fn grown_at(

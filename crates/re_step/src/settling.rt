@@ -2,7 +2,7 @@
 ghost use Rattle.re_boxes.specs.Boxes.{IsStrength};
 ghost use Rattle.re_boxes.specs.HeldStrength.{ups_in};
 ghost use Rattle.re_boxes.specs.Sets.{AreSets};
-ghost use Rattle.re_table.specs.GoodRows.{IsDominated, IsGood, max_rows};
+ghost use Rattle.re_labels.specs.GoodRows.{IsDominated, IsGood, max_rows};
 ghost use Rattle.re_boxes.specs.Growing.{IsLonger};
 ghost use Rattle.re_step.specs.Completing.{AreRight};
 ghost use Rattle.re_step.specs.Kept.{IsKept};
@@ -12,8 +12,7 @@ use crate::completing::Memo;
 use crate::growing::grown;
 use crate::rows_fault::RowsFault;
 use re_boxes::{Keeper, RowIndex, Strength, is_seen_dominated, row_order};
-use re_labels::{LabelSet, MAX_ROWS, Row};
-use re_table::Constraint;
+use re_labels::{Constraint, LabelSet, MAX_ROWS, Row};
 use std::cmp::Ordering;
 
 // Whether the last sets are the same. Rows that end in different sets differ, and most do.

@@ -8,8 +8,7 @@ ghost use Rattle.std.specs.Prelude.{◌≡◌, ◌≤◌, ◌<◌, ◌+◌, ◌-
 use crate::allowing::AllowedFault;
 use crate::rests::{partners, rests};
 use arrayvec::ArrayVec;
-use re_labels::{Config, LabelSet, MAX_LABELS};
-use re_table::{Constraint, InsertFault, MAX_CONFIGURATIONS};
+use re_labels::{Config, Constraint, InsertFault, LabelSet, MAX_CONFIGURATIONS, MAX_LABELS};
 use std::alloc::Global;
 
 // The places with one more behind them.

@@ -24,9 +24,9 @@ use Rattle.re_problem.specs.CanonicalTexts.{config_text}
 use Rattle.re_problem.specs.NamedProblems.{OccursIn}
 use Rattle.re_problem.specs.ProblemTexts.{begins_empty, block_configs, block_degree, degree_as, degree_fault, fault_if, line_degree, line_items, names_in, spelled_in, spells}
 use Rattle.re_problem.specs.declared.fault.InputFault.TheVariants.{DegreeOutOfRange, WrongDegree}
-use Rattle.re_table.specs.Constraints.{Constraint, IsConstraint}
+use Rattle.re_labels.specs.Constraints.{Constraint, IsConstraint}
 use Rattle.re_labels.proofs.LabelPlaces.{each_degree}
-use Rattle.re_table.specs.declared.constraint_table.TheConstants.{MAX_CONFIGURATIONS}
+use Rattle.re_labels.specs.declared.constraint_table.TheConstants.{MAX_CONFIGURATIONS}
 
 -- the names that stand on the lines
 abbrev pub written_names : List (List ℕ) → List (List ℕ)

@@ -10,7 +10,7 @@ use Rattle.re_labels.specs.ListSets.{list_set}
 use Rattle.re_problem.proofs.TextLines.{closed_more, open_more}
 use Rattle.re_problem.specs.ProblemTexts.{block_configs, byte_fault, bytes_of, closed, degree_fault, fault_at, fault_if, first_from, groups, has_form, line_degree, line_items, names_in, names_of, open_block, or_else}
 use Rattle.re_problem.specs.declared.fault.InputFault.TheVariants.{BadItem, ExtraBlock, TooManyConfigurations, TooManyLabels}
-use Rattle.re_table.specs.declared.constraint_table.TheConstants.{MAX_CONFIGURATIONS}
+use Rattle.re_labels.specs.declared.constraint_table.TheConstants.{MAX_CONFIGURATIONS}
 use Rattle.re_labels.specs.declared.TheConstants.{MAX_LABELS}
 
 -- the line may stand behind these of its block, whatever the names are

@@ -8,7 +8,7 @@ use Rattle.re_labels.proofs.Membership.{Contains-count_from, Contains-here, any_
 use Rattle.re_labels.specs.Lists.{count_from}
 use Rattle.re_labels.proofs.ChoicesOfRows.{choices-IsChoice}
 use Rattle.re_labels.specs.Rows.{IsChoice, choices, singles}
-use Rattle.re_table.specs.Constraints.{Constraint, has_config}
+use Rattle.re_labels.specs.Constraints.{Constraint, has_config}
 use Rattle.re_walks.specs.Begun.{is_begun}
 
 -- ---- parts of lists

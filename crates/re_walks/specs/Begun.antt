@@ -2,7 +2,7 @@
 use Rattle.std.specs.Prelude.{ℕ, ◌-◌, Bool, List, ◌++◌, length, replicate, find, is_some}
 use Rattle.re_labels.specs.Lists.{count_from}
 use Rattle.re_labels.specs.Rows.{choices, singles}
-use Rattle.re_table.specs.Constraints.{Constraint, has_config}
+use Rattle.re_labels.specs.Constraints.{Constraint, has_config}
 
 -- whether some configuration of labels below n begins with these labels, in some order of its own
 abbrev pub is_begun : Constraint → ℕ → List ℕ → Bool

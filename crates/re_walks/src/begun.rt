@@ -7,8 +7,7 @@ ghost use Rattle.std.specs.Prelude.{◌≡◌, ◌<◌, ◌≤◌, ◌++◌, ◌
 
 use arrayvec::ArrayVec;
 use re_algo::first_choice;
-use re_labels::{LabelSet, MAX_LABELS};
-use re_table::Constraint;
+use re_labels::{Constraint, LabelSet, MAX_LABELS};
 
 // The set of the labels below the number.
 fn labels_below(n: u8) -> LabelSet

@@ -7,9 +7,9 @@ use Rattle.re_labels.specs.Sets.{has, with_label}
 use Rattle.re_labels.specs.declared.TheConstants.{MAX_LABELS}
 use Rattle.re_boxes.proofs.RowsOfSets.{made}
 use Rattle.re_boxes.specs.Sets.{AreSets}
-use Rattle.re_table.proofs.SetsInOrder.{in_order-good, in_order-length}
-use Rattle.re_table.specs.Constraints.{Constraint}
-use Rattle.re_table.specs.GoodRows.{is_good}
+use Rattle.re_labels.proofs.SetsInOrder.{in_order-good, in_order-length}
+use Rattle.re_labels.specs.Constraints.{Constraint}
+use Rattle.re_labels.specs.GoodRows.{is_good}
 use Rattle.re_step.proofs.Growth.{added_sets}
 use Rattle.re_why.specs.Finding.{can_add}
 

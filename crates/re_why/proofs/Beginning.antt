@@ -14,10 +14,10 @@ use Rattle.re_labels.proofs.Tests.{eqb-same}
 use Rattle.re_labels.specs.PortLabels.{port_labels}
 use Rattle.re_labels.specs.Sets.{IsIn, IsLabelSet, number}
 use Rattle.re_labels.specs.declared.TheConstants.{MAX_LABELS}
-use Rattle.re_table.proofs.Goodness.{filled-is_full, is_full-filled}
-use Rattle.re_table.proofs.SetsInOrder.{AreSets, in_order-good, in_order-length}
-use Rattle.re_table.specs.Constraints.{Constraint, has_config}
-use Rattle.re_table.specs.GoodRows.{is_good}
+use Rattle.re_labels.proofs.Goodness.{filled-is_full, is_full-filled}
+use Rattle.re_labels.proofs.SetsInOrder.{AreSets, in_order-good, in_order-length}
+use Rattle.re_labels.specs.Constraints.{Constraint, has_config}
+use Rattle.re_labels.specs.GoodRows.{is_good}
 use Rattle.re_algo.proofs.Beginning.{any-fixed}
 use Rattle.re_algo.proofs.Drawing.{chosen_some}
 use Rattle.re_algo.specs.FirstChoice.{IsDrawn}

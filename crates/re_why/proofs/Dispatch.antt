@@ -12,9 +12,9 @@ use Rattle.re_labels.specs.Sets.{IsLabelSet}
 use Rattle.re_labels.specs.declared.TheConstants.{MAX_LABELS}
 use Rattle.re_labels.specs.Rows.{IsRow}
 use Rattle.re_labels.specs.declared.TheConstants.{MAX_ROWS}
-use Rattle.re_table.proofs.Goodness.{Has-has_config, IsAllowed-is_allowed, IsGood-is_good}
-use Rattle.re_table.specs.Constraints.{Has, IsConstraint, has_config}
-use Rattle.re_table.specs.GoodRows.{IsAllowed, IsGood, allowed, max_rows, max_sets}
+use Rattle.re_labels.proofs.Goodness.{Has-has_config, IsAllowed-is_allowed, IsGood-is_good}
+use Rattle.re_labels.specs.Constraints.{Has, IsConstraint, has_config}
+use Rattle.re_labels.specs.GoodRows.{IsAllowed, IsGood, allowed, max_rows, max_sets}
 use Rattle.re_problem.proofs.FedLines.{unnot}
 use Rattle.re_problem.specs.NamedProblems.{IsNamedProblem, NamedProblem}
 use Rattle.re_problem.specs.Steps.{LowerMap, SetEntry, entry_sets, label_at, label_of, set_for}

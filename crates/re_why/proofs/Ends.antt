@@ -17,7 +17,7 @@ use Rattle.re_labels.proofs.Rearranging.{length-AllZip}
 use Rattle.re_labels.proofs.Replacing.{has-support_of}
 use Rattle.re_labels.specs.Configs.{support_of}
 use Rattle.re_labels.specs.Rows.{IsChoice}
-use Rattle.re_table.specs.Constraints.{Constraint, Has}
+use Rattle.re_labels.specs.Constraints.{Constraint, Has}
 use Rattle.re_problem.proofs.ZeroPlaces.{law}
 use Rattle.re_problem.specs.NamedProblems.{NamedProblem, unnamed}
 use Rattle.re_problem.specs.Problems.{Problem}

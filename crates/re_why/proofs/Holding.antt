@@ -12,7 +12,7 @@ use Rattle.re_labels.specs.Lists.{same_list}
 use Rattle.re_labels.specs.declared.TheConstants.{MAX_LABELS}
 use Rattle.re_check.proofs.Telling.{read-held}
 use Rattle.re_labels.specs.Configs.{IsConfig}
-use Rattle.re_table.specs.Constraints.{Constraint, IsConstraint}
+use Rattle.re_labels.specs.Constraints.{Constraint, IsConstraint}
 use Rattle.re_problem.specs.Steps.{entry_sets, set_for}
 use Rattle.re_why.proofs.Found.{found_passes}
 use Rattle.re_why.specs.Finding.{is_held}

@@ -14,8 +14,8 @@ use Rattle.re_labels.specs.Lists.{IsRising, same_list}
 use Rattle.re_labels.specs.Sets.{IsIn, has, number}
 use Rattle.re_labels.specs.Configs.{sorted}
 use Rattle.re_labels.specs.Rows.{IsChoice, set_at}
-use Rattle.re_table.proofs.Goodness.{Has-has_config, has_config-Has}
-use Rattle.re_table.specs.Constraints.{Constraint, Has, has_config}
+use Rattle.re_labels.proofs.Goodness.{Has-has_config, has_config-Has}
+use Rattle.re_labels.specs.Constraints.{Constraint, Has, has_config}
 use Rattle.re_problem.specs.Steps.{LowerMap, SetEntry, entry_sets, label_at, label_of}
 use Rattle.re_problem.specs.Steps.LowerMap.{by_row, by_set}
 use Rattle.re_check.proofs.AllowedImages.{entry-over, set_at-entry}

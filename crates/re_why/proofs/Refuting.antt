@@ -13,11 +13,11 @@ use Rattle.re_labels.proofs.RowCalls.{read_within}
 use Rattle.re_labels.proofs.Rows.{RowBefore}
 use Rattle.re_labels.specs.Rows.{IsChoice, set_at}
 use Rattle.re_labels.specs.declared.TheConstants.{MAX_ROWS}
-use Rattle.re_table.proofs.Goodness.{is_allowed-IsAllowed, is_good-IsGood}
-use Rattle.re_table.proofs.MaxSets.{max_sets-row}
-use Rattle.re_table.proofs.MaxRows.{IsMaximal-max_rows, max_rows-IsMaximal, rising-max_rows}
-use Rattle.re_table.specs.Constraints.{Constraint, Has, IsConstraint}
-use Rattle.re_table.specs.GoodRows.{IsAllowed, IsGood, max_rows, max_sets}
+use Rattle.re_labels.proofs.Goodness.{is_allowed-IsAllowed, is_good-IsGood}
+use Rattle.re_labels.proofs.MaxSets.{max_sets-row}
+use Rattle.re_labels.proofs.MaxRows.{IsMaximal-max_rows, max_rows-IsMaximal, rising-max_rows}
+use Rattle.re_labels.specs.Constraints.{Constraint, Has, IsConstraint}
+use Rattle.re_labels.specs.GoodRows.{IsAllowed, IsGood, max_rows, max_sets}
 use Rattle.re_boxes.proofs.Grown.{maximal_is_grown}
 use Rattle.re_problem.proofs.ZeroPlaces.{law}
 use Rattle.re_problem.specs.NamedProblems.{IsNamedProblem, NamedProblem, unnamed}

@@ -16,8 +16,8 @@ use Rattle.re_problem.specs.Verdicts.{first_lost, first_twice, first_violation, 
 use Rattle.re_problem.specs.declared.verdict.MapVerdict.{MapVerdict}
 use Rattle.re_problem.specs.declared.verdict.MapVerdict.TheVariants as verdict
 use Rattle.re_problem.specs.Problems.{Problem}
-use Rattle.re_table.proofs.Goodness.{Has-has_config}
-use Rattle.re_table.specs.Constraints.{Constraint, Has, has_config}
+use Rattle.re_labels.proofs.Goodness.{Has-has_config}
+use Rattle.re_labels.specs.Constraints.{Constraint, Has, has_config}
 use Rattle.re_why.proofs.Found.{found_passes}
 use Rattle.re_why.specs.Witnesses.{ShowsRenaming}
 

@@ -22,10 +22,10 @@ use Rattle.re_boxes.proofs.Grown.{grown_is_maximal}
 use Rattle.re_boxes.specs.Grown.{IsGrown, added}
 use Rattle.re_boxes.proofs.RowsOfSets.{AreSets-filled}
 use Rattle.re_boxes.specs.Ordering.{is_row_before}
-use Rattle.re_table.proofs.Goodness.{Has-has_config, IsGood-is_good, filled-is_full, has_config-Has, is_good-IsGood}
-use Rattle.re_table.proofs.MaxRows.{IsMaximal-max_rows, max_rows-IsMaximal, rising-max_rows}
-use Rattle.re_table.specs.Constraints.{Constraint, Has, has_config}
-use Rattle.re_table.specs.GoodRows.{IsGood, IsMaximal, is_good, max_rows}
+use Rattle.re_labels.proofs.Goodness.{Has-has_config, IsGood-is_good, filled-is_full, has_config-Has, is_good-IsGood}
+use Rattle.re_labels.proofs.MaxRows.{IsMaximal-max_rows, max_rows-IsMaximal, rising-max_rows}
+use Rattle.re_labels.specs.Constraints.{Constraint, Has, has_config}
+use Rattle.re_labels.specs.GoodRows.{IsGood, IsMaximal, is_good, max_rows}
 use Rattle.re_problem.specs.Verdicts.{first_label}
 use Rattle.re_labels.specs.Lists.{count_from}
 use Rattle.re_problem.proofs.VerdictLaws.{label-none}

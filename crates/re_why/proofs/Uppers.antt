@@ -10,9 +10,9 @@ use Rattle.re_labels.proofs.Tests.{eqb-same, eqb-true, not-true}
 use Rattle.re_labels.specs.Lists.{IsRising, count_from}
 use Rattle.re_labels.specs.Configs.{IsConfig}
 use Rattle.re_labels.specs.Rows.{set_at}
-use Rattle.re_table.proofs.Goodness.{IsAllowed-is_allowed, IsGood-is_good, is_allowed-IsAllowed, is_good-IsGood}
-use Rattle.re_table.specs.Constraints.{Constraint, Has, IsConstraint}
-use Rattle.re_table.specs.GoodRows.{IsAllowed, IsGood, is_allowed, is_good}
+use Rattle.re_labels.proofs.Goodness.{IsAllowed-is_allowed, IsGood-is_good, is_allowed-IsAllowed, is_good-IsGood}
+use Rattle.re_labels.specs.Constraints.{Constraint, Has, IsConstraint}
+use Rattle.re_labels.specs.GoodRows.{IsAllowed, IsGood, is_allowed, is_good}
 use Rattle.re_problem.specs.Steps.{SetEntry, entry_sets, set_for}
 use Rattle.re_check.proofs.AllowedImages.{set_at-entry}
 use Rattle.re_check.specs.StepClauses.{HasAllowedImages, HasGoodImages, HasNextLabels, entry_labels}

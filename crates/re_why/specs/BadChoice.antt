@@ -2,7 +2,7 @@
 use Rattle.std.specs.Prelude.{ℕ, Bool, not, List, ◌++◌, find, Option}
 use Rattle.std.specs.List.{list_any}
 use Rattle.re_labels.specs.Rows.{choices}
-use Rattle.re_table.specs.Constraints.{Constraint, has_config}
+use Rattle.re_labels.specs.Constraints.{Constraint, has_config}
 
 -- the labels are no configuration
 abbrev pub is_bad : Constraint → List ℕ → Bool

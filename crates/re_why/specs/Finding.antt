@@ -9,8 +9,8 @@ use Rattle.re_labels.specs.declared.TheConstants.{MAX_LABELS}
 use Rattle.re_labels.specs.Configs.{sorted, support_of}
 use Rattle.re_labels.specs.Rows.{row_cmp, set_at}
 use Rattle.re_labels.specs.declared.TheConstants.{MAX_ROWS}
-use Rattle.re_table.specs.Constraints.{Constraint, has_config}
-use Rattle.re_table.specs.GoodRows.{is_good, max_rows}
+use Rattle.re_labels.specs.Constraints.{Constraint, has_config}
+use Rattle.re_labels.specs.GoodRows.{is_good, max_rows}
 use Rattle.re_boxes.specs.Grown.{added}
 use Rattle.re_boxes.specs.Ordering.{is_row_before}
 use Rattle.re_problem.specs.NamedProblems.{NamedProblem, unnamed}

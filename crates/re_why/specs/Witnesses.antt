@@ -8,8 +8,8 @@ use Rattle.re_labels.specs.declared.sides.Side.TheVariants as side
 use Rattle.re_labels.specs.Configs.{image_at, sorted}
 use Rattle.re_labels.specs.Rows.{IsChoice, IsRow, row_cmp, set_at}
 use Rattle.re_labels.specs.declared.TheConstants.{MAX_ROWS}
-use Rattle.re_table.specs.Constraints.{Constraint, Has}
-use Rattle.re_table.specs.GoodRows.{IsAllowed, IsGood, IsMaximal, max_rows}
+use Rattle.re_labels.specs.Constraints.{Constraint, Has}
+use Rattle.re_labels.specs.GoodRows.{IsAllowed, IsGood, IsMaximal, max_rows}
 use Rattle.re_boxes.specs.Grown.{added}
 use Rattle.re_problem.specs.NamedProblems.{IsNamedProblem, NamedProblem, unnamed}
 use Rattle.re_problem.specs.Problems.{Problem}

@@ -9,8 +9,7 @@ ghost use Rattle.std.specs.Prelude.{◌+◌, ◌<◌, ◌≡◌, ◌∷◌, leng
 use arrayvec::ArrayVec;
 use re_algo::{are_sets, fixed};
 use re_check::is_good;
-use re_labels::{LabelSet, MAX_LABELS, PortLabels, Row};
-use re_table::Constraint;
+use re_labels::{Constraint, LabelSet, MAX_LABELS, PortLabels, Row};
 
 // Whether the drawn labels and one label of each of the others are no configuration for some choice.
 fn is_begun(constraint: &Constraint, drawn: &[u8], others: &[LabelSet]) -> bool

@@ -13,9 +13,8 @@ use crate::bad_choice::first_bad_choice;
 use crate::witness::Witness;
 use arrayvec::ArrayVec;
 use re_cert::Kind;
-use re_labels::{Config, LabelSet};
+use re_labels::{Config, Constraint, LabelSet};
 use re_problem::{LabelMap, MapVerdict, Problem, renames, zero_round};
-use re_table::Constraint;
 
 // The configuration at this place.
 fn fit_at(active: &Constraint, place: usize) -> Witness

@@ -18,8 +18,7 @@ use crate::witness::{PortSets, Witness};
 use arrayvec::ArrayVec;
 use re_cert::{LowerMap, RowImage, SetEntry};
 use re_check::{all_labels_over, all_labels_over_by_row, occurs, place_for, row_image, sets_at};
-use re_labels::{Config, LabelSet, MAX_LABELS, PortLabels, Row};
-use re_table::Constraint;
+use re_labels::{Config, Constraint, LabelSet, MAX_LABELS, PortLabels, Row};
 
 // ---- the sets
 

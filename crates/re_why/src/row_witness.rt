@@ -2,8 +2,8 @@
 ghost use Rattle.re_labels.specs.Sets.{IsLabelSet};
 ghost use Rattle.re_problem.specs.Verdicts.{first_label};
 ghost use Rattle.re_boxes.specs.Ordering.{is_row_before};
-ghost use Rattle.re_table.specs.Constraints.{IsConstraint};
-ghost use Rattle.re_table.specs.GoodRows.{max_rows};
+ghost use Rattle.re_labels.specs.Constraints.{IsConstraint};
+ghost use Rattle.re_labels.specs.GoodRows.{max_rows};
 ghost use Rattle.re_why.specs.Finding.{bad_row, can_add, extended, extended_at, first_from, first_unordered, is_listed, missing_row, row_witness};
 ghost use Rattle.std.specs.List.{AllByRecursion};
 ghost use Rattle.std.specs.Prelude.{◌≡◌, ◌≤◌, ◌<◌, ◌+◌, ◌^◌, IfOk, find, length, not};
@@ -12,9 +12,8 @@ use crate::bad_choice::first_bad_choice;
 use crate::witness::Witness;
 use re_boxes::{row_order, with_set};
 use re_check::is_good;
-use re_labels::{LabelSet, MAX_LABELS, NoMemory, Row};
+use re_labels::{Constraint, LabelSet, MAX_LABELS, NoMemory, Row};
 use re_step::{RowsFault, maximal_rows};
-use re_table::Constraint;
 use std::alloc::Global;
 use std::cmp::Ordering;
 

@@ -11,9 +11,8 @@ use crate::witness::{PortSets, Witness};
 use arrayvec::ArrayVec;
 use re_cert::SetEntry;
 use re_check::sets_of;
-use re_labels::{Config, LabelSet};
+use re_labels::{Config, Constraint, LabelSet};
 use re_problem::{first_not_allowed, first_not_good};
-use re_table::Constraint;
 
 // Whether the label of the entry is below that of the next one.
 fn labels_ascend(entry: &SetEntry, next: &SetEntry) -> bool

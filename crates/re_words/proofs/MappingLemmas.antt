@@ -14,7 +14,7 @@ use Rattle.re_problem.specs.declared.verdict.MapVerdict.TheVariants.{Active, Cou
 use Rattle.re_problem.specs.NamedProblems.{IsNamedProblem, NamedProblem, unnamed}
 use Rattle.re_words.specs.Mapping.{IsNamedVerdict, labels_in, map_outcome, mapped, mapping_outcome}
 use Rattle.re_words.specs.declared.command.Mapping.TheVariants.{Relax, Rename}
-use Rattle.re_table.proofs.ConstraintImages.{configs-below}
+use Rattle.re_labels.proofs.ConstraintImages.{configs-below}
 
 -- ---- what a verdict names
 abbrev IsNamedOption : ℕ → Option MapVerdict → Type 0

@@ -24,7 +24,7 @@ use Rattle.re_net.specs.Runs.{Comes, has_output, messages_of, standing_of, stand
 use Rattle.re_net.specs.declared.reading.Delivery.{Delivery}
 use Rattle.re_net.specs.declared.runs.Run.{Run}
 use Rattle.re_net.specs.declared.runs.Standing.{Standing}
-use Rattle.re_table.specs.Constraints.{Constraint, Has, IsConstraint}
+use Rattle.re_labels.specs.Constraints.{Constraint, Has, IsConstraint}
 use Rattle.re_laws.specs.Trees.{IsView}
 use Rattle.re_words.specs.Running.{AreNamed, PassiveNodesGet, algorithm_of, node_line, nodes_from, nodes_text}
 

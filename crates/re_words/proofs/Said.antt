@@ -29,7 +29,7 @@ use Rattle.re_search.specs.declared.types.Search.{Search}
 use Rattle.re_search.specs.declared.types.Search.TheVariants.{Found, NotFound}
 use Rattle.re_step.specs.Derivations.{named_derived, step_limit}
 use Rattle.re_step.specs.declared.derivation.StepLimit.{StepLimit}
-use Rattle.re_table.specs.GoodRows.{max_rows}
+use Rattle.re_labels.specs.GoodRows.{max_rows}
 use Rattle.re_frame.specs.Check.{verdict_outcome}
 use Rattle.re_words.specs.Command.{command_of, is_judging, judges}
 use Rattle.re_words.specs.Counting.{counted, rounds_outcome}

@@ -15,8 +15,8 @@ use Rattle.re_problem.proofs.FedLines.{unnot}
 use Rattle.re_problem.proofs.ZeroPlaces.{none-fails}
 use Rattle.re_problem.specs.NamedProblems.{NamedProblem, unnamed}
 use Rattle.re_problem.specs.Problems.{IsProblem}
-use Rattle.re_table.proofs.Goodness.{has_config-Has}
-use Rattle.re_table.specs.Constraints.{Constraint, has_config}
+use Rattle.re_labels.proofs.Goodness.{has_config-Has}
+use Rattle.re_labels.specs.Constraints.{Constraint, has_config}
 use Rattle.re_table_texts.specs.PrintedTables.{IsTableFor}
 use Rattle.re_words.specs.Tabling.{same_constraints, same_lists, same_problems}
 

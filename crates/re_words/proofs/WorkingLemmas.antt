@@ -7,9 +7,9 @@ use Rattle.re_labels.specs.Sets.{IsLabelSet}
 use Rattle.re_changes.specs.Classes.{are_equal, class_of, is_next, least_labels}
 use Rattle.re_changes.specs.Diagrams.{classes_of, edges_by, edges_from, edges_of}
 use Rattle.re_printing.specs.SetTexts.{least_at}
-use Rattle.re_table.proofs.MaxSets.{max_sets-from, maximal}
-use Rattle.re_table.specs.Constraints.{Constraint}
-use Rattle.re_table.specs.Strength.{is_at_least_as_strong}
+use Rattle.re_labels.proofs.MaxSets.{max_sets-from, maximal}
+use Rattle.re_labels.specs.Constraints.{Constraint}
+use Rattle.re_labels.specs.Strength.{is_at_least_as_strong}
 use Rattle.std.specs.Prelude.{slice_index}
 use Rattle.re_problem.specs.NamedProblems.{NamedProblem, unnamed}
 use Rattle.re_step.specs.Derivations.{named_derived, step_limit}
@@ -17,7 +17,7 @@ use Rattle.re_step.specs.declared.derivation.StepLimit.{StepLimit}
 use Rattle.re_frame.specs.Outcomes.{Outcome, done, limit}
 use Rattle.re_words.specs.Working.{derived_text, stepped}
 use Rattle.re_frame.specs.StepLimits.{limit_line, or_limit}
-use Rattle.re_table.specs.GoodRows.{max_rows, max_sets}
+use Rattle.re_labels.specs.GoodRows.{max_rows, max_sets}
 
 -- ---- rows and sets
 set_below : (K : Constraint) (n m : ℕ) → n ≡ m → (row : List (List ℕ)) → Contains (max_rows K n) row → (set : List ℕ) → Contains row set → AllByRecursion (λ label. label < m) set

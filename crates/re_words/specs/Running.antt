@@ -22,7 +22,7 @@ use Rattle.re_problem.specs.declared.fault.InputFault.{InputFault}
 use Rattle.re_net.specs.RunTexts.{RunText, run_text}
 use Rattle.re_net.specs.Runs.{first_illegal, has_output, labels_around, messages_of, standing_of}
 use Rattle.re_net.specs.declared.runs.Standing.{Standing}
-use Rattle.re_table.specs.Constraints.{Has}
+use Rattle.re_labels.specs.Constraints.{Has}
 use Rattle.re_frame.specs.Check.{verdict_outcome}
 use Rattle.re_frame.specs.Outcomes.{Outcome, done, refused}
 use Rattle.re_frame.specs.TextFaults.{fault_outcome}

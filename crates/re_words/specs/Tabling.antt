@@ -12,7 +12,7 @@ use Rattle.re_algo.specs.declared.counting.TheConstants.{MAX_VIEWS}
 use Rattle.re_problem.specs.NamedProblems.{NamedProblem, unnamed}
 use Rattle.re_problem.specs.declared.fault.InputFault.{InputFault}
 use Rattle.re_step.specs.Derivations.{named_derived, step_limit}
-use Rattle.re_table.specs.Constraints.{Constraint}
+use Rattle.re_labels.specs.Constraints.{Constraint}
 use Rattle.re_table_texts.specs.PrintedTables.{table_text}
 use Rattle.re_table_texts.specs.TableTexts.{TableText, table_input}
 use Rattle.re_table_texts.specs.declared.table_texts.TableForm.{TableForm}

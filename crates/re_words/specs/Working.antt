@@ -10,8 +10,8 @@ use Rattle.re_printing.specs.SetTexts.{diagram_text, meanings_text, rows_text}
 use Rattle.re_problem.specs.CanonicalTexts.{canonical}
 use Rattle.re_problem.specs.NamedProblems.{NamedProblem, unnamed}
 use Rattle.re_step.specs.Derivations.{named_derived, step_limit}
-use Rattle.re_table.specs.Constraints.{Constraint}
-use Rattle.re_table.specs.GoodRows.{max_rows, max_sets}
+use Rattle.re_labels.specs.Constraints.{Constraint}
+use Rattle.re_labels.specs.GoodRows.{max_rows, max_sets}
 use Rattle.re_frame.specs.Outcomes.{Outcome, done, limit_of}
 use Rattle.re_frame.specs.StepLimits.{or_limit}
 

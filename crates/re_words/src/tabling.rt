@@ -17,10 +17,9 @@ use crate::command::Command;
 use re_algo::{MAX_VIEWS, SlowerFault, Table, TableVerdict, faster, slower, solves};
 use re_frame::{Answering, Output, begun, done, fault_output, limit_of, limit_output, refused};
 use re_io::MAX_BYTES;
-use re_labels::{Names, NoMemory};
+use re_labels::{Constraint, Names, NoMemory};
 use re_problem::{Problem, TextFault};
 use re_step::{Derived, StepFault, step};
-use re_table::Constraint;
 use re_table_texts::{TableForm, TableInput, print_table, read_table};
 use std::alloc::{AllocError, Global};
 

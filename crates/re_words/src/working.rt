@@ -7,11 +7,10 @@ ghost use Rattle.std.specs.Prelude.{◌≡◌, ◌≤◌, ◌+◌, ◌++◌, IfO
 
 use re_changes::{diagram, merge, trim};
 use re_frame::{Output, done, limit_of, limit_output};
-use re_labels::{MAX_ROWS, NoMemory, Side};
+use re_labels::{Constraint, MAX_ROWS, NoMemory, Side};
 use re_printing::{print_diagram, print_meanings, print_rows};
 use re_problem::{Problem, print_problem, push_problem};
 use re_step::{Derived, RowsFault, StepFault, maximal_rows, step};
-use re_table::Constraint;
 use std::alloc::Global;
 
 fn constraint_at(problem: &Problem, side: Side) -> &Constraint

@@ -6,10 +6,10 @@ use Rattle.re_algo.specs.FirstChoice.{IsDrawn, begins, first_behind}
 use Rattle.re_labels.proofs.Patterns.{others-are, parted}
 use Rattle.re_labels.proofs.Numbers.{IsLabelSet-filter}
 use Rattle.re_labels.specs.Sets.{IsLabelSet}
-use Rattle.re_table.proofs.SaidChoices.{popped-is, rest-lighter}
+use Rattle.re_labels.proofs.SaidChoices.{popped-is, rest-lighter}
 use Rattle.re_algo.proofs.choice.+draw.Goals as goal
 use Rattle.re_labels.specs.declared.TheConstants.{MAX_LABELS}
-use Rattle.re_table.specs.Constraints.{has_config}
+use Rattle.re_labels.specs.Constraints.{has_config}
 
 pub draw-requires : goal.draw-requires
 draw-requires t c =

@@ -4,7 +4,7 @@ use Rattle.std.proofs.lemmas.Bool.{false≢true}
 use Rattle.re_labels.specs.Configs.{sorted}
 use Rattle.re_labels.specs.Sets.{IsIn}
 use Rattle.re_boxes.proofs.DrawnChoices.{found-has, label_cases, without_label-fewer}
-use Rattle.re_table.specs.Constraints.{Has}
+use Rattle.re_labels.specs.Constraints.{Has}
 use Rattle.re_boxes.proofs.choosing.+are_all_bad.Goals as goal
 
 pub are_all_bad-requires : goal.are_all_bad-requires

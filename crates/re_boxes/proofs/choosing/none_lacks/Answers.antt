@@ -7,7 +7,7 @@ use Rattle.re_labels.specs.Sets.{IsIn, without_label}
 use Rattle.re_labels.specs.declared.TheConstants.{MAX_LABELS}
 use Rattle.re_boxes.proofs.DrawnChoices.{label_cases}
 use Rattle.re_boxes.proofs.RaisedChoices.{choice_at, choice_below}
-use Rattle.re_table.specs.Constraints.{Has}
+use Rattle.re_labels.specs.Constraints.{Has}
 use Rattle.re_boxes.proofs.OtherChoices.{none_lacking, same_choice}
 use Rattle.re_boxes.proofs.choosing.none_lacks.Goals as goal
 

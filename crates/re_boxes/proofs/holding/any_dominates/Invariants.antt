@@ -1,5 +1,5 @@
 use Rattle.std.proofs.Common.{◌≡◌, false, take}
-use Rattle.re_table.specs.GoodRows.{is_dominated}
+use Rattle.re_labels.specs.GoodRows.{is_dominated}
 use Rattle.re_boxes.proofs.holding.any_dominates.Given as goal
 
 abbrev pub invariant-loop-top : goal.invariant-loop-top

@@ -11,7 +11,7 @@ use Rattle.re_labels.proofs.Membership.{AllByRecursion-weaker}
 use Rattle.re_labels.proofs.Sets.{has-IsIn}
 use Rattle.re_labels.proofs.Tests.{eqb-true}
 use Rattle.re_labels.specs.Sets.{IsIn, IsLabelSet, has, union}
-use Rattle.re_table.proofs.SaidChoices.{weight}
+use Rattle.re_labels.proofs.SaidChoices.{weight}
 use Rattle.re_boxes.proofs.RowsOfSets.{filled}
 use Rattle.re_boxes.proofs.Growing.{longer_has}
 use Rattle.re_boxes.proofs.OtherChoices.{held_place, place_first}

@@ -1,5 +1,5 @@
 use Rattle.std.proofs.Common.{◌+◌, ◌-◌, ◌*◌, length}
-use Rattle.re_table.proofs.SaidChoices.{weight}
+use Rattle.re_labels.proofs.SaidChoices.{weight}
 use Rattle.re_boxes.proofs.searching.+search.Given as goal
 
 abbrev pub decreases-cover : goal.decreases-cover

@@ -5,7 +5,7 @@ use Rattle.re_labels.proofs.Patterns.{others-are, parted}
 use Rattle.re_labels.proofs.Numbers.{IsLabelSet-filter}
 use Rattle.re_labels.specs.Sets.{IsLabelSet}
 use Rattle.re_labels.specs.Configs.{sorted}
-use Rattle.re_table.proofs.SaidChoices.{popped-is}
+use Rattle.re_labels.proofs.SaidChoices.{popped-is}
 use Rattle.re_boxes.proofs.DrawnChoices.{bad_last, bad_more, found-has, good_last, none_behind, rest_tells, without_label-fewer}
 use Rattle.re_boxes.specs.Choosing.{AreGoodBehind, IsBadBehind}
 use Rattle.re_boxes.proofs.strength_choosing.+is_bad_behind.Goals as goal

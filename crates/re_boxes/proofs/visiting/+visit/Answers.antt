@@ -1,6 +1,6 @@
 use Rattle.std.proofs.Common.{◌≡◌, ◌∙◌, ◌++◌, ◌∷◌, ◌<◌, ◌≤◌, ◌+◌, [], ℕ, List, length, length-append, arith, ap, subst, sym, refl}
 use Rattle.std.specs.Prelude.{Contains, ◌↔◌}
-use Rattle.re_table.proofs.SaidChoices.{popped-is}
+use Rattle.re_labels.proofs.SaidChoices.{popped-is}
 use Rattle.re_boxes.proofs.Visits.{IsOpenedAt, IsPartedAt, narrowed-all, narrowed-rest, narrowed-start, next-goes, nothing-more, rest-below, round-narrowed, round-visit, round-waiting, waiting-start, narrowed-alone}
 use Rattle.re_boxes.specs.Rests.{Completes}
 use Rattle.re_boxes.specs.Spans.{tree_of, AreSpans, Fits, IsEnding, IsNarrowed, IsNext, IsVisit, IsWaiting}

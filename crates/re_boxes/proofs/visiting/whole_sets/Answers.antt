@@ -4,7 +4,7 @@ use Rattle.re_labels.proofs.OrdersAt.{count_push}
 use Rattle.re_labels.proofs.Membership.{length-count_from, length-map'}
 use Rattle.re_labels.specs.Lists.{count_from}
 use Rattle.re_labels.specs.Sets.{with_label}
-use Rattle.re_table.proofs.Strengths.{with_label-below}
+use Rattle.re_labels.proofs.Strengths.{with_label-below}
 use Rattle.re_boxes.proofs.visiting.whole_sets.Goals as goal
 use Rattle.re_labels.specs.declared.TheConstants.{MAX_LABELS}
 

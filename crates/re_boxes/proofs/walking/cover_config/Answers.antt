@@ -5,7 +5,7 @@ use Rattle.re_labels.specs.Configs.{IsConfig}
 use Rattle.re_labels.proofs.Membership.{AllByRecursion-contains}
 use Rattle.re_labels.specs.Sets.{IsLabelSet}
 use Rattle.std.specs.List.{AllByRecursion}
-use Rattle.re_table.specs.GoodRows.{IsGood}
+use Rattle.re_labels.specs.GoodRows.{IsGood}
 use Rattle.re_boxes.proofs.RowsOfSets.{AreSets-filled}
 use Rattle.re_boxes.proofs.UpSets.{up_config}
 use Rattle.re_boxes.specs.HeldStrength.{ups_in}

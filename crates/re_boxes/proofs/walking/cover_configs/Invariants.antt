@@ -1,6 +1,6 @@
 use Rattle.std.proofs.Common.{◌≡◌, List, ℕ, map, ◌⊎◌}
 use Rattle.std.specs.Prelude.{Contains}
-use Rattle.re_table.specs.GoodRows.{IsDominated}
+use Rattle.re_labels.specs.GoodRows.{IsDominated}
 use Rattle.re_boxes.specs.HeldStrength.{ups_in}
 use Rattle.re_boxes.specs.Growing.{IsLonger}
 use Rattle.re_boxes.proofs.walking.cover_configs.Given as goal

@@ -2,7 +2,7 @@ use Rattle.std.proofs.Common.{◌≡◌, true, not, map, take}
 use Rattle.std.specs.Prelude.{◌||◌}
 use Rattle.std.specs.List.{list_all}
 use Rattle.re_problem.specs.Steps.{label_of}
-use Rattle.re_table.specs.Constraints.{has_config}
+use Rattle.re_labels.specs.Constraints.{has_config}
 use Rattle.re_bridge.specs.Bridges.{has_entries}
 use Rattle.re_bridge.proofs.by_set.keeps_rows_so_far.Given as goal
 

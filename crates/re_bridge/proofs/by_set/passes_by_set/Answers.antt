@@ -4,7 +4,7 @@ use Rattle.re_bridge.proofs.SetTests.{entries-low, entries-rise}
 use Rattle.re_labels.specs.Lists.{IsRising}
 use Rattle.re_labels.specs.Sets.{number}
 use Rattle.re_problem.specs.Steps.{SetEntry, entry_sets}
-use Rattle.re_table.proofs.MaxSets.{max_sets_law}
+use Rattle.re_labels.proofs.MaxSets.{max_sets_law}
 use Rattle.re_labels.specs.declared.TheConstants.{MAX_LABELS}
 use Rattle.re_bridge.proofs.by_set.passes_by_set.Goals as goal
 

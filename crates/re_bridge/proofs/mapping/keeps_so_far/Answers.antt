@@ -1,5 +1,5 @@
 use Rattle.std.proofs.Common.{◌+◌, [], length, sym, take, ◌-◌, ◌∙◌}
-use Rattle.re_table.proofs.Walked.{walked-all, walked-more}
+use Rattle.re_labels.proofs.Walked.{walked-all, walked-more}
 use Rattle.re_bridge.proofs.MapTests.{all-done, all-fails, all-more, all-there}
 use Rattle.re_bridge.specs.Reductions.{is_kept_so_far}
 use Rattle.re_bridge.proofs.mapping.keeps_so_far.Goals as goal

@@ -1,8 +1,8 @@
 use Rattle.std.proofs.Common.{◌+◌, [], Err, ap, arith, length, sym, ◌∙◌}
 use Rattle.re_labels.specs.ListSets.{with_list}
 use Rattle.re_labels.specs.Sets.{within}
-use Rattle.re_table.proofs.Insertions.{length-with_list_most}
-use Rattle.re_table.proofs.Walked.{walked-all, walked-more}
+use Rattle.re_labels.proofs.Insertions.{length-with_list_most}
+use Rattle.re_labels.proofs.Walked.{walked-all, walked-more}
 use Rattle.re_bridge.proofs.StayingConfigs.{staying-all, staying-passed, staying-step}
 use Rattle.re_bridge.proofs.within.constraint_within.Goals as goal
 use Rattle.re_labels.specs.declared.TheConstants.{MAX_LABELS}

@@ -1,5 +1,5 @@
 use Rattle.std.proofs.Common.{◌≡◌, ap, length, sym, ◌∙◌}
-use Rattle.re_table.specs.Strength.{is_at_least_as_strong}
+use Rattle.re_labels.specs.Strength.{is_at_least_as_strong}
 use Rattle.re_changes.proofs.Alike.{classes-drawn, edges-drawn, least-drawn, least-within}
 use Rattle.re_changes.specs.Classes.{least_labels, strong_by}
 use Rattle.re_changes.proofs.drawing.diagram.Goals as goal

@@ -1,6 +1,6 @@
 use Rattle.std.proofs.Common.{◌≡◌, ◌<◌, ap, arith, length, lit<, ◌∙◌}
 use Rattle.re_labels.specs.Sets.{meet}
-use Rattle.re_table.specs.Strength.{up_set}
+use Rattle.re_labels.specs.Strength.{up_set}
 use Rattle.re_changes.proofs.Counted.{length-map_counted, pushed}
 use Rattle.re_changes.proofs.Alike.{read-counted}
 use Rattle.re_changes.proofs.merging.cover_sets.Goals as goal

@@ -1,7 +1,7 @@
 use Rattle.std.proofs.Common.{◌≡◌, length, map}
 use Rattle.re_labels.specs.Lists.{count_from}
 use Rattle.re_labels.specs.Sets.{meet}
-use Rattle.re_table.specs.Strength.{up_set}
+use Rattle.re_labels.specs.Strength.{up_set}
 use Rattle.re_changes.proofs.merging.cover_sets.Given as goal
 
 abbrev pub invariant-loop-label : goal.invariant-loop-label

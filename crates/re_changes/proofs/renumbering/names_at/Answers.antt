@@ -1,6 +1,6 @@
 use Rattle.std.proofs.Common.{◌≡◌, ap, arith, length, refl, ◌∙◌}
 use Rattle.re_labels.proofs.LeastLabels.{length-set}
-use Rattle.re_table.proofs.Insertions.{length-with_list_most}
+use Rattle.re_labels.proofs.Insertions.{length-with_list_most}
 use Rattle.re_changes.proofs.Numbering.{names-all, names-step}
 use Rattle.re_changes.proofs.renumbering.names_at.Goals as goal
 use Rattle.re_labels.specs.declared.TheConstants.{MAX_LABELS}

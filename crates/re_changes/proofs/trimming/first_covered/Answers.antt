@@ -6,7 +6,7 @@ use Rattle.re_changes.proofs.TrimmedProblems.{covered-tells}
 use Rattle.re_changes.specs.Trimming.{is_covered}
 use Rattle.re_labels.specs.Lists.{count_from}
 use Rattle.re_labels.specs.Sets.{meet, without_label}
-use Rattle.re_table.specs.Strength.{up_set}
+use Rattle.re_labels.specs.Strength.{up_set}
 use Rattle.std.specs.Prelude.{map}
 use Rattle.re_changes.proofs.trimming.first_covered.Goals as goal
 

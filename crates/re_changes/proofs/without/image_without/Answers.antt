@@ -7,8 +7,8 @@ use Rattle.re_labels.specs.Configs.{IsConfig, image_at}
 use Rattle.re_labels.proofs.Membership.{AllByRecursion-contains, length-map'}
 use Rattle.re_labels.specs.ListSets.{with_list}
 use Rattle.re_labels.specs.Sets.{has}
-use Rattle.re_table.proofs.Insertions.{length-with_list_most}
-use Rattle.re_table.proofs.Walked.{walked-all, walked-more}
+use Rattle.re_labels.proofs.Insertions.{length-with_list_most}
+use Rattle.re_labels.proofs.Walked.{walked-all, walked-more}
 use Rattle.re_changes.proofs.LeftOut.{images-all, images-passed, images-step}
 use Rattle.re_changes.proofs.without.image_without.Goals as goal
 use Rattle.re_labels.specs.declared.TheConstants.{MAX_LABELS}

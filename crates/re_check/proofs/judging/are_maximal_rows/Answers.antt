@@ -5,7 +5,7 @@ use Rattle.re_check.proofs.Judged.{boxed}
 use Rattle.re_check.proofs.Walks.{weaker}
 use Rattle.re_boxes.proofs.UpSets.{constraint_below}
 use Rattle.re_boxes.specs.HeldStrength.{ups_in}
-use Rattle.re_table.specs.GoodRows.{max_rows}
+use Rattle.re_labels.specs.GoodRows.{max_rows}
 use Rattle.re_check.proofs.judging.are_maximal_rows.Goals as goal
 use Rattle.re_labels.proofs.Tests.{not_told}
 

@@ -3,7 +3,7 @@ use Rattle.std.specs.Prelude.{Contains}
 use Rattle.re_check.proofs.Telling.{told, walk-done, walk-fails, walk-more}
 use Rattle.re_check.proofs.RowSets.{row-has-sets}
 use Rattle.re_problem.specs.Steps.{label_of}
-use Rattle.re_table.specs.Constraints.{Has}
+use Rattle.re_labels.specs.Constraints.{Has}
 use Rattle.re_check.proofs.row_images.keeps_rows.Goals as goal
 use Rattle.re_labels.proofs.Tests.{not_told}
 

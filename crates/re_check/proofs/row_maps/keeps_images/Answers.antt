@@ -1,6 +1,6 @@
 use Rattle.std.proofs.Common.{[]}
 use Rattle.re_check.proofs.Telling.{told, walk-done, walk-fails, walk-more}
-use Rattle.re_table.specs.Constraints.{Has}
+use Rattle.re_labels.specs.Constraints.{Has}
 use Rattle.re_check.proofs.row_maps.keeps_images.Goals as goal
 use Rattle.re_labels.proofs.Tests.{not_told}
 

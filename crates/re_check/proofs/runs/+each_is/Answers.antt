@@ -4,8 +4,8 @@ use Rattle.std.specs.List.{AllByRecursion}
 use Rattle.re_labels.proofs.Patterns.{others-are, parted}
 use Rattle.re_labels.proofs.Numbers.{IsLabelSet-filter}
 use Rattle.re_labels.specs.Sets.{IsLabelSet}
-use Rattle.re_table.proofs.SaidChoices.{popped-is, rest-lighter}
-use Rattle.re_table.specs.Constraints.{Has}
+use Rattle.re_labels.proofs.SaidChoices.{popped-is, rest-lighter}
+use Rattle.re_labels.specs.Constraints.{Has}
 use Rattle.re_check.proofs.EqualSets.{takes-again, takes-fails, takes-last, takes-more, takes-none}
 use Rattle.re_check.proofs.Telling.{tells-false, tells-true}
 use Rattle.re_check.specs.EqualSets.{narrowed}

@@ -1,6 +1,6 @@
 use Rattle.std.proofs.Common.{◌≡◌, ◌≤◌, arith, length, subst}
 use Rattle.std.specs.Prelude.{◌↔◌, IsTrue}
-use Rattle.re_table.specs.Constraints.{Constraint}
+use Rattle.re_labels.specs.Constraints.{Constraint}
 use Rattle.re_check.proofs.NextLabels.{next-count}
 use Rattle.re_check.specs.StepClauses.{HasGoodImages}
 use Rattle.re_check.proofs.StepTests.{good-test, known}

@@ -1,7 +1,7 @@
 use Rattle.std.proofs.Common.{◌≡◌, ◌∙◌, ap, length, subst, ℕ}
 use Rattle.std.specs.Prelude.{MatchBool}
-use Rattle.re_table.specs.Constraints.{Constraint}
-use Rattle.re_table.specs.GoodRows.{max_rows}
+use Rattle.re_labels.specs.Constraints.{Constraint}
+use Rattle.re_labels.specs.GoodRows.{max_rows}
 use Rattle.re_check.proofs.StepTests.{maximal-test}
 use Rattle.re_check.proofs.step.are_maximal.Goals as goal
 

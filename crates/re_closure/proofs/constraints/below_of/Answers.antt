@@ -1,6 +1,6 @@
 use Rattle.std.proofs.Common.{◌<◌, ◌≤◌, length, ◌∙◌, subst}
 use Rattle.std.proofs.lemmas.Result.{IfOk-weaker}
-use Rattle.re_table.specs.declared.constraint_table.TheConstants.{MAX_CONFIGURATIONS}
+use Rattle.re_labels.specs.declared.constraint_table.TheConstants.{MAX_CONFIGURATIONS}
 use Rattle.re_closure.proofs.BelowLines.{below_is}
 use Rattle.re_closure.specs.Sides.{family_of}
 use Rattle.re_closure.proofs.constraints.below_of.Goals as goal

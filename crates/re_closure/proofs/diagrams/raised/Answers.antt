@@ -1,6 +1,6 @@
 use Rattle.std.proofs.Common.{◌≡◌, None, Some, ap, length, sym, ◌∙◌}
 use Rattle.re_problem.specs.NamedProblems.{NamedProblem}
-use Rattle.re_table.specs.GoodRows.{allowed}
+use Rattle.re_labels.specs.GoodRows.{allowed}
 use Rattle.re_closure.proofs.RaisedProblems.{raised_built}
 use Rattle.re_closure.specs.Diagrams.{all_below, raised, raised_constraint}
 use Rattle.re_closure.proofs.diagrams.raised.Goals as goal

@@ -3,7 +3,7 @@ use Rattle.std.specs.Prelude.{Contains, ◌↔◌}
 use Rattle.re_labels.specs.Rows.{placed}
 use Rattle.re_labels.specs.Lists.{count_from}
 use Rattle.re_closure_laws.specs.Lines.{others}
-use Rattle.re_table.specs.Strength.{up_set}
+use Rattle.re_labels.specs.Strength.{up_set}
 use Rattle.re_closure.proofs.NeededSets.{closure_is, full_active, full_passive, many_active, many_passive}
 use Rattle.re_closure.proofs.Keeping.{err_is}
 use Rattle.re_closure.specs.ProblemFamilies.{IsNeeded}

@@ -4,7 +4,7 @@ use Rattle.re_cert.specs.Bounds.{has_row_maps, is_bound, last_problem}
 use Rattle.re_labels.specs.declared.TheConstants.{MAX_ROWS}
 use Rattle.re_labels.specs.Lists.{place_of}
 use Rattle.re_problem.specs.NamedProblems.{NamedProblem, unnamed}
-use Rattle.re_table.specs.GoodRows.{max_rows}
+use Rattle.re_labels.specs.GoodRows.{max_rows}
 use Rattle.re_closure.proofs.Joined.{few_first, first_made, made_is, map_sets, surely_closed, surely_fits}
 use Rattle.re_closure.specs.Closed.{made_bound}
 use Rattle.re_closure.specs.Closures.{IsClosed}

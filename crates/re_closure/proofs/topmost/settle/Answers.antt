@@ -6,7 +6,7 @@ use Rattle.re_closure.specs.Kept.{AreSettled, IsAntichain, combinations_of}
 use Rattle.re_closure.specs.declared.topmost.LinesFault.TheVariants.{TooManyCombinations}
 use Rattle.re_closure.specs.declared.topmost.TheConstants.{MAX_COMBINATIONS}
 use Rattle.std.proofs.lemmas.Bool.{false≢true}
-use Rattle.re_table.specs.GoodRows.{IsDominated}
+use Rattle.re_labels.specs.GoodRows.{IsDominated}
 use Rattle.re_closure.proofs.Counting.{counted_dominated, counted_kept, counted_many}
 use Rattle.re_closure.proofs.Keeping.{antichain_kept, err_is, kept_dominated, kept_more, many_lines}
 use Rattle.re_closure.proofs.topmost.settle.Goals as goal

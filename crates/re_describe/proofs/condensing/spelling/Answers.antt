@@ -1,7 +1,7 @@
 use Rattle.std.proofs.Common.{◌<◌, length, rules, sym, subst}
 use Rattle.std.proofs.lemmas.Result.{IfOk-weaker}
 use Rattle.re_labels.specs.declared.TheConstants.{MAX_ROWS}
-use Rattle.re_table.specs.GoodRows.{max_rows}
+use Rattle.re_labels.specs.GoodRows.{max_rows}
 use Rattle.re_describe.specs.Spelling.{AreSources}
 use Rattle.re_describe.proofs.Grouping.{alone_sources, max_sources}
 use Rattle.re_describe.proofs.condensing.spelling.Goals as goal

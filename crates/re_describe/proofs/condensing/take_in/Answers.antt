@@ -1,5 +1,5 @@
 use Rattle.std.proofs.Common.{◌≡◌, ◌++◌, ◌∷◌, [], ap, false, inl, inr, refl, rules, sym, ◌∙◌}
-use Rattle.re_table.specs.GoodRows.{is_dominated}
+use Rattle.re_labels.specs.GoodRows.{is_dominated}
 use Rattle.re_describe.proofs.Covering.{has_one, not_dominated}
 use Rattle.re_describe.proofs.condensing.take_in.Goals as goal
 

@@ -1,5 +1,5 @@
 use Rattle.re_printing.proofs.PrintLemmas.{label_then_rest, rest_is}
-use Rattle.re_table.proofs.Strengths.{rest-smaller}
+use Rattle.re_labels.proofs.Strengths.{rest-smaller}
 use Rattle.std.proofs.Common.{◌++◌, sym, arith}
 use Rattle.std.proofs.lemmas.Result.{on_ok_weaker}
 use Rattle.re_describe.specs.Pieces.{shown}

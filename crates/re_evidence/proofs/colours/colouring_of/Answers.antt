@@ -1,6 +1,6 @@
 use Rattle.std.proofs.Common.{◌≡◌, ap, subst, sym, true, ◌∙◌}
 use Rattle.re_inputs.specs.NamedInputs.{fits, input_of}
-use Rattle.re_table.specs.Constraints.{Constraint}
+use Rattle.re_labels.specs.Constraints.{Constraint}
 use Rattle.re_evidence.proofs.FewColours.{colouring_input}
 use Rattle.re_evidence.proofs.colours.colouring_of.Goals as goal
 

@@ -2,7 +2,7 @@ use Rattle.std.proofs.Common.{◌∙◌, ap, get_or}
 use Rattle.std.specs.Prelude.{[]}
 use Rattle.re_extract.proofs.Found.{fit_at, held_labels}
 use Rattle.re_problem.specs.NamedProblems.{unnamed}
-use Rattle.re_table.specs.Constraints.{Constraint}
+use Rattle.re_labels.specs.Constraints.{Constraint}
 use Rattle.re_extract.proofs.choosing.zero_labels.Goals as goal
 
 pub returns : goal.returns

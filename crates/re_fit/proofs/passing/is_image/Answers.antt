@@ -1,6 +1,6 @@
 use Rattle.std.proofs.Common.{◌≡◌, ◌∙◌, ◌&&◌, true, ap, sym}
-use Rattle.re_table.proofs.SaidChoices.{found-is}
-use Rattle.re_table.specs.Constraints.{has_config}
+use Rattle.re_labels.proofs.SaidChoices.{found-is}
+use Rattle.re_labels.specs.Constraints.{has_config}
 use Rattle.re_fit.specs.Fits.{is_in_order}
 use Rattle.re_fit.proofs.passing.is_image.Goals as goal
 

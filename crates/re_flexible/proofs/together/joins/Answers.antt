@@ -4,7 +4,7 @@ use Rattle.std.specs.Prelude.{◌↔◌}
 use Rattle.re_labels.proofs.Tests.{not_told}
 use Rattle.re_labels.specs.declared.TheConstants.{MAX_LABELS}
 use Rattle.re_labels.proofs.Lists.{refilled}
-use Rattle.re_table.proofs.Walked.{walked-all, walked-more}
+use Rattle.re_labels.proofs.Walked.{walked-all, walked-more}
 use Rattle.re_flexible.proofs.Joining.{JoinedIn, joined_all, joined_more, joined_none, joined_past}
 use Rattle.re_flexible.proofs.together.joins.Goals as goal
 use Rattle.re_flexible.specs.Relations.{Relates, Stands}

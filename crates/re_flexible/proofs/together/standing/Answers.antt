@@ -2,7 +2,7 @@ use Rattle.std.proofs.Common.{◌∙◌, ◌+◌, [], ap, sym}
 use Rattle.re_labels.proofs.Tests.{not_told}
 use Rattle.re_labels.specs.Sets.{union}
 use Rattle.re_labels.specs.declared.TheConstants.{MAX_LABELS}
-use Rattle.re_table.proofs.Walked.{walked-all, walked-more}
+use Rattle.re_labels.proofs.Walked.{walked-all, walked-more}
 use Rattle.re_flexible.proofs.Joining.{standing_all, standing_early, standing_more, standing_none, standing_past}
 use Rattle.re_flexible.proofs.together.standing.Goals as goal
 

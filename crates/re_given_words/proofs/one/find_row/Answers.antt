@@ -2,8 +2,8 @@ use Rattle.std.proofs.Common.{◌≡◌, ◌∙◌, ap}
 use Rattle.std.proofs.lemmas.Result.{IfOk-weaker}
 use Rattle.std.specs.List.{position}
 use Rattle.re_problem.specs.NamedProblems.{unnamed}
-use Rattle.re_table.specs.Constraints.{Constraint}
-use Rattle.re_table.specs.GoodRows.{max_rows}
+use Rattle.re_labels.specs.Constraints.{Constraint}
+use Rattle.re_labels.specs.GoodRows.{max_rows}
 use Rattle.re_given_words.proofs.RowTests.{none-there, place-shown}
 use Rattle.re_given_words.specs.RowTests.{has_choices}
 use Rattle.re_given_words.proofs.one.find_row.Goals as goal

@@ -1,7 +1,7 @@
 use Rattle.std.proofs.Common.{◌≡◌, ◌∙◌, ◌++◌, ◌∷◌, [], ap, subst, sym, take}
 use Rattle.re_labels.specs.Orders.{multisets}
 use Rattle.re_problem.specs.NamedProblems.{unnamed}
-use Rattle.re_table.specs.Constraints.{Constraint}
+use Rattle.re_labels.specs.Constraints.{Constraint}
 use Rattle.re_given_words.proofs.RowsOrdered.{AreAll, all-more, begun}
 use Rattle.re_given_words.proofs.SetsAdded.{seen-all, seen-more}
 use Rattle.re_given_words.proofs.two.all_open.Goals as goal

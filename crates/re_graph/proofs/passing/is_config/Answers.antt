@@ -1,4 +1,4 @@
-use Rattle.re_table.proofs.SaidChoices.{found-is}
+use Rattle.re_labels.proofs.SaidChoices.{found-is}
 use Rattle.re_graph.proofs.passing.is_config.Goals as goal
 
 pub returns : goal.returns

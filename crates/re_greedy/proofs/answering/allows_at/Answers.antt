@@ -6,8 +6,8 @@ use Rattle.re_greedy.proofs.answering.allows_at.Goals as goal
 use Rattle.re_labels.specs.Rows.{placed, set_at}
 use Rattle.re_labels.specs.Sets.{IsLabelSet}
 use Rattle.re_labels.specs.declared.TheConstants.{MAX_LABELS}
-use Rattle.re_table.proofs.SetsInOrder.{in_order-allowed, in_order-length}
-use Rattle.re_table.specs.GoodRows.{is_allowed}
+use Rattle.re_labels.proofs.SetsInOrder.{in_order-allowed, in_order-length}
+use Rattle.re_labels.specs.GoodRows.{is_allowed}
 
 pub allows-requires : goal.allows-requires
 allows-requires c =

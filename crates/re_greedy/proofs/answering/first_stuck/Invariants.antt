@@ -3,7 +3,7 @@ use Rattle.std.specs.Prelude.{Contains}
 use Rattle.re_greedy.proofs.answering.first_stuck.Given as goal
 use Rattle.re_labels.specs.Orders.{multisets}
 use Rattle.re_labels.specs.Rows.{placed}
-use Rattle.re_table.specs.GoodRows.{is_allowed}
+use Rattle.re_labels.specs.GoodRows.{is_allowed}
 
 abbrev pub invariant-loop-picks : goal.invariant-loop-picks
 invariant-loop-picks l = record {

@@ -3,8 +3,8 @@ use Rattle.re_given.specs.Products.{pairs_of}
 use Rattle.re_inputs.proofs.PairingLemmas.{all_listed}
 use Rattle.re_inputs.specs.Pairings.{all_pairings}
 use Rattle.re_labels.specs.ListSets.{list_set}
-use Rattle.re_table.specs.declared.constraint_table.InsertFault.TheVariants.{TooManyConfigurations}
-use Rattle.re_table.specs.declared.constraint_table.TheConstants.{MAX_CONFIGURATIONS}
+use Rattle.re_labels.specs.declared.constraint_table.InsertFault.TheVariants.{TooManyConfigurations}
+use Rattle.re_labels.specs.declared.constraint_table.TheConstants.{MAX_CONFIGURATIONS}
 use Rattle.re_inputs.proofs.pairing.pairs_of.Goals as goal
 
 pub returns-in-Ok-clause-pairs : goal.returns-in-Ok-clause-pairs

@@ -1,7 +1,7 @@
 use Rattle.std.proofs.Common.{◌≡◌, ◌∙◌, Err, ap, length}
 use Rattle.re_labels.proofs.Sorting.{length-sorted}
 use Rattle.re_problem.proofs.Walks.{one_config_more, one_too_many}
-use Rattle.re_table.specs.declared.constraint_table.InsertFault.TheVariants.{TooManyConfigurations}
+use Rattle.re_labels.specs.declared.constraint_table.InsertFault.TheVariants.{TooManyConfigurations}
 use Rattle.re_inputs.proofs.pairing.put_labels.Goals as goal
 
 pub insert-requires : goal.insert-requires

@@ -7,8 +7,8 @@ use Rattle.re_inputs.proofs.PairingLemmas.{at_end, at_start, come_to, map-listed
 use Rattle.re_inputs.specs.Pairings.{beside_in}
 use Rattle.re_labels.specs.ListSets.{list_set}
 use Rattle.re_labels.specs.declared.TheConstants.{MAX_LABELS}
-use Rattle.re_table.specs.declared.constraint_table.InsertFault.TheVariants.{TooManyConfigurations}
-use Rattle.re_table.specs.declared.constraint_table.TheConstants.{MAX_CONFIGURATIONS}
+use Rattle.re_labels.specs.declared.constraint_table.InsertFault.TheVariants.{TooManyConfigurations}
+use Rattle.re_labels.specs.declared.constraint_table.TheConstants.{MAX_CONFIGURATIONS}
 use Rattle.re_inputs.proofs.pairing.put_pairings.Goals as goal
 
 pub loop-order-init : goal.loop-order-init

@@ -4,7 +4,7 @@ use Rattle.re_families.proofs.Listing.{passed}
 use Rattle.re_inputs.proofs.PairingLemmas.{at_end, at_start, come_to, one_more, too_many}
 use Rattle.re_inputs.specs.Pairings.{pairings}
 use Rattle.re_labels.proofs.Membership.{AllByRecursion-In}
-use Rattle.re_table.specs.declared.constraint_table.InsertFault.TheVariants.{TooManyConfigurations}
+use Rattle.re_labels.specs.declared.constraint_table.InsertFault.TheVariants.{TooManyConfigurations}
 use Rattle.re_inputs.proofs.pairing.put_pairings_with.Goals as goal
 
 pub loop-second-init : goal.loop-second-init

@@ -1,7 +1,7 @@
 use Rattle.std.proofs.Common.{◌<◌, length, subst, sym}
 use Rattle.std.specs.List.{AllByRecursion}
 use Rattle.re_inputs.proofs.PairingLemmas.{pairs_low}
-use Rattle.re_table.specs.Constraints.{Constraint}
+use Rattle.re_labels.specs.Constraints.{Constraint}
 use Rattle.re_inputs.proofs.products.side_of.Goals as goal
 
 pub image-requires-clause-known : goal.image-requires-clause-known

@@ -2,8 +2,8 @@ use Rattle.std.proofs.Common.{◌≤◌, ap, length, subst, sym, ◌∙◌}
 use Rattle.std.proofs.lemmas.Slice.Eq.{bytes_eq-Decides}
 use Rattle.re_judging.proofs.SameTexts.{same_texts}
 use Rattle.re_problem.specs.CanonicalTexts.{canonical}
-use Rattle.re_table.specs.Constraints.{Constraint}
-use Rattle.re_table.specs.declared.constraint_table.TheConstants.{MAX_CONFIGURATIONS}
+use Rattle.re_labels.specs.Constraints.{Constraint}
+use Rattle.re_labels.specs.declared.constraint_table.TheConstants.{MAX_CONFIGURATIONS}
 use Rattle.re_judging.proofs.same.are_same.Goals as goal
 
 pub returns : goal.returns

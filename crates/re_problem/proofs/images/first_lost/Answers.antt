@@ -1,6 +1,6 @@
 use Rattle.std.proofs.Common.{map, arith, below_more}
 use Rattle.re_labels.specs.Configs.{image_at}
-use Rattle.re_table.specs.Constraints.{has_config}
+use Rattle.re_labels.specs.Constraints.{has_config}
 use Rattle.re_problem.proofs.FirstFound.{failing-here, failing-none, passing-more}
 use Rattle.re_problem.proofs.images.first_lost.Goals as goal
 

@@ -1,6 +1,6 @@
 use Rattle.std.proofs.Common.{map, arith, below_more}
 use Rattle.re_labels.specs.Rows.{set_at}
-use Rattle.re_table.specs.GoodRows.{is_allowed}
+use Rattle.re_labels.specs.GoodRows.{is_allowed}
 use Rattle.re_problem.proofs.FirstFound.{failing-here, failing-none, passing-more}
 use Rattle.re_problem.proofs.images.first_not_allowed.Goals as goal
 

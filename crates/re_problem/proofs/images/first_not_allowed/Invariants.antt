@@ -1,6 +1,6 @@
 use Rattle.std.proofs.Common.{◌≡◌, ℕ, ◌<◌, [], false, get_or, map, not}
 use Rattle.re_labels.specs.Rows.{set_at}
-use Rattle.re_table.specs.GoodRows.{is_allowed}
+use Rattle.re_labels.specs.GoodRows.{is_allowed}
 use Rattle.re_problem.proofs.images.first_not_allowed.Given as goal
 
 abbrev pub invariant-loop-place : goal.invariant-loop-place

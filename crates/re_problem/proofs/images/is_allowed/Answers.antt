@@ -3,7 +3,7 @@ use Rattle.std.proofs.lemmas.List.{length-map}
 use Rattle.re_labels.specs.Rows.{set_at}
 use Rattle.re_problem.proofs.ImageRows.{sets_are}
 use Rattle.re_problem.proofs.images.is_allowed.Goals as goal
-use Rattle.re_table.proofs.SetsInOrder.{in_order-allowed, in_order-length}
+use Rattle.re_labels.proofs.SetsInOrder.{in_order-allowed, in_order-length}
 
 pub allows-requires : goal.allows-requires
 allows-requires c =

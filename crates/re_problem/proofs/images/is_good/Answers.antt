@@ -3,7 +3,7 @@ use Rattle.std.proofs.lemmas.List.{length-map}
 use Rattle.re_labels.specs.Rows.{set_at}
 use Rattle.re_problem.proofs.ImageRows.{sets_are}
 use Rattle.re_problem.proofs.images.is_good.Goals as goal
-use Rattle.re_table.proofs.SetsInOrder.{in_order-good, in_order-length}
+use Rattle.re_labels.proofs.SetsInOrder.{in_order-good, in_order-length}
 
 pub is_good-requires : goal.is_good-requires
 is_good-requires c =

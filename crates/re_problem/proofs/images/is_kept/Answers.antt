@@ -1,6 +1,6 @@
 use Rattle.std.proofs.Common.{map}
 use Rattle.re_labels.specs.Configs.{image_at}
-use Rattle.re_table.proofs.SaidChoices.{found-is}
+use Rattle.re_labels.proofs.SaidChoices.{found-is}
 use Rattle.re_problem.proofs.images.is_kept.Goals as goal
 
 pub returns : goal.returns

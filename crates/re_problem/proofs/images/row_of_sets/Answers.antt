@@ -3,7 +3,7 @@ use Rattle.std.proofs.lemmas.List.{length-map, take_all}
 use Rattle.re_labels.specs.Rows.{in_order, set_at}
 use Rattle.re_problem.proofs.ImageRows.{sets_are}
 use Rattle.re_problem.proofs.images.row_of_sets.Goals as goal
-use Rattle.re_table.proofs.SetsInOrder.{AreSets, row_is}
+use Rattle.re_labels.proofs.SetsInOrder.{AreSets, row_is}
 use Rattle.re_labels.specs.declared.TheConstants.{MAX_LABELS}
 
 whole : (sets there : List (List ℕ)) (config labels : List ℕ) (index : ℕ) → labels ≡ config → there ≡ map (set_at sets) (take index labels) → length labels ≤ index → there ≡ map (set_at sets) config

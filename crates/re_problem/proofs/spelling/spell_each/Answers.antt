@@ -5,9 +5,9 @@ use Rattle.re_labels.specs.ListSets.{list_set}
 use Rattle.re_labels.specs.Sets.{IsLabelSet}
 use Rattle.re_problem.specs.Walks.{spelled_from}
 use Rattle.re_problem.proofs.Walks.{all_walked, spelled_in_any_order}
-use Rattle.re_table.specs.declared.constraint_table.InsertFault.TheVariants.{TooManyConfigurations}
+use Rattle.re_labels.specs.declared.constraint_table.InsertFault.TheVariants.{TooManyConfigurations}
 use Rattle.re_problem.proofs.spelling.spell_each.Goals as goal
-use Rattle.re_table.specs.declared.constraint_table.TheConstants.{MAX_CONFIGURATIONS}
+use Rattle.re_labels.specs.declared.constraint_table.TheConstants.{MAX_CONFIGURATIONS}
 use Rattle.re_labels.specs.declared.TheConstants.{MAX_LABELS}
 
 pub walk-requires-clause-degree : goal.walk-requires-clause-degree

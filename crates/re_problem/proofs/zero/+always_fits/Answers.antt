@@ -1,4 +1,4 @@
-use Rattle.re_table.proofs.SaidChoices.{popped-is}
+use Rattle.re_labels.proofs.SaidChoices.{popped-is}
 use Rattle.std.proofs.Common.{◌≡◌, length, ap, sym, ◌∙◌, subst}
 use Rattle.std.specs.Prelude.{Contains, IsTrue, ◌↔◌}
 use Rattle.re_labels.specs.Configs.{sorted}

@@ -1,6 +1,6 @@
 use Rattle.std.proofs.Common.{[], ap, arith, below_more, sym, ◌∙◌}
 use Rattle.re_problem.specs.Zero.{shows_zero}
-use Rattle.re_table.proofs.Walked.{walked-all, walked-more}
+use Rattle.re_labels.proofs.Walked.{walked-all, walked-more}
 use Rattle.re_problem.proofs.FirstPlaces.{position-absent, position-found}
 use Rattle.re_problem.proofs.zero.first_fit.Goals as goal
 

@@ -1,7 +1,7 @@
 use Rattle.std.proofs.Common.{not, ◌&&◌, map, sym, ap, ◌∙◌}
 use Rattle.re_labels.specs.Configs.{image_at}
-use Rattle.re_table.proofs.SaidChoices.{found-is}
-use Rattle.re_table.specs.Constraints.{has_config}
+use Rattle.re_labels.proofs.SaidChoices.{found-is}
+use Rattle.re_labels.specs.Constraints.{has_config}
 use Rattle.re_search.proofs.Losses.{mapped-below}
 use Rattle.re_search.specs.Losses.{are_mapped}
 use Rattle.re_search.proofs.losing.is_lost.Goals as goal

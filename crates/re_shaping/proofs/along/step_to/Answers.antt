@@ -1,7 +1,7 @@
 use Rattle.std.proofs.Common.{◌≡◌, Some, None, cond, length, ap, sym, ◌∙◌, true}
 use Rattle.std.specs.Prelude.{is_none}
 use Rattle.re_step.specs.Derivations.{Derivation}
-use Rattle.re_table.specs.GoodRows.{max_rows, max_sets}
+use Rattle.re_labels.specs.GoodRows.{max_rows, max_sets}
 use Rattle.re_shaping.specs.Along.{map_along, step_along}
 use Rattle.re_shaping.proofs.along.step_to.Goals as goal
 

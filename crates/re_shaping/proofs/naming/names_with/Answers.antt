@@ -1,5 +1,5 @@
 use Rattle.std.proofs.Common.{◌≡◌, ap, arith, length, refl, ◌∙◌}
-use Rattle.re_table.proofs.Insertions.{length-with_list_most}
+use Rattle.re_labels.proofs.Insertions.{length-with_list_most}
 use Rattle.re_shaping.proofs.NewNames.{names-more, names-whole}
 use Rattle.re_labels.specs.declared.TheConstants.{MAX_LABELS}
 use Rattle.re_shaping.proofs.naming.names_with.Goals as goal

@@ -5,7 +5,7 @@ use Rattle.re_labels.specs.Configs.{image_at}
 use Rattle.re_labels.specs.Sets.{IsLabelSet}
 use Rattle.re_problem.specs.NamedProblems.{unnamed}
 use Rattle.re_step.specs.Derivations.{Derivation}
-use Rattle.re_table.specs.GoodRows.{max_rows}
+use Rattle.re_labels.specs.GoodRows.{max_rows}
 use Rattle.re_shaping.proofs.FirstSteps.{step-made}
 use Rattle.re_shaping.proofs.ImagesOfRows.{all_seen, row-sets}
 use Rattle.re_shaping.specs.Relaxing.{row_image}

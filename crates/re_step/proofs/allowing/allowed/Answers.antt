@@ -1,7 +1,7 @@
 use Rattle.re_step.proofs.WalkLemmas.{found_allowed}
 use Rattle.std.proofs.Common.{rules, ◌≤◌, ◌<◌, ◌∙◌, length, refl, subst}
 use Rattle.re_step.proofs.allowing.allowed.Goals as goal
-use Rattle.re_table.specs.declared.constraint_table.TheConstants.{MAX_CONFIGURATIONS}
+use Rattle.re_labels.specs.declared.constraint_table.TheConstants.{MAX_CONFIGURATIONS}
 
 pub returns-in_err-walk-clause-many : goal.returns-in_err-walk-clause-many
 returns-in_err-walk-clause-many c = λ e.

@@ -7,7 +7,7 @@ use Rattle.std.specs.List.{AllByRecursion}
 use Rattle.std.specs.List.Sorted.{IsSortedBy}
 use Rattle.std.proofs.lemmas.List.Sorted.{answers_always}
 use Rattle.re_labels.specs.Rows.{row_cmp}
-use Rattle.re_table.specs.GoodRows.{max_rows}
+use Rattle.re_labels.specs.GoodRows.{max_rows}
 use Rattle.re_step.proofs.Listing.{configs_longer, is_below, listed, listed_few, rows_ranked}
 use Rattle.re_boxes.specs.HeldStrength.{ups_in}
 use Rattle.re_step.proofs.closing.maximal_rows.Goals as goal

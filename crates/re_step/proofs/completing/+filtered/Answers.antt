@@ -1,5 +1,5 @@
 use Rattle.std.proofs.Common.{◌∷◌, length, ap, sym, ◌∙◌, arith}
-use Rattle.re_table.specs.Constraints.{Has}
+use Rattle.re_labels.specs.Constraints.{Has}
 use Rattle.std.proofs.lemmas.Bool.{false≢true}
 use Rattle.re_labels.specs.Configs.{sorted}
 use Rattle.re_boxes.proofs.DrawnChoices.{found-has, without_label-fewer}

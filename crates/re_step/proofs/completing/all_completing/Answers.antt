@@ -1,6 +1,6 @@
 use Rattle.std.proofs.Common.{◌≡◌, ◌<◌, ◌↔◌, ◌∷◌, ℕ, not, subst}
 use Rattle.re_labels.specs.Sets.{IsIn, has}
-use Rattle.re_table.specs.Constraints.{Has}
+use Rattle.re_labels.specs.Constraints.{Has}
 use Rattle.re_step.proofs.LeftLabels.{whole_told}
 use Rattle.re_step.proofs.completing.all_completing.Goals as goal
 

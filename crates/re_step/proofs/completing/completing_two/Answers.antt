@@ -1,6 +1,6 @@
 use Rattle.std.proofs.Common.{◌↔◌, ◌∷◌, [], sym, subst}
 use Rattle.re_labels.specs.Sets.{IsIn}
-use Rattle.re_table.specs.Constraints.{Has}
+use Rattle.re_labels.specs.Constraints.{Has}
 use Rattle.re_step.proofs.LeftLabels.{met}
 use Rattle.re_step.proofs.completing.completing_two.Goals as goal
 

@@ -1,6 +1,6 @@
 use Rattle.std.proofs.Common.{◌≡◌, ◌↔◌, ◌∷◌, [], Contains, Some, subst, arith}
 use Rattle.re_labels.specs.Sets.{IsIn}
-use Rattle.re_table.specs.Constraints.{Has}
+use Rattle.re_labels.specs.Constraints.{Has}
 use Rattle.re_step.specs.Completing.{IsRight}
 use Rattle.re_step.proofs.completing.held_for.Goals as goal
 

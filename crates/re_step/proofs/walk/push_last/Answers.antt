@@ -1,6 +1,6 @@
 use Rattle.re_step.proofs.WalkLemmas.{added_lasts}
 use Rattle.re_step.proofs.walk.push_last.Goals as goal
-use Rattle.re_table.specs.declared.constraint_table.TheConstants.{MAX_CONFIGURATIONS}
+use Rattle.re_labels.specs.declared.constraint_table.TheConstants.{MAX_CONFIGURATIONS}
 use Rattle.std.proofs.Common.{rules, ◌<◌, ◌∙◌, length, subst}
 
 pub returns-in-Ok-clause-found : goal.returns-in-Ok-clause-found

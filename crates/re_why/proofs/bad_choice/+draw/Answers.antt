@@ -7,7 +7,7 @@ use Rattle.re_why.specs.BadChoice.{begins, first_behind, is_bad}
 use Rattle.re_labels.proofs.Patterns.{others-are, parted}
 use Rattle.re_labels.proofs.Numbers.{IsLabelSet-filter}
 use Rattle.re_labels.specs.Sets.{IsLabelSet}
-use Rattle.re_table.proofs.SaidChoices.{popped-is, rest-lighter}
+use Rattle.re_labels.proofs.SaidChoices.{popped-is, rest-lighter}
 use Rattle.re_why.proofs.bad_choice.+draw.Goals as goal
 use Rattle.re_labels.specs.declared.TheConstants.{MAX_LABELS}
 

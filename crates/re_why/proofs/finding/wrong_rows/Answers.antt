@@ -3,10 +3,10 @@ use Rattle.std.specs.List.{AllByRecursion}
 use Rattle.std.specs.Prelude.{IfOk, Option}
 use Rattle.re_why.specs.Finding.{row_witness}
 use Rattle.re_why.specs.declared.witness.Witness.{Witness}
-use Rattle.re_table.specs.Constraints.{Constraint}
+use Rattle.re_labels.specs.Constraints.{Constraint}
 use Rattle.re_why.proofs.Dispatch.{rows-degree}
 use Rattle.re_why.proofs.finding.wrong_rows.Goals as goal
-use Rattle.re_table.proofs.ConstraintImages.{configs-below}
+use Rattle.re_labels.proofs.ConstraintImages.{configs-below}
 
 pub row_witness-requires-clause-degrees : goal.row_witness-requires-clause-degrees
 row_witness-requires-clause-degrees c = subst (λ (k : Constraint). AllByRecursion (λ row. length row ≡ k.degree) c.args.rows.now) (sym c.passive.ensures.passive) (rows-degree c.args.before.now c.args.rows.now c.requires.fits)

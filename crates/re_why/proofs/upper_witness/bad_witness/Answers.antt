@@ -3,7 +3,7 @@ use Rattle.std.specs.List.{AllByRecursion}
 use Rattle.re_labels.specs.Rows.{set_at}
 use Rattle.re_labels.proofs.Membership.{length-map'}
 use Rattle.re_problem.specs.Steps.{set_for}
-use Rattle.re_table.specs.GoodRows.{is_good}
+use Rattle.re_labels.specs.GoodRows.{is_good}
 use Rattle.re_why.proofs.Holding.{found-count, found-held}
 use Rattle.re_labels.specs.declared.TheConstants.{MAX_LABELS}
 use Rattle.re_why.proofs.upper_witness.bad_witness.Goals as goal

@@ -1,7 +1,7 @@
 use Rattle.std.proofs.Common.{◌≡◌, [], ap, arith, length, slice_index_or, sym, ◌∙◌}
 use Rattle.std.proofs.lemmas.List.{ext_get_or}
 use Rattle.re_words.proofs.TablingLemmas.{constraints_differ, constraints_same, unlike_bytes}
-use Rattle.re_table.specs.Constraints.{Constraint}
+use Rattle.re_labels.specs.Constraints.{Constraint}
 use Rattle.re_words.proofs.tabling.are_same_constraints.Goals as goal
 
 pub returns-then-len : goal.returns-then-len

@@ -2,7 +2,7 @@ use Rattle.re_words.proofs.WorkingLemmas.{sets_below}
 use Rattle.re_problem.specs.NamedProblems.{unnamed}
 use Rattle.re_step.specs.Derivations.{Derivation}
 use Rattle.re_step.proofs.NameLemmas.{length-label_names}
-use Rattle.re_table.specs.GoodRows.{max_sets}
+use Rattle.re_labels.specs.GoodRows.{max_sets}
 use Rattle.std.proofs.Common.{ap, length, sym, ◌∙◌}
 use Rattle.re_words.proofs.working.derived_output.Goals as goal
 

@@ -7,7 +7,7 @@ use Rattle.re_labels.specs.Sets.{IsLabelSet}
 use Rattle.re_problem.specs.declared.fault.InputFault.TheVariants.{TooManyConfigurations as TooManyInBlock}
 use Rattle.re_problem.proofs.FedConfigs.{active_many, passive_many, row_labelled, takes_active, takes_passive}
 use Rattle.re_problem.proofs.text_reader.TextReader.add_sets.Goals as goal
-use Rattle.re_table.specs.declared.constraint_table.TheConstants.{MAX_CONFIGURATIONS}
+use Rattle.re_labels.specs.declared.constraint_table.TheConstants.{MAX_CONFIGURATIONS}
 use Rattle.re_labels.specs.declared.TheConstants.{MAX_LABELS}
 
 pub spell-requires-clause-sets : goal.spell-requires-clause-sets

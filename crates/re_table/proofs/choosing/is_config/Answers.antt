@@ -1,5 +1,0 @@
-use Rattle.re_table.proofs.SaidChoices.{found-is}
-use Rattle.re_table.proofs.choosing.is_config.Goals as goal
-
-pub returns : goal.returns
-returns c = found-is c.args.constraint.now c.args.labels.now c.from_labels.result c.contains.result c.contains.ensures c.from_labels.ensures

@@ -167,7 +167,7 @@ GROUPS = [
             ("re_settle", "Classes.class_of", None),
             ("re_evidence", "OnForests.ClassOnForests", None),
             ("re_given_words", "Counting.CountMeans", None),
-            ("re_given_words", "Meanings.AnswerMeans", None),
+            ("re_settings", "Meanings.AnswerMeans", None),
             ("re_graph_words", "SolveWords.AnswerMeans", None),
         ],
         ["kept_steps"],

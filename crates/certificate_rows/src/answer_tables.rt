@@ -1,5 +1,6 @@
 //! Tables of algorithms: what is no table, what one answers, and whether it solves a problem.
-use re_algo::{Table, TableVerdict, first_choice, solves};
+use re_algo::{Table, TableVerdict, solves};
+use re_choice::first_choice;
 use re_labels::{Config, Constraint, Degrees, InsertFault, LabelSet, NoMemory, PortLabels, Side};
 use re_laws::{View, all_views};
 use re_problem::{Problem, read_problem};

@@ -1,7 +1,6 @@
 pub mod Choosing
 pub mod Constructions
 pub mod Counting
-pub mod FirstChoice
 pub mod Laws
 pub mod PlaceLaws
 pub mod SeenRows

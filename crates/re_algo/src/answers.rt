@@ -1,9 +1,10 @@
 //! Tests of answers.
 ghost use Rattle.re_labels.specs.Constraints.{has_config};
 ghost use Rattle.std.specs.List.{list_all, position};
-ghost use Rattle.std.specs.Prelude.{◌≡◌, ◌<◌, ◌==◌, length, nat_lt, not};
+ghost use Rattle.std.specs.Prelude.{◌≡◌, ◌==◌, length, not};
 
-use re_labels::{Config, Constraint, MAX_LABELS, PortLabels};
+use re_choice::are_labels;
+use re_labels::{Config, Constraint, PortLabels};
 
 // Whether each answer has so many labels.
 pub(crate) fn all_have(answers: &[PortLabels], count: u8) -> bool
@@ -12,13 +13,6 @@ pub(crate) fn all_have(answers: &[PortLabels], count: u8) -> bool
     answers
         .iter()
         .all(|labels| labels.labels().len() == usize::from(count))
-}
-
-/// Whether each label is one that a problem may have.
-pub fn are_labels(labels: &[u8]) -> bool
-    ensures { result ≡ list_all (λ label. nat_lt label MAX_LABELS) labels.now }
-{
-    labels.iter().all(|label| *label < MAX_LABELS)
 }
 
 // Whether the multiset of the labels is a configuration.

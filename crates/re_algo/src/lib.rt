@@ -1,12 +1,9 @@
 //! Algorithms written out as tables: whether one solves a problem, and the tables with one round less and more.
 //!
-//! The first choice of one label of each of some sets that is a configuration.
-//!
 //! How many views there are, and the place of each among all of them.
 #![tactic(auto)]
 
 mod answers;
-mod choice;
 mod counting;
 mod laws;
 mod place_laws;
@@ -18,8 +15,6 @@ mod solving;
 mod speeding;
 mod table;
 
-pub use answers::are_labels;
-pub use choice::{are_sets, first_choice, fixed};
 pub use counting::{MAX_VIEWS, view_count};
 pub use laws::{given_law, seen_law, verdict_law};
 pub use place_laws::{fewer_views_law, place_law};

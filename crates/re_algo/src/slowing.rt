@@ -16,11 +16,11 @@ ghost use Rattle.std.specs.List.{AllByRecursion};
 ghost use Rattle.std.specs.Prelude.{◌≡◌, ◌≤◌, ◌<◌, ◌+◌, ◌∷◌, ◌↔◌, Err, IfOk, IsNone, length, map, suc};
 
 use crate::Table;
-use crate::choice::first_choice;
 use crate::counting::view_count;
 use crate::seen::back_of;
 use crate::sets::set_at;
 use arrayvec::ArrayVec;
+use re_choice::first_choice;
 use re_labels::{Constraint, LabelSet, NoMemory, PortLabels, Side};
 use re_laws::{View, all_views, shift};
 use re_problem::Problem;

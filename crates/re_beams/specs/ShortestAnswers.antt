@@ -2,8 +2,9 @@
 use Rattle.std.specs.Prelude.{◌≡◌, ℕ}
 use Rattle.re_cert.specs.Bounds.{Bound}
 use Rattle.re_cert.specs.declared.certificate.Kind.TheVariants.{Upper}
-use Rattle.re_given_words.specs.Settings.{GoesOnIn, IsTakenIn}
-use Rattle.re_given_words.specs.declared.setting.Setting.{Setting}
+use Rattle.re_given_words.specs.Extensions.{GoesOnIn}
+use Rattle.re_settings.specs.Settings.{IsTakenIn}
+use Rattle.re_settings.specs.declared.setting.Setting.{Setting}
 use Rattle.re_beams.specs.declared.shortening.Shortest.{Shortest}
 use Rattle.re_beams.specs.declared.shortening.Shortest.TheVariants.{Found, NotFound}
 

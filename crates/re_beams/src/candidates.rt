@@ -11,7 +11,7 @@ const GROUPS: usize = 3;
 /// A problem on a level: the place in the beam before of the problem whose derived problem it was made of, the labels that those of the
 /// derived problem have become, the number that tells it from others, and its rank.
 #[derive(Drop)]
-pub struct Kept {
+pub(crate) struct Kept {
     /// The problem.
     pub problem: Problem,
     /// The place of the one before.
@@ -34,7 +34,7 @@ struct Group {
 
 /// The best candidates of the three greatest numbers of labels, the greatest first; at most so many stay.
 #[derive(Drop)]
-pub struct Candidates {
+pub(crate) struct Candidates {
     alloc: Global,
     width: usize,
     groups: Vec<Group>,
@@ -54,7 +54,7 @@ fn kept_of(alloc: Global, state: &State, parent: usize) -> Result<Kept, NoMemory
 }
 
 /// The first problem of a search as the one candidate of its level.
-pub fn first_kept(alloc: Global, problem: &Problem) -> Result<Vec<Kept>, NoMemory> {
+pub(crate) fn first_kept(alloc: Global, problem: &Problem) -> Result<Vec<Kept>, NoMemory> {
     let mut kept = Vec::new(alloc);
     kept.push(Kept {
         problem: problem.copy()?,
@@ -99,7 +99,7 @@ impl Group {
 
 impl Candidates {
     /// No candidates yet, and at most so many that stay.
-    pub fn new(alloc: Global, width: usize) -> Candidates {
+    pub(crate) fn new(alloc: Global, width: usize) -> Candidates {
         Candidates {
             alloc,
             width,
@@ -108,7 +108,7 @@ impl Candidates {
     }
 
     /// Whether problems of so many labels may still count.
-    pub fn is_open(&self, labels: usize) -> bool {
+    pub(crate) fn is_open(&self, labels: usize) -> bool {
         match self.groups.as_slice().get(GROUPS - 1) {
             Some(group) => group.labels <= labels,
             None => true,
@@ -116,7 +116,7 @@ impl Candidates {
     }
 
     /// Whether a candidate of so many labels, of this rank and this number would stay, and isn't there.
-    pub fn takes(&self, labels: usize, rank: u64, mark: u64) -> bool {
+    pub(crate) fn takes(&self, labels: usize, rank: u64, mark: u64) -> bool {
         for group in self.groups.as_slice() {
             if group.labels == labels {
                 return group.takes(rank) && !group.has(mark);
@@ -126,7 +126,7 @@ impl Candidates {
     }
 
     /// Puts the candidate, which it takes, into its group, or into a new one.
-    pub fn put(&mut self, kept: Kept) -> Result<(), NoMemory> {
+    pub(crate) fn put(&mut self, kept: Kept) -> Result<(), NoMemory> {
         let labels = kept.problem.names().len();
         for group in self.groups.as_mut_slice() {
             if group.labels == labels {
@@ -146,7 +146,7 @@ impl Candidates {
     }
 
     /// Offers the problem of the inner beam as a candidate.
-    pub fn offer(&mut self, state: &State, parent: usize) -> Result<(), NoMemory> {
+    pub(crate) fn offer(&mut self, state: &State, parent: usize) -> Result<(), NoMemory> {
         let labels = state.made.problem().names().len();
         if self.takes(labels, state.rank, state.mark) {
             let kept = kept_of(self.alloc, state, parent)?;
@@ -157,7 +157,7 @@ impl Candidates {
 
     /// Appends those that stay, without the one of this number if any, and without those that aren't told to be unsolvable behind so many
     /// steps.
-    pub fn choose(
+    pub(crate) fn choose(
         &mut self,
         beam: &mut Vec<Kept>,
         without: Option<u64>,

@@ -1,6 +1,7 @@
 //! The certificate of the longest path.
 ghost use Rattle.re_cert.specs.declared.certificate.Kind.TheVariants.{Lower};
-ghost use Rattle.re_given_words.specs.Settings.{GoesOnIn, IsSettingOf, IsTakenIn};
+ghost use Rattle.re_given_words.specs.Extensions.{GoesOnIn};
+ghost use Rattle.re_settings.specs.Settings.{IsSettingOf, IsTakenIn};
 ghost use Rattle.re_problem.specs.NamedProblems.{unnamed};
 ghost use Rattle.std.specs.Prelude.{IfOk, IfSome};
 
@@ -8,8 +9,9 @@ use crate::given::Given;
 use crate::longest_beam::{longest_merged, longest_route};
 use re_cert::{Certificate, Kind, MAX_STEPS};
 use re_chains::LowerChain;
-use re_given_words::{Setting, extended_in, repeated_in};
+use re_given_words::{extended_in, repeated_in};
 use re_labels::NoMemory;
+use re_settings::Setting;
 use re_shaping::{Extension, Route, route_steps, takes_merges};
 use std::alloc::Global;
 

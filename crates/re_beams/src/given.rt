@@ -2,16 +2,15 @@
 ghost use Rattle.re_given.specs.Inputs.{IsInput};
 ghost use Rattle.re_problem.specs.NamedProblems.{unnamed};
 
-use re_fit::{FitFault, find_fit, input_fault};
-use re_given_words::{FEW_TRIES, Setting};
 use re_inputs::exchanged;
 use re_labels::{LabelSet, NoMemory};
 use re_problem::Problem;
+use re_settings::{FEW_TRIES, FitFault, Setting, find_fit, input_fault};
 use std::alloc::Global;
 
 /// What is told of a problem that isn't solvable without communication.
 #[derive(Drop)]
-pub enum Told {
+pub(crate) enum Told {
     /// It is solvable in 0 rounds, by a set of its labels for each input label.
     Solvable(Vec<LabelSet>),
     /// It isn't.
@@ -29,7 +28,7 @@ struct Inputs {
 
 /// What is given behind a search's first problem: nothing, or a solution of an input problem.
 #[derive(Drop)]
-pub struct Given {
+pub(crate) struct Given {
     inputs: Option<Inputs>,
 }
 
@@ -55,13 +54,17 @@ fn told_if(alloc: Global, problem: &Problem, input: &Problem) -> Result<Told, No
 
 impl Given {
     /// Nothing.
-    pub fn nothing() -> Given {
+    pub(crate) fn nothing() -> Given {
         Given { inputs: None }
     }
 
     /// What is given in a setting of a chain's first problem, for a search behind so many steps. What is solvable with it is told by at most
     /// `FEW_TRIES` tries for each problem.
-    pub fn behind(alloc: Global, setting: &Setting, steps: usize) -> Result<Given, NoMemory> {
+    pub(crate) fn behind(
+        alloc: Global,
+        setting: &Setting,
+        steps: usize,
+    ) -> Result<Given, NoMemory> {
         let Setting::Given(input) = setting else {
             return Ok(Given { inputs: None });
         };
@@ -81,7 +84,12 @@ impl Given {
     }
 
     /// What is told of the problem behind so many steps of the search, which isn't solvable without communication.
-    pub fn told(&self, alloc: Global, problem: &Problem, steps: usize) -> Result<Told, NoMemory> {
+    pub(crate) fn told(
+        &self,
+        alloc: Global,
+        problem: &Problem,
+        steps: usize,
+    ) -> Result<Told, NoMemory> {
         let Some(inputs) = &self.inputs else {
             return Ok(Told::Unsolvable);
         };
@@ -93,7 +101,7 @@ impl Given {
     }
 
     /// Whether it is told not to be solvable.
-    pub fn is_open(
+    pub(crate) fn is_open(
         &self,
         alloc: Global,
         problem: &Problem,

@@ -12,7 +12,7 @@
 //! a number of 64 bits that is mixed of their configurations is: a rare mistake loses a candidate, and nothing else rests on it.
 //!
 //! **Given an input problem** a path ends at a problem that is solvable in 0 rounds given it: given the input problem with its sides
-//! exchanged as often as there are steps from the chain's first problem. `re_fit::find_fit` tells whether it is; where its tries don't suffice, it
+//! exchanged as often as there are steps from the chain's first problem. `re_settings::find_fit` tells whether it is; where its tries don't suffice, it
 //! counts as not known.
 //!
 //! # Long lower bounds

@@ -1,6 +1,7 @@
 //! The certificate of the shortest path.
 ghost use Rattle.re_cert.specs.declared.certificate.Kind.TheVariants.{Upper};
-ghost use Rattle.re_given_words.specs.Settings.{GoesOnIn, IsSettingOf};
+ghost use Rattle.re_given_words.specs.Extensions.{GoesOnIn};
+ghost use Rattle.re_settings.specs.Settings.{IsSettingOf};
 ghost use Rattle.re_beams.specs.ShortestAnswers.{Answers, MayAnswer};
 ghost use Rattle.re_problem.specs.NamedProblems.{unnamed};
 ghost use Rattle.std.specs.Prelude.{IfOk, IfSome};
@@ -9,8 +10,9 @@ use crate::given::Given;
 use crate::shortest_beam::{Climb, shortest_path};
 use re_cert::{Certificate, Kind, MAX_STEPS, Step};
 use re_chains::UpperChain;
-use re_given_words::{Setting, extended_in, is_taken, repeated_in};
+use re_given_words::{extended_in, repeated_in};
 use re_labels::NoMemory;
+use re_settings::{Setting, is_taken};
 use re_shaping::Extension;
 use std::alloc::Global;
 

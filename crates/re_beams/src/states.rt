@@ -4,7 +4,7 @@ use re_changes::Changed;
 /// A problem of an inner beam: what changes have made of a derived problem, the number that tells it from others, and its rank: those of
 /// the least ranks stay.
 #[derive(Drop)]
-pub struct State {
+pub(crate) struct State {
     /// What changes have made.
     pub made: Changed,
     /// The number that tells it from others.
@@ -14,7 +14,7 @@ pub struct State {
 }
 
 /// Whether one of the problems has this number.
-pub fn has_mark(states: &[State], mark: u64) -> bool {
+pub(crate) fn has_mark(states: &[State], mark: u64) -> bool {
     for state in states {
         if state.mark == mark {
             return true;

@@ -29,6 +29,7 @@ use Rattle.re_check.specs.Clauses.{are_exchanged, step_fault}
 use Rattle.re_bridge.proofs.Beginnings.{set_beginnings}
 use Rattle.re_bridge.proofs.Meeting.{passes-row_step, passes-step, row_step-passes, rows-whole, step-passes}
 use Rattle.re_bridge.proofs.RowBeginnings.{row_beginnings}
+use Rattle.re_walks.proofs.FirstEntries.{low-append}
 use Rattle.re_walks.proofs.WalkLemmas.{walk_law}
 use Rattle.re_bridge.specs.Bridges.{IsFound, entries_for, image_of, images_for, missing, over, passes_by_row, passes_by_set, row_bridge, rows_of, set_bridge, sets_of, step_by, walk_by_row, walk_by_set}
 use Rattle.re_bridge.specs.Laws.{BridgeLaw, IsAnswer, IsBridge, Meets, image_labels}
@@ -77,11 +78,6 @@ module _ (before next : NamedProblem) (is : IsNamedProblem before) (next_is : Is
   step_exchanged (by_row images) met =
       let step : IsLowerStepByRow (unnamed before) (unnamed next) (rows_of before) images = (lower_clauses before (step_by before next (by_row images)) refl).0 met in
       true-and _ _ (ap (λ d. eqb d before.passive.degree) step.active_degree ∙ eqb-same before.passive.degree) (ap (λ d. eqb d before.active.degree) step.passive_degree ∙ eqb-same before.active.degree)
-
--- ---- maps by rows
-pub low-append : (n : ℕ) (xs ys : List ℕ) → AllByRecursion (λ x. x < n) xs → AllByRecursion (λ x. x < n) ys → AllByRecursion (λ x. x < n) (xs ++ ys)
-low-append n [] ys a b = b
-low-append n (x ∷ xs) ys a b = (a.0, low-append n xs ys a.1 b)
 
 -- images of d labels each
 abbrev Alike : ℕ → List (List ℕ) → Type 0

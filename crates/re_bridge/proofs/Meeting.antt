@@ -8,16 +8,15 @@ use Rattle.re_labels.specs.Lists.{count_from}
 use Rattle.re_labels.proofs.Goodness.{Has-has_config, has_config-Has}
 use Rattle.re_labels.proofs.MaxSets.{max_sets-row}
 use Rattle.re_labels.specs.Constraints.{Constraint, Has, has_config}
-use Rattle.re_labels.specs.GoodRows.{allowed}
 use Rattle.re_problem.specs.NamedProblems.{NamedProblem, unnamed}
-use Rattle.re_problem.specs.Steps.{IsLowerStepByRow, IsLowerStepBySet, SetEntry, entry_sets, label_at, label_of}
+use Rattle.re_problem.specs.Steps.{IsLowerStepByRow, IsLowerStepBySet, SetEntry, entry_sets, label_of}
 use Rattle.re_problem.specs.Steps.LowerMap.{by_row, by_set}
 use Rattle.re_check.proofs.RowSets.{HasSetsOf}
 use Rattle.re_check.specs.RowEntries.{row_entries}
-use Rattle.re_check.specs.StepClauses.{KeepsAllowed}
 use Rattle.re_check.proofs.StepMeaning.{all_held, all_there, by_row-tells, lower_clauses}
 use Rattle.re_check.specs.Clauses.{are_exchanged, keep_allowed, keep_allowed_by_row, keep_images, step_fault}
 use Rattle.re_bridge.proofs.SetTests.{has_entries-sets, sets-has_entries}
+use Rattle.re_walks.proofs.FirstEntries.{allowed-kept, kept-allowed}
 use Rattle.re_walks.specs.Begun.{is_begun}
 use Rattle.re_bridge.specs.Bridges.{entries_for, has_entries, images_for, keep_rows_so_far, passes_by_row, passes_by_set, rest_of, rows_of, sets_of, step_by}
 
@@ -43,12 +42,6 @@ kept-so_far active rows entries kept =
     go : (row : List (List ℕ)) (b : Bool) → b ≡ has_entries entries row → (HasSetsOf entries row → Has active (map (label_of entries) row)) → (not b || has_config active (map (label_of entries) row)) ≡ true
     go row true e means = Has-has_config active (map (label_of entries) row) (means (has_entries-sets entries row (sym e)))
     go row false e means = refl
-
-pub allowed-kept : (before passive : Constraint) (entries : List SetEntry) → keep_allowed before passive entries ≡ true → KeepsAllowed entries before passive
-allowed-kept before passive entries t = all_there _ (λ places. Has passive (map (label_at entries) places)) (allowed before (entry_sets entries) before.degree) (λ places. has_config-Has passive (map (label_at entries) places)) t
-
-pub kept-allowed : (before passive : Constraint) (entries : List SetEntry) → KeepsAllowed entries before passive → keep_allowed before passive entries ≡ true
-kept-allowed before passive entries kept = all_held _ (λ places. Has passive (map (label_at entries) places)) (allowed before (entry_sets entries) before.degree) (λ places. Has-has_config passive (map (label_at entries) places)) kept
 
 -- with a label for each set the entries have all sets
 pub all_sets : (sets : List (List ℕ)) (labels : List ℕ) → length labels ≡ length sets → entry_sets (row_entries sets labels) ≡ sets

@@ -20,9 +20,9 @@ use Rattle.re_check.proofs.StepMeaning.{all_there, by_row-tells}
 use Rattle.re_check.specs.Clauses.{are_exchanged, keep_allowed_by_row, keep_images, sets_in}
 use Rattle.re_check.proofs.StepTests.{occurs-listed}
 use Rattle.re_problem.proofs.Walks.{count_from_split}
-use Rattle.re_bridge.proofs.Beginnings.{choice-front}
 use Rattle.re_bridge.proofs.Meeting.{rows-whole, whole-test}
 use Rattle.re_bridge.specs.Bridges.{image_of, images_for, passes_by_row, rest_of, rows_of}
+use Rattle.re_walks.proofs.FirstEntries.{choice-front}
 use Rattle.re_walks.proofs.ConfigBeginnings.{begun, low-drop, low-take}
 use Rattle.re_walks.specs.Begun.{is_begun}
 use Rattle.re_walks.specs.Walking.{BeginningsPass}

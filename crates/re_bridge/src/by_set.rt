@@ -1,7 +1,6 @@
 //! Whether labels for the first sets begin a map by sets.
 ghost use Rattle.re_bridge.specs.Bridges.{has_entries, keep_rows_so_far, passes_by_set, rows_of, sets_of};
 ghost use Rattle.re_check.specs.Clauses.{are_exchanged, keep_allowed};
-ghost use Rattle.re_check.specs.RowEntries.{row_entries};
 ghost use Rattle.re_labels.specs.Lists.{IsRising};
 ghost use Rattle.re_labels.specs.Sets.{number};
 ghost use Rattle.re_problem.specs.Steps.{entry_sets, label_of};
@@ -13,26 +12,8 @@ use re_cert::SetEntry;
 use re_check::{keeps_allowed, place_for, row_image};
 use re_labels::{Constraint, LabelSet, MAX_LABELS, NoMemory, Row};
 use re_problem::Problem;
+use re_walks::entries_for;
 use std::alloc::Global;
-
-/// The entries of the first sets, each with its label.
-pub fn entries_for(
-    alloc: Global,
-    sets: &[LabelSet],
-    labels: &[u8],
-) -> Result<Vec<SetEntry>, NoMemory>
-    requires { length labels.now ≤ length sets.now }
-    ensures { IfOk result (λ entries. entries.items ≡ row_entries sets.now labels.now) }
-{
-    let mut entries = Vec::new(alloc);
-    for (place, label) in labels.iter().enumerate() {
-        entries.push(SetEntry {
-            set: sets[place],
-            label: *label,
-        })?;
-    }
-    Ok(entries)
-}
 
 // Whether each set of the row has an entry.
 fn has_entries(entries: &[SetEntry], row: &Row) -> bool

@@ -6,13 +6,13 @@ ghost use Rattle.re_check.specs.Clauses.{are_exchanged};
 ghost use Rattle.std.specs.Prelude.{◌≡◌, ◌≤◌, Err, IfOk, MatchOption, length, false, true};
 
 use crate::by_row::images_for;
-use crate::by_set::entries_for;
 use crate::walking::{walk_by_row, walk_by_set};
 use re_cert::{LowerMap, StepParts};
 use re_check::are_exchanged;
 use re_labels::{LabelSet, MAX_ROWS, NoMemory, Row};
 use re_problem::Problem;
 use re_step::{RowsFault, maximal_rows, sets_of_rows};
+use re_walks::entries_for;
 use std::alloc::Global;
 
 /// Why it isn't known whether there is a bridge.

@@ -13,7 +13,6 @@ mod within;
 ghost use Rattle.re_bridge.specs.Laws.{BridgeLaw};
 ghost use Rattle.re_bridge.specs.Reductions.{LeastLabelsLaw, ReducedRoundsLaw, ReductionLaw};
 
-pub use by_set::entries_for;
 pub use finding::{BridgeFault, find_bridge};
 pub use reducing::{ReduceFault, reduce};
 

@@ -13,14 +13,14 @@ use Rattle.re_labels.proofs.Replacing.{has-support_of}
 use Rattle.re_labels.proofs.Sorting.{Rearranged-sorted}
 use Rattle.re_labels.specs.Configs.{image_at, sorted}
 use Rattle.re_check.proofs.Telling.{read-held}
-use Rattle.re_fit.specs.InputProblems.{input_fault}
+use Rattle.re_settings.specs.InputProblems.{input_fault}
 use Rattle.re_given.proofs.MappingGiven.{IsInput-same, SolvableGiven-relaxed}
 use Rattle.re_given.specs.Given.{SolvableGiven}
 use Rattle.re_given.specs.Inputs.{IsInput}
-use Rattle.re_given_words.specs.GivenTexts.{given_input, given_problem}
-use Rattle.re_given_words.specs.InputFaults.{or_input_fault}
+use Rattle.re_settings.specs.GivenTexts.{given_input, given_problem}
+use Rattle.re_settings.specs.InputFaults.{or_input_fault}
 use Rattle.re_given_words.specs.ProductTexts.{made_or_refused, product_answer, product_outcome, product_refusal}
-use Rattle.re_given_words.specs.declared.texts.GivenTexts.{GivenTexts}
+use Rattle.re_settings.specs.declared.texts.GivenTexts.{GivenTexts}
 use Rattle.re_chains.specs.OverChains.{or_fault}
 use Rattle.re_inputs.proofs.ProductProofs.{as_solvable_named}
 use Rattle.re_inputs.specs.NamedProducts.{ProductRefuses, named_product, product_fault}

@@ -16,14 +16,14 @@ use Rattle.re_frame.proofs.Said.{fault_says}
 use Rattle.re_frame.specs.Check.{clause_name, is_final, verdict_outcome}
 use Rattle.re_frame.specs.Outcomes.{Outcome, limit, limit_of, refused}
 use Rattle.re_frame.specs.Runs.{MaySay}
-use Rattle.re_frame.specs.StepLimits.{limit_line}
+use Rattle.re_limits.specs.StepLimits.{limit_line}
 use Rattle.re_frame.specs.TextFaults.{fault_outcome}
 use Rattle.re_frame.specs.declared.status.Status.TheVariants.{Done, Limit, No}
 use Rattle.re_step.specs.declared.derivation.StepLimit.TheVariants.{Rows}
 use Rattle.re_labels.proofs.Tests.{eqb-same, true-and}
 use Rattle.re_check.specs.Clauses.{are_exchanged}
-use Rattle.re_fit.specs.Fits.{fit_walk}
-use Rattle.re_fit.specs.Laws.{TellsUpper, UpperWalkLaw}
+use Rattle.re_settings.specs.Fits.{fit_walk}
+use Rattle.re_settings.specs.Laws.{TellsUpper, UpperWalkLaw}
 use Rattle.re_given.specs.Inputs.{exchanged}
 use Rattle.re_walks.specs.Walking.{Walk, cut, found, nowhere}
 use Rattle.re_bridge.specs.Bridges.{Bridge, bridge_of, cut_off, has_many_rows, missing, over}

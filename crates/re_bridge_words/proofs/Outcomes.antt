@@ -14,16 +14,16 @@ use Rattle.re_chains.specs.OverChains.{or_refusal, steps_refusal}
 use Rattle.re_frame.proofs.Said.{check_says}
 use Rattle.re_frame.specs.Outcomes.{Outcome, limit, limit_of}
 use Rattle.re_frame.specs.Runs.{MaySay}
-use Rattle.re_frame.specs.StepLimits.{limit_line}
+use Rattle.re_limits.specs.StepLimits.{limit_line}
 use Rattle.re_step.specs.declared.derivation.StepLimit.TheVariants.{Rows}
 use Rattle.re_walks.specs.Walking.{Walk, cut, found, nowhere}
 use Rattle.re_bridge.specs.Bridges.{Bridge, bridge_of, cut_off, has_many_rows, missing, over}
 use Rattle.re_bridge.specs.Reductions.{reduced_of}
 use Rattle.re_chains.specs.Chains.{chain_of}
-use Rattle.re_fit.specs.InputProblems.{input_fault}
-use Rattle.re_fit.specs.declared.inputs.InputFault.{InputFault}
-use Rattle.re_given_words.specs.GivenTexts.{given_fault, given_input, given_problem}
-use Rattle.re_given_words.specs.InputFaults.{or_input_fault}
+use Rattle.re_settings.specs.InputProblems.{input_fault}
+use Rattle.re_settings.specs.declared.inputs.InputFault.{InputFault}
+use Rattle.re_settings.specs.GivenTexts.{given_fault, given_input, given_problem}
+use Rattle.re_settings.specs.InputFaults.{or_input_fault}
 use Rattle.re_given_words.specs.ProductTexts.{product_refusal}
 use Rattle.re_inputs.specs.NamedProducts.{named_product, product_fault}
 use Rattle.re_inputs.specs.declared.products.ProductFault.{ProductFault}

@@ -8,7 +8,7 @@ use Rattle.re_cert.specs.declared.certificate.TheConstants.{MAX_STEPS}
 use Rattle.re_chains.specs.Chains.{chain_of}
 use Rattle.re_chains.specs.OverChains.{IsTextOf, certificate_outcome, or_fault, or_refusal, steps_refusal}
 use Rattle.re_frame.specs.Outcomes.{Outcome, limit, limit_of, refused}
-use Rattle.re_frame.specs.StepLimits.{limit_line}
+use Rattle.re_limits.specs.StepLimits.{limit_line}
 use Rattle.re_step.specs.declared.derivation.StepLimit.TheVariants.{Rows}
 use Rattle.re_walks.specs.Walking.{Walk, cut, found, nowhere}
 use Rattle.re_bridge.specs.Bridges.{Bridge, bridge_of, cut_off, has_many_rows, missing, over}

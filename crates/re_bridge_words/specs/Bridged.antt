@@ -11,7 +11,7 @@ use Rattle.re_check.specs.Clauses.{are_exchanged}
 use Rattle.re_given.specs.Inputs.{exchanged}
 use Rattle.re_walks.specs.Walking.{Walk, found, nowhere}
 use Rattle.re_bridge.specs.Bridges.{bridge_of, missing, over, step_by}
-use Rattle.re_fit.specs.Fits.{entries_of, fit_walk, sets_for}
+use Rattle.re_settings.specs.Fits.{entries_of, fit_walk, sets_for}
 
 -- the steps with maps of one form: where some map is by rows, all are written by rows
 abbrev pub in_one_form : List BoundStep → List BoundStep

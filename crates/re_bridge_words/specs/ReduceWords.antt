@@ -7,12 +7,12 @@ use Rattle.re_laws.specs.Algorithms.{Solvable}
 use Rattle.re_given.specs.Given.{SolvableGiven}
 use Rattle.re_given.specs.Inputs.{IsInput}
 use Rattle.re_chains.specs.OverChains.{or_fault, problem_outcome}
-use Rattle.re_fit.specs.InputProblems.{input_fault}
+use Rattle.re_settings.specs.InputProblems.{input_fault}
 use Rattle.re_frame.specs.Outcomes.{Outcome, limit_of}
-use Rattle.re_given_words.specs.GivenTexts.{given_fault, given_input, given_problem}
-use Rattle.re_given_words.specs.InputFaults.{or_input_fault}
+use Rattle.re_settings.specs.GivenTexts.{given_fault, given_input, given_problem}
+use Rattle.re_settings.specs.InputFaults.{or_input_fault}
 use Rattle.re_given_words.specs.ProductTexts.{product_refusal}
-use Rattle.re_given_words.specs.declared.texts.GivenTexts.{GivenTexts}
+use Rattle.re_settings.specs.declared.texts.GivenTexts.{GivenTexts}
 use Rattle.re_inputs.specs.NamedProducts.{named_product, product_fault}
 use Rattle.re_inputs.specs.declared.products.ProductFault.{ProductFault}
 use Rattle.re_chains.specs.TwoTexts.{has_line}

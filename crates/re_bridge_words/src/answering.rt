@@ -18,10 +18,11 @@ use re_cert::{Certificate, Kind, MAX_STEPS};
 use re_chains::{
     Chain, LowerChain, UpperChain, certificate_output, chain, judged_chain, next_number, read_two,
 };
-use re_fit::FitFault;
-use re_frame::{Output, begun, fault_output, limit_of, limit_output, refused, verdict_output};
+use re_frame::{Output, begun, fault_output, limit_of, refused, verdict_output};
 use re_labels::NoMemory;
+use re_limits::limit_output;
 use re_problem::{Problem, TextFault};
+use re_settings::FitFault;
 use re_step::StepLimit;
 use std::alloc::Global;
 

@@ -14,7 +14,7 @@ ghost use Rattle.re_bridge_words.specs.ReduceWords.{ReducedGivenLaw};
 pub use answering::MAX_TRIES;
 pub use bridging::bridge;
 use re_bridge::bridge_law;
-use re_fit::upper_walk_law;
+use re_settings::upper_walk_law;
 pub use upper::bridge_upper;
 pub use words::{BridgeWord, bridge_help, bridge_word};
 

@@ -2,7 +2,7 @@
 ghost use Rattle.re_bridge.specs.Reductions.{reduced_of};
 ghost use Rattle.re_bridge_words.specs.ReduceWords.{IsReducedProductText, IsReducedText, ReduceWorth, WorthBy, Writes, given_outcome, plain_outcome, reduce_outcome, reduced_given, reduced_outcome, reduced_product};
 ghost use Rattle.re_bridge_words.specs.declared.answering.TheConstants.{MAX_TRIES};
-ghost use Rattle.re_fit.specs.InputProblems.{input_fault as fault_of};
+ghost use Rattle.re_settings.specs.InputProblems.{input_fault as fault_of};
 ghost use Rattle.re_frame.specs.Outcomes.{outcome_of};
 ghost use Rattle.re_frame.specs.declared.status.Status.TheVariants.{Done};
 ghost use Rattle.re_given.specs.Inputs.{IsInput};
@@ -15,12 +15,12 @@ ghost use Rattle.std.specs.Prelude.{◌≡◌, ◌≤◌, IfOk, None, Some, fals
 use crate::answering::MAX_TRIES;
 use re_bridge::{ReduceFault, reduce};
 use re_chains::{has_line, problem_output};
-use re_fit::input_fault;
 use re_frame::{Finding, Output, fault_output, limit_of};
-use re_given_words::{GIVEN, GivenTexts, GivenWord, input_fault_output, read_given};
+use re_given_words::GivenWord;
 use re_inputs::{ProductFault, product};
 use re_labels::NoMemory;
 use re_problem::{Problem, TextFault, read_problem};
+use re_settings::{GIVEN, GivenTexts, input_fault, input_fault_output, read_given};
 use std::alloc::Global;
 
 // What the word gives to a problem.

@@ -3,7 +3,7 @@ ghost use Rattle.re_bridge_words.specs.Bridged.{IsUpperBridged, upper_bridged, u
 ghost use Rattle.re_cert.specs.Bounds.{last_problem, one_form, step_fits, step_with};
 ghost use Rattle.re_chains.specs.Chains.{IsSoundChain, chain_with};
 ghost use Rattle.re_check.specs.Clauses.{step_fault};
-ghost use Rattle.re_fit.specs.Fits.{entries_of};
+ghost use Rattle.re_settings.specs.Fits.{entries_of};
 ghost use Rattle.re_labels.specs.declared.TheConstants.{MAX_LABELS};
 ghost use Rattle.re_problem.specs.NamedProblems.{unnamed};
 ghost use Rattle.re_problem.specs.Steps.{IsUpperStep};
@@ -14,9 +14,9 @@ use crate::appending::appended;
 use re_cert::{Certificate, Kind, MAX_STEPS, SetEntry, Step, StepParts};
 use re_chains::{UpperChain, over_problems};
 use re_check::{are_exchanged, upper_step_law};
-use re_fit::{FitFault, find_upper};
 use re_labels::{LabelSet, NoMemory};
 use re_problem::Problem;
+use re_settings::{FitFault, find_upper};
 use std::alloc::Global;
 
 // Each set with the label that is its place.
@@ -60,7 +60,7 @@ fn over(
     Ok(longer)
 }
 
-/// The chain with one step more, to the next problem, by the sets that `find_upper` of `re_fit` finds for its labels. None exactly where no
+/// The chain with one step more, to the next problem, by the sets that `find_upper` of `re_settings` finds for its labels. None exactly where no
 /// upper step leads there from the last problem of the chain. The chain has fewer than `re_cert::MAX_STEPS` steps;
 /// with the step it is sound, too. `TooManyTries` comes as `find_upper` tells. Beside what that costs, the steps are copied.
 pub fn bridge_upper(

@@ -4,7 +4,7 @@ use Rattle.re_cert.specs.Bounds.{Bound}
 use Rattle.re_shaping.specs.Merging.{merge_limit, merge_refusal, merged}
 use Rattle.re_chains.specs.OverChains.{certificate_outcome}
 use Rattle.re_frame.specs.Outcomes.{limit}
-use Rattle.re_frame.specs.StepLimits.{limit_line}
+use Rattle.re_limits.specs.StepLimits.{limit_line}
 use Rattle.re_step.specs.declared.derivation.StepLimit.{StepLimit}
 use Rattle.re_chain_words.specs.Shapings.{label_in, merge_outcome, or_merge_line, refusal_line}
 use Rattle.re_chain_words.specs.declared.labels.LabelWord.{LabelWord}

@@ -6,7 +6,7 @@ use Rattle.re_cert.specs.CertificateTexts.{certificate_fault, certificate_of, te
 use Rattle.re_cert.specs.declared.certificate.Kind.{Kind}
 use Rattle.re_cert.specs.declared.certificate.TheConstants.{MAX_STEPS}
 use Rattle.re_frame.specs.Outcomes.{Outcome, limit, limit_of}
-use Rattle.re_frame.specs.StepLimits.{limit_line}
+use Rattle.re_limits.specs.StepLimits.{limit_line}
 use Rattle.re_frame.specs.declared.status.Status.TheVariants.{Done}
 use Rattle.re_chains.specs.Chains.{chain_with}
 use Rattle.re_shaping.specs.Stepped.{stepped, stepping_fault}

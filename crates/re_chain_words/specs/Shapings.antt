@@ -4,7 +4,7 @@ use Rattle.re_labels.specs.Lists.{place_of}
 use Rattle.re_cert.specs.Bounds.{Bound, last_problem}
 use Rattle.re_frame.specs.Outcomes.{Outcome, limit, refused}
 use Rattle.re_frame.specs.SearchLines.{not_lower_line, not_upper_line}
-use Rattle.re_frame.specs.StepLimits.{limit_line}
+use Rattle.re_limits.specs.StepLimits.{limit_line}
 use Rattle.re_step.specs.declared.derivation.StepLimit.{StepLimit}
 use Rattle.re_shaping.specs.Dropping.{drop_refusal, dropped}
 use Rattle.re_shaping.specs.Merging.{merge_limit, merge_refusal, merged}

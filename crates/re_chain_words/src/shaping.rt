@@ -16,8 +16,9 @@ use crate::labels::{LabelWord, push_given};
 use crate::words::Shaping;
 use re_cert::{Certificate, MAX_STEPS};
 use re_chains::{certificate_output, next_number};
-use re_frame::{Output, begun, limit_of, limit_output, push_words, refused};
+use re_frame::{Output, begun, limit_of, push_words, refused};
 use re_labels::NoMemory;
+use re_limits::limit_output;
 use re_shaping::{
     ChainFault, ChainStepFault, MergeFault, Refusal, drop_label, drop_law, merge, merge_law,
     name_label, name_law, step, step_law,

@@ -13,9 +13,9 @@ use Rattle.re_cert.specs.declared.certificate.TheConstants.{MAX_STEPS}
 use Rattle.re_chains.specs.Chains.{IsOverProblems, IsSoundLower}
 use Rattle.re_chains.specs.OverChains.{or_refusal, refusal_of, steps_refusal}
 use Rattle.re_check.proofs.Meaning.{lower_chain, named-last}
-use Rattle.re_fit.proofs.Judged.{judged-none}
-use Rattle.re_fit.specs.InputProblems.{input_fault}
-use Rattle.re_fit.specs.declared.inputs.InputFault.{InputFault}
+use Rattle.re_settings.proofs.Judged.{judged-none}
+use Rattle.re_settings.specs.InputProblems.{input_fault}
+use Rattle.re_settings.specs.declared.inputs.InputFault.{InputFault}
 use Rattle.re_frame.specs.Outcomes.{Outcome, refused}
 use Rattle.re_frame.specs.declared.output.Output.{Output}
 use Rattle.re_frame.specs.declared.status.Status.TheVariants.{Done}
@@ -23,15 +23,16 @@ use Rattle.re_given.proofs.ChainGiven.{IsInput-lower}
 use Rattle.re_given.proofs.Ungiven.{SolvableGiven-ungiven}
 use Rattle.re_given.specs.Inputs.{IsInput}
 use Rattle.re_given_bounds.specs.GivenBounds.{IsOver, MeansGiven}
-use Rattle.re_given_words.specs.Extensions.{GoesOnGiven, IsTaken, Refuses, TakenLaw}
-use Rattle.re_given_words.specs.InputFaults.{or_input_fault}
-use Rattle.re_given_words.specs.Meanings.{AnswerLaw}
-use Rattle.re_given_words.specs.Settings.{IsTakenIn, TakenAloneLaw, input_of}
-use Rattle.re_given_words.specs.declared.setting.Setting.{Setting}
-use Rattle.re_given_words.specs.declared.setting.Setting.TheVariants as settings
-use Rattle.re_given_words.specs.Verdicts.{end_outcome, fit_with, given_outcome, lower_with}
-use Rattle.re_given_words.specs.Walks.{input_at, walk_at}
-use Rattle.re_given_words.specs.declared.words.BoundWord.TheVariants.{Fit}
+use Rattle.re_given_words.specs.Extensions.{GoesOnGiven, TakenLaw}
+use Rattle.re_settings.specs.Taken.{IsTaken, Refuses}
+use Rattle.re_settings.specs.InputFaults.{or_input_fault}
+use Rattle.re_settings.specs.Meanings.{AnswerLaw}
+use Rattle.re_settings.specs.Settings.{IsTakenIn, TakenAloneLaw, input_of}
+use Rattle.re_settings.specs.declared.setting.Setting.{Setting}
+use Rattle.re_settings.specs.declared.setting.Setting.TheVariants as settings
+use Rattle.re_settings.specs.Verdicts.{end_outcome, fit_with, given_outcome, lower_with}
+use Rattle.re_settings.specs.Walks.{input_at, walk_at}
+use Rattle.re_settings.specs.declared.bound_words.BoundWord.TheVariants.{Fit}
 use Rattle.re_laws.proofs.ZeroRounds.{Solvable-zero}
 use Rattle.re_laws.specs.Algorithms.{Solvable}
 use Rattle.re_laws.specs.Chains.{IsLowerChain}

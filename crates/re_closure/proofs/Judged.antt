@@ -14,7 +14,7 @@ use Rattle.re_closure.specs.DiagramTexts.{AreEdges}
 use Rattle.re_frame.specs.Check.{verdict_outcome}
 use Rattle.re_frame.specs.Outcomes.{Outcome, refused}
 use Rattle.re_frame.specs.SearchLines.{not_lower_line}
-use Rattle.re_given_words.specs.declared.setting.Setting.{Setting}
+use Rattle.re_settings.specs.declared.setting.Setting.{Setting}
 
 module _ (given : Bound) (diagram : Option (List (ℕ × ℕ))) (more : ℕ) (setting : Setting) (outcome : Outcome) where
   pub lower_may : (chain : LowerChain) → IsJudged given (Ok (Lower chain)) → MayFindBy diagram more setting chain.certificate outcome → MayGiveSound (steps_refusal given) diagram more setting given outcome

@@ -16,7 +16,7 @@ use Rattle.re_check.proofs.Meaning.{named-last}
 use Rattle.re_check.specs.Clauses.{step_fault}
 use Rattle.re_labels.specs.Configs.{IsConfig, image_at}
 use Rattle.re_frame.specs.Outcomes.{Outcome}
-use Rattle.re_given_words.specs.declared.setting.Setting.TheVariants.{Alone}
+use Rattle.re_settings.specs.declared.setting.Setting.TheVariants.{Alone}
 use Rattle.re_labels.proofs.Membership.{AllByRecursion-contains, length-map'}
 use Rattle.re_labels.proofs.Tests.{and-true, true-and}
 use Rattle.re_labels.specs.Lists.{count_from}
@@ -28,7 +28,7 @@ use Rattle.re_search.proofs.Paths.{fits-more, valid-more}
 use Rattle.re_closure.proofs.Joined.{IsLonger, is_formed, one_form-of}
 use Rattle.re_closure.proofs.RaisedJoined.{written_begun}
 use Rattle.re_closure.proofs.RaisedProblems.{raised-named, raised-relaxed}
-use Rattle.re_given_words.specs.declared.setting.Setting.TheVariants.{Alone}
+use Rattle.re_settings.specs.declared.setting.Setting.TheVariants.{Alone}
 use Rattle.re_closure.specs.ClosureWords.{IsRaisedLimitLine, IsRaisedLine, MayFindRaisedBehind, MayFindRaisedWithin, MayFindWithin, MayGoOnRaised}
 use Rattle.re_closure.specs.Diagrams.{raised}
 use Rattle.re_closure.specs.RaisedClosures.{raised_chain, step_to_raised}

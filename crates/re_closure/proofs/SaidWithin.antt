@@ -7,8 +7,9 @@ use Rattle.re_shaping.specs.Stepped.{stepped, stepping_fault}
 use Rattle.re_shaping.specs.declared.stepping.ChainStepFault.{ChainStepFault}
 use Rattle.re_frame.specs.Outcomes.{Outcome, outcome_of}
 use Rattle.re_frame.specs.declared.output.Output.{Output}
-use Rattle.re_given_words.specs.Settings.{GivesIn, GoesOnIn, text_outcome_in}
-use Rattle.re_given_words.specs.declared.setting.Setting.{Setting}
+use Rattle.re_given_words.specs.Extensions.{GoesOnIn}
+use Rattle.re_settings.specs.Settings.{GivesIn, text_outcome_in}
+use Rattle.re_settings.specs.declared.setting.Setting.{Setting}
 use Rattle.re_closure.specs.Closures.{HasRoom, IsClosed}
 use Rattle.re_closure.specs.ClosureWords.{Closes, IsFound, MayFindWithin, MayStep, stop_outcome}
 use Rattle.re_closure.specs.declared.going_on.Said.TheVariants.{Closed, Open}

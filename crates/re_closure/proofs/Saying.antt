@@ -20,13 +20,13 @@ use Rattle.re_frame.specs.Runs.{MaySay}
 use Rattle.re_closure.specs.declared.answering.ClosureWord.{ClosureWord}
 use Rattle.re_shaping.specs.Relaxing.{relaxed_limit}
 use Rattle.re_closure.specs.ClosureWords.{IsDeclined, IsRaisedLine, IsUnfound, MayFindBehind, MayFindBy, MayFindRaised, MayFindRaisedBehind, MayFindRaisedWithin, MayFindWithin, MayGive, MayGiveAt, MayGiveBy, MayGiveIn, MayGiveRead, MayGiveSound, MayGoOn, MayGoOnRaised, MayStep, stop_outcome}
-use Rattle.re_given_words.proofs.Saying.{given_says}
-use Rattle.re_given_words.proofs.SettingSays.{input_says, refusal_says, text_says}
-use Rattle.re_given_words.specs.SettingTexts.{parts_of}
-use Rattle.re_given_words.specs.declared.setting.Setting.{Setting}
-use Rattle.re_given_words.specs.declared.setting.Setting.TheVariants as settings
-use Rattle.re_given_words.specs.declared.setting.Setting.TheVariants.{Alone}
-use Rattle.re_given_words.specs.declared.words.BoundWord.TheVariants.{Given}
+use Rattle.re_settings.proofs.Saying.{given_says}
+use Rattle.re_settings.proofs.SettingSays.{input_says, refusal_says, text_says}
+use Rattle.re_settings.specs.SettingTexts.{parts_of}
+use Rattle.re_settings.specs.declared.setting.Setting.{Setting}
+use Rattle.re_settings.specs.declared.setting.Setting.TheVariants as settings
+use Rattle.re_settings.specs.declared.setting.Setting.TheVariants.{Alone}
+use Rattle.re_settings.specs.declared.bound_words.BoundWord.TheVariants.{Given}
 use Rattle.re_closure.specs.DiagramTexts.{diagram_edges, diagram_fault, front_chain, has_diagram}
 use Rattle.re_closure.specs.Diagrams.{raised}
 use Rattle.re_closure.specs.RaisedClosures.{raised_chain}

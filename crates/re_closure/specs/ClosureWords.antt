@@ -31,16 +31,17 @@ use Rattle.re_closure.specs.declared.types.ClosureLimit.TheVariants.{Combination
 use Rattle.re_frame.specs.Check.{verdict_outcome}
 use Rattle.re_frame.specs.Outcomes.{Outcome, limit, limit_of, outcome_of, refused}
 use Rattle.re_frame.specs.declared.output.Output.{Output}
-use Rattle.re_given_words.specs.Extensions.{IsTaken}
-use Rattle.re_given_words.specs.SettingTexts.{parts_of}
-use Rattle.re_given_words.specs.Settings.{GivesIn, GoesOnIn, IsFaultIn, IsRefusalIn, IsSettingOf, IsTakenIn, text_outcome_in}
-use Rattle.re_given_words.specs.Verdicts.{given_outcome}
-use Rattle.re_given_words.specs.declared.setting.Setting.{Setting}
-use Rattle.re_given_words.specs.declared.setting.Setting.TheVariants.{Alone, Given}
-use Rattle.re_given_words.specs.declared.words.BoundWord.TheVariants as word
+use Rattle.re_settings.specs.Taken.{IsTaken}
+use Rattle.re_settings.specs.SettingTexts.{parts_of}
+use Rattle.re_given_words.specs.Extensions.{GoesOnIn}
+use Rattle.re_settings.specs.Settings.{GivesIn, IsFaultIn, IsRefusalIn, IsSettingOf, IsTakenIn, text_outcome_in}
+use Rattle.re_settings.specs.Verdicts.{given_outcome}
+use Rattle.re_settings.specs.declared.setting.Setting.{Setting}
+use Rattle.re_settings.specs.declared.setting.Setting.TheVariants.{Alone, Given}
+use Rattle.re_settings.specs.declared.bound_words.BoundWord.TheVariants as word
 use Rattle.re_labels.specs.declared.TheConstants.{MAX_LABELS}
 use Rattle.re_frame.specs.SearchLines.{not_lower_line, solvable_line}
-use Rattle.re_frame.specs.StepLimits.{limit_line as step_line}
+use Rattle.re_limits.specs.StepLimits.{limit_line as step_line}
 use Rattle.re_frame.specs.TextFaults.{fault_outcome}
 use Rattle.re_printing.specs.SetTexts.{row_text}
 

@@ -8,7 +8,7 @@ use Rattle.re_closure.specs.declared.types.ClosureLimit.TheVariants.{Combination
 use Rattle.re_frame.specs.Outcomes.{Outcome, limit}
 use Rattle.re_closure.specs.ClosureWords.{IsClosureLine, IsRaisedLine, MayFind, MayFindRaised, limit_line}
 use Rattle.re_closure.specs.Diagrams.{raised}
-use Rattle.re_given_words.specs.declared.setting.Setting.TheVariants.{Alone}
+use Rattle.re_settings.specs.declared.setting.Setting.TheVariants.{Alone}
 
 -- a limit of the way to the closure: of the lines that come together, or of the combinations that are looked at
 abbrev pub IsOnWay : ClosureLimit → Type 0

@@ -6,8 +6,8 @@ ghost use Rattle.re_chains.specs.ChainTexts.{text_chain};
 ghost use Rattle.re_chains.specs.OverChains.{IsJudged, steps_refusal};
 ghost use Rattle.re_closure.specs.ClosureWords.{MayGive, MayGiveIn, MayGiveRead, MayGiveSound, closure_help, closure_with, closure_word_of, stop_outcome};
 ghost use Rattle.re_closure.specs.DiagramTexts.{AreEdges, diagram_edges, diagram_fault, front_chain};
-ghost use Rattle.re_given_words.specs.SettingTexts.{parts_of};
-ghost use Rattle.re_given_words.specs.declared.setting.Setting.TheVariants.{Alone};
+ghost use Rattle.re_settings.specs.SettingTexts.{parts_of};
+ghost use Rattle.re_settings.specs.declared.setting.Setting.TheVariants.{Alone};
 ghost use Rattle.re_frame.specs.Outcomes.{outcome_of};
 ghost use Rattle.re_io.specs.declared.read.TheConstants.{MAX_BYTES};
 ghost use Rattle.re_chains.specs.TwoTexts.{IsCut};
@@ -21,13 +21,11 @@ use crate::types::ClosureLimit;
 use re_cert::Certificate;
 use re_chains::{Chain, Cut, cut_at, judged_chain};
 use re_check::Verdict;
-use re_frame::{
-    Finding, Output, fault_output, limit_output as step_limit_output, not_lower_output,
-    verdict_output,
-};
-use re_given_words::{Setting, SettingTexts, input_refusal_in, read_in};
+use re_frame::{Finding, Output, fault_output, not_lower_output, verdict_output};
 use re_labels::NoMemory;
+use re_limits::limit_output as step_limit_output;
 use re_problem::{TextFault, read_number};
+use re_settings::{Setting, SettingTexts, input_refusal_in, read_in};
 use re_shaping::ChainStepFault;
 use std::alloc::Global;
 

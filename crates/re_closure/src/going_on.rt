@@ -2,7 +2,7 @@
 ghost use Rattle.re_closure.specs.Closures.{HasRoom, IsClosed};
 ghost use Rattle.re_closure.specs.ClosureWords.{Closes, IsJudgedFixed, MayFindWithin};
 ghost use Rattle.re_frame.specs.Outcomes.{outcome_of};
-ghost use Rattle.re_given_words.specs.Settings.{IsTakenIn};
+ghost use Rattle.re_settings.specs.Settings.{IsTakenIn};
 ghost use Rattle.std.specs.Prelude.{IfOk};
 
 use crate::answering::stop_output;
@@ -11,10 +11,9 @@ use crate::{Closing, ClosureFault, find_closure};
 use re_cert::Certificate;
 use re_chains::{LowerChain, over_problems};
 use re_frame::Output;
-use re_given_words::{
-    Setting, answer_law, given_refusal, print_in, refusal_in, taken_alone_law, taken_law,
-};
+use re_given_words::taken_law;
 use re_labels::NoMemory;
+use re_settings::{Setting, answer_law, given_refusal, print_in, refusal_in, taken_alone_law};
 use re_shaping::step_lower;
 use std::alloc::Global;
 

@@ -3,8 +3,8 @@ use Rattle.std.specs.Prelude.{ℕ}
 use Rattle.re_labels.specs.declared.TheConstants.{MAX_LABELS}
 use Rattle.re_cert.specs.Bounds.{Bound}
 use Rattle.re_cert.specs.declared.certificate.Kind.TheVariants.{Fixed}
-use Rattle.re_given_words.specs.Settings.{GoesOnIn}
-use Rattle.re_given_words.specs.declared.setting.Setting.{Setting}
+use Rattle.re_given_words.specs.Extensions.{GoesOnIn}
+use Rattle.re_settings.specs.declared.setting.Setting.{Setting}
 use Rattle.re_cycle.specs.declared.finding.Cycle.{Cycle}
 use Rattle.re_cycle.specs.declared.finding.Cycle.TheVariants.{Found, NotFound, TooMany}
 

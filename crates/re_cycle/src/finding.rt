@@ -7,9 +7,10 @@ use crate::nodes::{Graph, Return};
 use crate::walking::{Left, Walk, Walked};
 use re_cert::{Certificate, Kind, MAX_STEPS, Step};
 use re_chains::LowerChain;
-use re_given_words::{Setting, extended_in};
+use re_given_words::extended_in;
 use re_labels::{MAX_LABELS, NoMemory};
 use re_problem::LabelMap;
+use re_settings::Setting;
 use re_shaping::{Extension, route_steps, takes_merges};
 use std::alloc::Global;
 
@@ -206,7 +207,7 @@ fn goes_on(
 /// have made of a derived problem, looking at so many problems at most. Where there is none, it searches once more, where one of the merges of
 /// the first step may be of labels of the chain's last problem itself; only where `takes_merges` holds of the chain. What is found is taken in
 /// the setting, and shows that no algorithm solves the chain's first problem there in any number of rounds. The walk leaves out what is solvable
-/// without communication, and given an input problem what `ends_after` of `re_given_words` knows to be solvable in 0 rounds given it, exchanged
+/// without communication, and given an input problem what `ends_after` of `re_settings` knows to be solvable in 0 rounds given it, exchanged
 /// as often as there are steps; the chain's own last problem isn't asked.
 ///
 /// The crate's page says in what order the problems are looked at, and what is kept of them.

@@ -2,9 +2,9 @@
 use crate::nodes::{Graph, Origin, Return};
 use crate::returning::shortest_return;
 use re_changes::{Change, Changed};
-use re_given_words::{Ends, Setting, ends_after};
 use re_labels::NoMemory;
 use re_problem::{LabelMap, Problem, zero_round};
+use re_settings::{Ends, Setting, ends_after};
 use re_step::{Derived, StepFault, step};
 use std::alloc::Global;
 

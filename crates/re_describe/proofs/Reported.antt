@@ -1,13 +1,13 @@
 -- What the answers of `solve` to a graph mean where it says that there is no solution.
 use Rattle.std.proofs.Common.{◌≡◌, ℕ, true, false, List, Option, Some, None, Result, Ok, refl, ap, ◌∙◌, subst}
 use Rattle.re_cover.specs.Graphs.{PortGraph}
-use Rattle.re_fit.specs.InputProblems.{input_fault}
-use Rattle.re_fit.specs.declared.inputs.InputFault.{InputFault as NoInput}
+use Rattle.re_settings.specs.InputProblems.{input_fault}
+use Rattle.re_settings.specs.declared.inputs.InputFault.{InputFault as NoInput}
 use Rattle.re_frame.specs.Outcomes.{Outcome, refused}
 use Rattle.re_frame.specs.declared.status.Status.{Status}
 use Rattle.re_frame.specs.declared.status.Status.TheVariants.{BadInput, BadWords, Done, Limit, No, NoMemory, ReadFault, WriteFault}
 use Rattle.re_given.specs.Given.{SolvableGiven}
-use Rattle.re_given_words.specs.InputFaults.{or_input_fault}
+use Rattle.re_settings.specs.InputFaults.{or_input_fault}
 use Rattle.re_graph.specs.Judging.{labels_fault}
 use Rattle.re_graph.specs.Solving.{solution_walk}
 use Rattle.re_graph.specs.declared.judging.LabelsFault.{LabelsFault}

@@ -4,16 +4,16 @@ use Rattle.re_cert.specs.Bounds.{Bound}
 use Rattle.re_chains.specs.ChainTexts.{chain_fault}
 use Rattle.re_chains.specs.TwoTexts.{back_problem, front_bound, has_line, two_fault}
 use Rattle.re_cover.specs.Graphs.{PortGraph}
-use Rattle.re_fit.specs.InputProblems.{input_fault}
-use Rattle.re_fit.specs.declared.inputs.InputFault.{InputFault as NoInput}
+use Rattle.re_settings.specs.InputProblems.{input_fault}
+use Rattle.re_settings.specs.declared.inputs.InputFault.{InputFault as NoInput}
 use Rattle.re_frame.proofs.Said.{fault_says, says_as}
 use Rattle.re_frame.specs.Outcomes.{Outcome}
 use Rattle.re_frame.specs.Runs.{MaySay}
 use Rattle.re_frame.specs.declared.status.Status.{Status}
 use Rattle.re_frame.specs.declared.status.Status.TheVariants.{BadInput, BadWords, Done, Limit, No, NoMemory, ReadFault, WriteFault}
-use Rattle.re_given_words.proofs.Saying.{given_says}
-use Rattle.re_given_words.specs.InputFaults.{or_input_fault}
-use Rattle.re_given_words.specs.declared.words.BoundWord.TheVariants.{Given}
+use Rattle.re_settings.proofs.Saying.{given_says}
+use Rattle.re_settings.specs.InputFaults.{or_input_fault}
+use Rattle.re_settings.specs.declared.bound_words.BoundWord.TheVariants.{Given}
 use Rattle.re_graph.specs.Judging.{labels_fault}
 use Rattle.re_graph.specs.Solving.{solution_walk}
 use Rattle.re_graph.specs.declared.judging.LabelsFault.{LabelsFault}

@@ -5,8 +5,8 @@ use Rattle.re_cert.specs.Bounds.{Bound}
 use Rattle.re_chains.specs.ChainTexts.{chain_fault, is_certificate_text, text_bound}
 use Rattle.re_chains.specs.TwoTexts.{back_problem, front_bound, has_line, two_fault}
 use Rattle.re_cover.specs.Graphs.{PortGraph}
-use Rattle.re_fit.specs.InputProblems.{input_fault}
-use Rattle.re_fit.specs.declared.inputs.InputFault.{InputFault as NoInput}
+use Rattle.re_settings.specs.InputProblems.{input_fault}
+use Rattle.re_settings.specs.declared.inputs.InputFault.{InputFault as NoInput}
 use Rattle.re_frame.specs.Outcomes.{Outcome}
 use Rattle.re_frame.specs.TextFaults.{fault_outcome}
 use Rattle.re_frame.specs.declared.status.Status.{Status}

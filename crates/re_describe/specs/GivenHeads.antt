@@ -49,4 +49,4 @@ given_exit_code false = codes "1"
 abbrev pub given_check_text : Bool → List ℕ
 given_check_text holds =
     codes "\n## How to check it\n\nThat problem 0 and the input problem are those that are meant is for the reader to see. Each step can be checked by hand, by the clauses that docs/DEFINITIONS.md of the repository `re` states; and all of it by `explore given < FILE`, where FILE holds the certificate, or problem 0 alone for the lower bound without steps, then a line `== given` and the input problem. This prints the lines at the top of this report and ends with exit status " ++ (given_exit_code holds
-    ++ codes ". That what it accepts holds given each solution of the input problem is proved of its source by machine (`re_given_words::answer_law`).\n")
+    ++ codes ". That what it accepts holds given each solution of the input problem is proved of its source by machine (`re_settings::answer_law`).\n")

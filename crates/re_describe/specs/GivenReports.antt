@@ -8,8 +8,8 @@ use Rattle.re_check.specs.declared.verdict.Verdict.TheVariants.{Accepted}
 use Rattle.re_frame.specs.Outcomes.{Outcome}
 use Rattle.re_frame.specs.declared.status.Status.{Status}
 use Rattle.re_frame.specs.declared.status.Status.TheVariants.{Done}
-use Rattle.re_given_words.specs.Verdicts.{given_outcome}
-use Rattle.re_given_words.specs.declared.words.BoundWord.TheVariants as word
+use Rattle.re_settings.specs.Verdicts.{given_outcome}
+use Rattle.re_settings.specs.declared.bound_words.BoundWord.TheVariants as word
 use Rattle.re_problem.specs.NamedProblems.{NamedProblem}
 use Rattle.re_describe.specs.Blocks.{body_blocks}
 use Rattle.re_describe.specs.GivenHeads.{given_check_text, given_claim, given_graph_claim, given_model, lines_block}

@@ -20,9 +20,9 @@ use crate::words::{DescribeWord, ReportForm};
 use re_cert::Certificate;
 use re_chains::{has_line, read_bound, read_two};
 use re_frame::{Finding, Output, done, fault_output};
-use re_given_words::GIVEN;
 use re_labels::NoMemory;
 use re_problem::TextFault;
+use re_settings::GIVEN;
 use std::alloc::Global;
 
 // The name of the line in front of a graph.

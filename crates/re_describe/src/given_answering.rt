@@ -11,11 +11,10 @@ use crate::given_reporting::given_report;
 use crate::words::ReportForm;
 use re_cert::Certificate;
 use re_chains::read_two;
-use re_fit::{InputFault, input_fault};
 use re_frame::{Answer, Output, done, fault_output};
-use re_given_words::{GIVEN, given_verdict, given_verdict_output};
 use re_labels::NoMemory;
 use re_problem::{Problem, TextFault};
+use re_settings::{GIVEN, InputFault, given_verdict, given_verdict_output, input_fault};
 use std::alloc::Global;
 
 // What `given` answers to them.

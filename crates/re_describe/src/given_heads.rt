@@ -200,7 +200,7 @@ pub(crate) fn given_check_text(alloc: Global, holds: bool) -> Result<Vec<u8>, No
     push_words(&mut text, given_exit_code(holds))?;
     push_words(
         &mut text,
-        ". That what it accepts holds given each solution of the input problem is proved of its source by machine (`re_given_words::answer_law`).\n",
+        ". That what it accepts holds given each solution of the input problem is proved of its source by machine (`re_settings::answer_law`).\n",
     )?;
     Ok(text)
 }

@@ -8,10 +8,10 @@ use crate::groups::{copied, grouped, push_grouped};
 use re_cert::Certificate;
 use re_chains::{TwoTexts, is_certificate_text, print_given, read_two};
 use re_frame::{Answer, push_words};
-use re_given_words::GIVEN;
 use re_io::MAX_BYTES;
 use re_labels::NoMemory;
 use re_problem::{Problem, TextFault};
+use re_settings::GIVEN;
 use std::alloc::Global;
 
 // Whether the two bounds and the two input problems have one text. Then they are the same.

@@ -13,11 +13,11 @@ ghost use Rattle.std.specs.Prelude.{◌≡◌, ◌≤◌, ℕ, IfOk, codes, leng
 use crate::graph_answering::{in_drawn_form, is_no, solved, withheld};
 use crate::labelled_reporting::{labelled_back, labelled_front};
 use crate::words::ReportForm;
-use re_fit::{InputFault, input_fault};
 use re_frame::{Answer, Output, done};
 use re_graph::{LabelsFault, labels_fault};
 use re_graph_words::{GivenGraph, ReadFault, read_labelled};
 use re_labels::{NoMemory, PortLabels};
+use re_settings::{InputFault, input_fault};
 use std::alloc::Global;
 
 // What `solve` answers to a text with an input problem.

@@ -3,9 +3,9 @@ use Rattle.std.proofs.Common.{ℕ, ◌*◌, ◌<◌, ◌≤◌, arith}
 use Rattle.re_evidence.proofs.VerdictRounds.{solvable_above, twice_below}
 use Rattle.re_evidence.specs.GraphRounds.{rounds_above}
 use Rattle.re_given.proofs.ChainGiven.{SolvableGiven-up}
-use Rattle.re_given_words.specs.Settings.{IsSettingOf, SolvableIn}
-use Rattle.re_given_words.specs.declared.setting.Setting.{Setting}
-use Rattle.re_given_words.specs.declared.setting.Setting.TheVariants.{Alone, Given}
+use Rattle.re_settings.specs.Settings.{IsSettingOf, SolvableIn}
+use Rattle.re_settings.specs.declared.setting.Setting.{Setting}
+use Rattle.re_settings.specs.declared.setting.Setting.TheVariants.{Alone, Given}
 use Rattle.re_problem.specs.NamedProblems.{unnamed}
 use Rattle.re_problem.specs.Problems.{Problem}
 use Rattle.re_evidence.specs.GraphRounds.{GraphRoundsLaw, GraphSolvableIn}

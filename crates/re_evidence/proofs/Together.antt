@@ -4,8 +4,8 @@ use Rattle.std.specs.Prelude.{◌==◌, if◌then◌else◌}
 use Rattle.std.proofs.lemmas.Bool.{eqb-true}
 use Rattle.re_evidence.specs.Claims.{HoldsIn, within}
 use Rattle.re_evidence.specs.declared.types.Claim.TheVariants.{Between, Exactly}
-use Rattle.re_given_words.specs.Settings.{SolvableIn}
-use Rattle.re_given_words.specs.declared.setting.Setting.{Setting}
+use Rattle.re_settings.specs.Settings.{SolvableIn}
+use Rattle.re_settings.specs.declared.setting.Setting.{Setting}
 use Rattle.re_problem.specs.Problems.{Problem}
 
 -- more than the first number and at most the second

@@ -1,8 +1,8 @@
 -- What a claim on the number of rounds means for algorithms, with port numbers alone or where a solution of an input problem is given.
 use Rattle.std.specs.Prelude.{ℕ, suc, ◌==◌, ◌<◌, ◌≤◌, Bool, true, false, if◌then◌else◌}
-use Rattle.re_given_words.specs.Settings.{SolvableIn}
-use Rattle.re_given_words.specs.declared.setting.Setting.{Setting}
-use Rattle.re_given_words.specs.declared.setting.Setting.TheVariants.{Alone, Given}
+use Rattle.re_settings.specs.Settings.{SolvableIn}
+use Rattle.re_settings.specs.declared.setting.Setting.{Setting}
+use Rattle.re_settings.specs.declared.setting.Setting.TheVariants.{Alone, Given}
 use Rattle.re_problem.specs.NamedProblems.{NamedProblem}
 use Rattle.re_problem.specs.Problems.{Problem}
 use Rattle.re_evidence.specs.declared.types.Claim.{Claim}

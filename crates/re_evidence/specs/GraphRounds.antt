@@ -7,8 +7,8 @@ use Rattle.re_check.specs.declared.verdict.Verdict.{Verdict}
 use Rattle.re_evidence.specs.Claims.{HoldsIn}
 use Rattle.re_evidence.specs.declared.types.Claim.TheVariants.{AtMost, Between, Exactly, MoreThan, Never}
 use Rattle.re_evidence.specs.declared.types.Claim.{Claim}
-use Rattle.re_given_words.specs.Settings.{IsSettingOf, SolvableIn}
-use Rattle.re_given_words.specs.declared.setting.Setting.{Setting}
+use Rattle.re_settings.specs.Settings.{IsSettingOf, SolvableIn}
+use Rattle.re_settings.specs.declared.setting.Setting.{Setting}
 use Rattle.re_laws.specs.Algorithms.{Solvable}
 use Rattle.re_problem.specs.Problems.{Problem}
 

@@ -8,18 +8,18 @@ use Rattle.re_chains.specs.OverChains.{or_refusal, refusal_of}
 use Rattle.re_check.specs.Verdicts.{meets_back, steps_fault}
 use Rattle.re_check.specs.declared.verdict.ClauseFault.{ClauseFault}
 use Rattle.re_closure.specs.ClosureWords.{IsDeclined}
-use Rattle.re_fit.specs.InputProblems.{input_fault}
-use Rattle.re_fit.specs.declared.inputs.InputFault.{InputFault}
+use Rattle.re_settings.specs.InputProblems.{input_fault}
+use Rattle.re_settings.specs.declared.inputs.InputFault.{InputFault}
 use Rattle.re_frame.specs.Outcomes.{Outcome}
 use Rattle.re_frame.specs.declared.status.Status.TheVariants.{Done}
-use Rattle.re_given_words.specs.Extensions.{IsTaken}
-use Rattle.re_given_words.specs.InputFaults.{or_input_fault}
-use Rattle.re_given_words.specs.Settings.{IsFaultIn, IsRefusalIn, IsTakenIn}
-use Rattle.re_given_words.specs.Verdicts.{accepted, end_number, end_outcome, fixed_with, given_outcome, lower_with, or_back, upper_with}
-use Rattle.re_given_words.specs.Walks.{walk_at}
-use Rattle.re_given_words.specs.declared.setting.Setting.{Setting}
-use Rattle.re_given_words.specs.declared.setting.Setting.TheVariants as settings
-use Rattle.re_given_words.specs.declared.words.BoundWord.TheVariants.{Given}
+use Rattle.re_settings.specs.Taken.{IsTaken}
+use Rattle.re_settings.specs.InputFaults.{or_input_fault}
+use Rattle.re_settings.specs.Settings.{IsFaultIn, IsRefusalIn, IsTakenIn}
+use Rattle.re_settings.specs.Verdicts.{accepted, end_number, end_outcome, fixed_with, given_outcome, lower_with, or_back, upper_with}
+use Rattle.re_settings.specs.Walks.{walk_at}
+use Rattle.re_settings.specs.declared.setting.Setting.{Setting}
+use Rattle.re_settings.specs.declared.setting.Setting.TheVariants as settings
+use Rattle.re_settings.specs.declared.bound_words.BoundWord.TheVariants.{Given}
 use Rattle.re_problem.specs.NamedProblems.{NamedProblem}
 use Rattle.re_walks.specs.Walking.{Walk, cut, found, nowhere}
 use Rattle.re_explore.proofs.Undone.{undone}

@@ -31,10 +31,11 @@ use Rattle.re_frame.specs.Answers.{MayAnswer}
 use Rattle.re_frame.specs.Outcomes.{Outcome, too_long}
 use Rattle.re_frame.specs.TextFaults.{fault_outcome}
 use Rattle.re_frame.specs.declared.status.Status.TheVariants.{Done}
-use Rattle.re_given_words.specs.SettingTexts.{parts_of}
-use Rattle.re_given_words.specs.Settings.{GoesOnIn, IsTakenIn, IsTextIn}
-use Rattle.re_given_words.specs.declared.setting.Setting.{Setting}
-use Rattle.re_given_words.specs.declared.setting.Setting.TheVariants as settings
+use Rattle.re_settings.specs.SettingTexts.{parts_of}
+use Rattle.re_given_words.specs.Extensions.{GoesOnIn}
+use Rattle.re_settings.specs.Settings.{IsTakenIn, IsTextIn}
+use Rattle.re_settings.specs.declared.setting.Setting.{Setting}
+use Rattle.re_settings.specs.declared.setting.Setting.TheVariants as settings
 use Rattle.re_io.specs.declared.read.TheConstants.{MAX_BYTES}
 use Rattle.re_search_words.specs.RelaxedWords.{MayGive as MayGiveRelaxed, looked_at}
 use Rattle.re_search_words.specs.declared.relaxed_words.RelaxedWord.{RelaxedWord}

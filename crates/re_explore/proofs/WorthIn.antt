@@ -18,11 +18,12 @@ use Rattle.re_frame.specs.Check.{verdict_outcome}
 use Rattle.re_frame.specs.Outcomes.{Outcome, done}
 use Rattle.re_frame.specs.declared.status.Status.TheVariants.{Done}
 use Rattle.re_given_bounds.specs.GivenBounds.{MeansGiven}
-use Rattle.re_given_words.specs.Settings.{GivesIn, GoesOnIn, IsTextIn}
-use Rattle.re_given_words.specs.Verdicts.{accepted_line, bound_outcome, given_outcome}
-use Rattle.re_given_words.specs.declared.setting.Setting.{Setting}
-use Rattle.re_given_words.specs.declared.setting.Setting.TheVariants as settings
-use Rattle.re_given_words.specs.declared.words.BoundWord.TheVariants.{Given}
+use Rattle.re_given_words.specs.Extensions.{GoesOnIn}
+use Rattle.re_settings.specs.Settings.{GivesIn, IsTextIn}
+use Rattle.re_settings.specs.Verdicts.{accepted_line, bound_outcome, given_outcome}
+use Rattle.re_settings.specs.declared.setting.Setting.{Setting}
+use Rattle.re_settings.specs.declared.setting.Setting.TheVariants as settings
+use Rattle.re_settings.specs.declared.bound_words.BoundWord.TheVariants.{Given}
 use Rattle.re_explore.specs.Worth.{IsAccepted, IsJudgedIn}
 
 -- `given` gives to a text that is read as a bound and an input problem what it gives to these

@@ -12,12 +12,13 @@ use Rattle.re_check.specs.declared.verdict.Verdict.TheVariants.{Accepted}
 use Rattle.re_closure.specs.ClosureWords.{closure_chain, closure_setting}
 use Rattle.re_frame.specs.Check.{check_outcome, verdict_line}
 use Rattle.re_frame.specs.Outcomes.{done}
-use Rattle.re_given_words.specs.SettingTexts.{parts_of}
-use Rattle.re_given_words.specs.Settings.{GoesOnIn, IsTextIn}
-use Rattle.re_given_words.specs.Verdicts.{accepted_line, bound_outcome}
-use Rattle.re_given_words.specs.declared.setting.Setting.{Setting}
-use Rattle.re_given_words.specs.declared.setting.Setting.TheVariants.{Alone, Given}
-use Rattle.re_given_words.specs.declared.words.BoundWord.TheVariants as word
+use Rattle.re_settings.specs.SettingTexts.{parts_of}
+use Rattle.re_given_words.specs.Extensions.{GoesOnIn}
+use Rattle.re_settings.specs.Settings.{IsTextIn}
+use Rattle.re_settings.specs.Verdicts.{accepted_line, bound_outcome}
+use Rattle.re_settings.specs.declared.setting.Setting.{Setting}
+use Rattle.re_settings.specs.declared.setting.Setting.TheVariants.{Alone, Given}
+use Rattle.re_settings.specs.declared.bound_words.BoundWord.TheVariants as word
 use Rattle.re_labels.specs.declared.TheConstants.{MAX_LABELS}
 use Rattle.re_problem.specs.ProblemTexts.{lines_of, problem_of}
 use Rattle.re_search_words.specs.MayGive.{word_chain}

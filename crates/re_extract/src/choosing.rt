@@ -10,8 +10,8 @@ ghost use Rattle.std.specs.Prelude.{◌≡◌, [], IfOk, map, slice_index_or};
 
 use crate::sights::Sight;
 use arrayvec::ArrayVec;
-use re_algo::first_choice;
 use re_cert::SetEntry;
+use re_choice::first_choice;
 use re_labels::{Constraint, LabelSet, NoMemory, PortLabels};
 use re_pool::NodeId;
 use re_problem::{Problem, zero_round};

@@ -1,14 +1,12 @@
 -- What a command may answer, whatever bytes it reads.
-use Rattle.std.proofs.Common.{◌≡◌, ℕ, Bool, true, Option, Some, None, refl, sym, subst}
+use Rattle.std.proofs.Common.{◌≡◌, Bool, true, refl, sym, subst}
 use Rattle.re_check.specs.declared.verdict.Verdict.{Verdict}
 use Rattle.re_check.specs.declared.verdict.Verdict.TheVariants.{Accepted, Refused}
 use Rattle.re_problem.specs.declared.fault.InputFault.{InputFault}
 use Rattle.re_problem.specs.declared.fault.InputFault.TheVariants as input
-use Rattle.re_step.specs.declared.derivation.StepLimit.{StepLimit}
 use Rattle.re_frame.specs.Check.{verdict_outcome}
 use Rattle.re_frame.specs.Outcomes.{Outcome, outcome_of, status_of}
 use Rattle.re_frame.specs.Runs.{MaySay}
-use Rattle.re_frame.specs.StepLimits.{or_limit}
 use Rattle.re_frame.specs.TextFaults.{fault_status}
 use Rattle.re_frame.specs.declared.output.Output.{Output}
 
@@ -36,10 +34,6 @@ fault_says (input.TooManyRows line) judging = tt
 fault_says (input.TooManyViews line) judging = tt
 fault_says (input.TooManyNodes line) judging = tt
 fault_says input.EarlyEnd judging = tt
-
-pub passed : (number : ℕ) (first : Option StepLimit) (outcome : Outcome) (judging : Bool) → MaySay outcome.status judging → MaySay (or_limit number first outcome).status judging
-passed number (Some first) outcome judging says = tt
-passed number None outcome judging says = says
 
 pub check_says : (given : Verdict) → MaySay (verdict_outcome given).status true
 check_says (Accepted kind steps) = tt

@@ -8,7 +8,6 @@ mod output;
 mod putting;
 mod search_lines;
 mod status;
-mod step_limits;
 mod text;
 mod text_faults;
 mod verdicts;
@@ -19,7 +18,6 @@ pub use output::{Output, OutputFault, done, limit_of, limited, refused, too_long
 pub use putting::put_output;
 pub use search_lines::{not_found_output, not_lower_output, not_upper_output, solvable_output};
 pub use status::{Answer, Status};
-pub use step_limits::limit_output;
 pub use text::{begun, push_number, push_words};
 pub use text_faults::fault_output;
 pub use verdicts::verdict_output;

@@ -1,8 +1,8 @@
 -- What is counted, and what it means for algorithms.
 use Rattle.std.proofs.Common.{◌≡◌, ℕ, suc, ◌+◌, ◌<◌, List, ◌⊎◌, inl, inr, sym, subst, arith, Option, None, Some}
 use Rattle.std.specs.Prelude.{option_map}
-use Rattle.re_fit.proofs.Told.{fit_walk_law}
-use Rattle.re_fit.specs.Laws.{TellsGiven}
+use Rattle.re_settings.proofs.Told.{fit_walk_law}
+use Rattle.re_settings.specs.Laws.{TellsGiven}
 use Rattle.re_given.proofs.ChainGiven.{SolvableGiven-rounds}
 use Rattle.re_given.proofs.RelativeGiven.{IsInput-derived_by}
 use Rattle.re_given.specs.Given.{ZeroGiven}
@@ -18,7 +18,7 @@ use Rattle.re_given_words.specs.Counting.{AllFew, CountMeans, IsBeside, IsCounte
 use Rattle.re_given_words.specs.declared.counting.Counted.{Counted}
 use Rattle.re_given_words.specs.declared.counting.Counted.TheVariants.{Exactly, MoreThan, Passed, Stopped, Tried}
 use Rattle.re_given_words.specs.declared.counting.Told.TheVariants.{Enough, Few}
-use Rattle.re_given_words.specs.declared.fitting.TheConstants.{MAX_TRIES}
+use Rattle.re_settings.specs.declared.fitting.TheConstants.{MAX_TRIES}
 
 -- ---- the problems on the way
 -- the input problem, where it is this one

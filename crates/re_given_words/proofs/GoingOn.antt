@@ -1,5 +1,5 @@
 -- What `given` accepts, and bounds that go on from a chain by it.
-use Rattle.std.proofs.Common.{◌≡◌, ◌++◌, ◌≤◌, ℕ, true, List, [], length, refl, sym, ap, ◌∙◌, subst, arith, append-nil, Some, None}
+use Rattle.std.proofs.Common.{◌≡◌, ◌++◌, ◌≤◌, ℕ, true, List, [], length, refl, sym, ap, ◌∙◌, subst, arith, append-nil, Some}
 use Rattle.std.specs.Prelude.{IfSome}
 use Rattle.std.proofs.lemmas.List.{append_cancel_left}
 use Rattle.re_problem.specs.NamedProblems.{IsNamedProblem, NamedProblem, unnamed}
@@ -13,34 +13,16 @@ use Rattle.re_shaping.proofs.Continued.{behind, built-bound, whole}
 use Rattle.re_shaping.specs.Extensions.{AreSmall, continued}
 use Rattle.re_shaping.specs.declared.extending.Extension.{Extension}
 use Rattle.re_frame.specs.Outcomes.{Outcome}
-use Rattle.re_frame.specs.declared.status.Status.TheVariants.{Done}
 use Rattle.re_given_bounds.specs.GivenBounds.{IsOver, MeansGiven}
-use Rattle.re_given_words.proofs.GivenMeans.{answer_law, steps_are_refused}
-use Rattle.re_given_words.specs.Extensions.{GoesOnGiven, IsTaken, TakenLaw}
-use Rattle.re_given_words.specs.Settings.{GoesOnIn, IsTakenIn, input_of}
-use Rattle.re_given_words.specs.Verdicts.{HasCause, given_outcome, rendered}
-use Rattle.re_given_words.specs.declared.setting.Setting.{Setting}
-use Rattle.re_given_words.specs.declared.setting.Setting.TheVariants as settings
-use Rattle.re_given_words.specs.declared.verdicts.GivenVerdict.{GivenVerdict}
-use Rattle.re_given_words.specs.declared.verdicts.GivenVerdict.TheVariants as verdicts
-use Rattle.re_given_words.specs.declared.words.BoundWord.TheVariants.{Given}
-
--- ---- what is accepted
-module _ (input : NamedProblem) (bound : Bound) where
-  only_accepted : (verdict : GivenVerdict) → HasCause input bound verdict → (rendered input bound verdict).status ≡ Done → verdict ≡ verdicts.Accepted
-  only_accepted verdicts.Accepted cause says = refl
-  only_accepted (verdicts.NoInput fault) cause says = absurd (cc)
-  only_accepted (verdicts.Fails refusal) cause says = absurd (steps_are_refused bound refusal cause says)
-  only_accepted (verdicts.Solvable number sets holds) cause says = absurd (cc)
-  only_accepted verdicts.Unsolvable cause says = absurd (cc)
-  only_accepted verdicts.NotBack cause says = absurd (cc)
-  only_accepted verdicts.TooManyTries cause says = absurd (cc)
-
-  pub accepted_taken : (verdict : GivenVerdict) → rendered input bound verdict ≡ given_outcome Given input bound → verdict ≡ verdicts.Accepted → IsTaken input bound
-  accepted_taken verdict is e = sym is ∙ ap (rendered input bound) e
-
-  pub taken_accepted : (verdict : GivenVerdict) → rendered input bound verdict ≡ given_outcome Given input bound → HasCause input bound verdict → IsTaken input bound → verdict ≡ verdicts.Accepted
-  taken_accepted verdict is cause taken = only_accepted verdict cause (ap (λ (o : Outcome). o.status) (is ∙ taken))
+use Rattle.re_settings.proofs.GivenMeans.{answer_law}
+use Rattle.re_given_words.specs.Extensions.{GoesOnGiven, TakenLaw}
+use Rattle.re_settings.specs.Taken.{IsTaken}
+use Rattle.re_given_words.specs.Extensions.{GoesOnIn}
+use Rattle.re_settings.specs.Settings.{IsTakenIn, input_of}
+use Rattle.re_settings.specs.declared.setting.Setting.{Setting}
+use Rattle.re_settings.specs.declared.setting.Setting.TheVariants as settings
+use Rattle.re_settings.specs.declared.verdicts.GivenVerdict.TheVariants as verdicts
+use Rattle.re_settings.specs.declared.bound_words.BoundWord.TheVariants.{Given}
 
 -- ---- what goes on from a chain
 -- what is accepted means what its line says

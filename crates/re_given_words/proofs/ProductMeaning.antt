@@ -3,9 +3,9 @@ use Rattle.std.proofs.Common.{◌≡◌, ℕ, List, refl, sym, ap, ◌∙◌, su
 use Rattle.std.specs.Prelude.{◌↔◌}
 use Rattle.re_chains.proofs.WordsGiven.{fault_not_done}
 use Rattle.re_chains.specs.OverChains.{or_fault}
-use Rattle.re_fit.proofs.Judged.{judged-none}
-use Rattle.re_fit.specs.InputProblems.{input_fault}
-use Rattle.re_fit.specs.declared.inputs.InputFault.{InputFault}
+use Rattle.re_settings.proofs.Judged.{judged-none}
+use Rattle.re_settings.specs.InputProblems.{input_fault}
+use Rattle.re_settings.specs.declared.inputs.InputFault.{InputFault}
 use Rattle.re_frame.specs.Outcomes.{Outcome}
 use Rattle.re_frame.specs.TextFaults.{fault_outcome}
 use Rattle.re_frame.specs.declared.status.Status.TheVariants.{Done, Limit, No}
@@ -16,8 +16,8 @@ use Rattle.re_inputs.specs.declared.products.ProductFault.{ProductFault}
 use Rattle.re_inputs.specs.declared.products.ProductFault.TheVariants.{Nameless, NoMemory, TooManyConfigurations, TooManyLabels}
 use Rattle.re_problem.specs.NamedProblems.{IsNamedProblem, NamedProblem, unnamed}
 use Rattle.re_problem.specs.declared.fault.InputFault.{InputFault as Fault}
-use Rattle.re_given_words.specs.GivenTexts.{given_fault, given_input, given_problem}
-use Rattle.re_given_words.specs.InputFaults.{or_input_fault}
+use Rattle.re_settings.specs.GivenTexts.{given_fault, given_input, given_problem}
+use Rattle.re_settings.specs.InputFaults.{or_input_fault}
 use Rattle.re_given_words.specs.ProductTexts.{IsProduct, ProductMeans, made_or_refused, product_answer, product_outcome, product_refusal}
 
 no_isnt : No ≡ Done → ⊥

@@ -1,6 +1,6 @@
 -- The answers of `rounds`.
-use Rattle.std.proofs.Common.{◌≡◌, ℕ, List, sym, subst, Option, None, Some, Result, Ok, Err}
-use Rattle.std.specs.Prelude.{IfOk, option_map}
+use Rattle.std.proofs.Common.{◌≡◌, ℕ, List, sym, subst, Option, None, Some}
+use Rattle.std.specs.Prelude.{option_map}
 use Rattle.re_frame.specs.Outcomes.{Outcome}
 use Rattle.re_frame.specs.TextFaults.{fault_outcome}
 use Rattle.re_problem.specs.NamedProblems.{NamedProblem, unnamed}
@@ -28,8 +28,3 @@ may_count most bytes problem input outcome right problem_is input_is may =
 pub may_refuse : (most : ℕ) (bytes : List ℕ) (fault : Fault) (outcome : Outcome) → rounds_fault bytes ≡ Some fault → outcome ≡ fault_outcome fault → MayCount most bytes outcome
 unfolding MayCount
 may_refuse most bytes fault outcome wrong e = subst (λ f. MayCountRead f (rounds_problem bytes) (rounds_input bytes) most outcome) (sym wrong) e
-
--- ---- two facts of a result
-pub both_ok : {A E : Type 0} (r : Result A E) (P Q R : A → Type 0) → ((a : A) → P a → Q a → R a) → IfOk r P → IfOk r Q → IfOk r R
-both_ok (Ok a) P Q R f p q = f a p q
-both_ok (Err e) P Q R f p q = tt

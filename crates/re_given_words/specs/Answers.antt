@@ -3,7 +3,7 @@ use Rattle.std.specs.Prelude.{ℕ, List}
 use Rattle.re_frame.specs.Outcomes.{Outcome}
 use Rattle.re_given_words.specs.ProductTexts.{IsProduct}
 use Rattle.re_given_words.specs.RoundsTexts.{MayCount}
-use Rattle.re_given_words.specs.Meanings.{IsJudged}
+use Rattle.re_settings.specs.Meanings.{IsJudged}
 use Rattle.re_given_words.specs.declared.words.GivenWord.{GivenWord}
 use Rattle.re_given_words.specs.declared.words.GivenWord.TheVariants.{OfBound, Product, Rounds}
 

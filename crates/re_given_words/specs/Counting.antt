@@ -1,9 +1,9 @@
 -- The word `rounds`: in how many rounds a problem is solvable, alone or given an input problem.
 use Rattle.std.specs.Prelude.{◌≡◌, ℕ, zero, suc, ◌<◌, ◌≤◌, ◌⊎◌, List, ◌++◌, codes, Option, None, Some, option_map}
 use Rattle.std.specs.Fmt.{decimal}
-use Rattle.re_fit.specs.Fits.{fit_walk}
+use Rattle.re_settings.specs.Fits.{fit_walk}
 use Rattle.re_frame.specs.Outcomes.{Outcome, done, limit}
-use Rattle.re_frame.specs.StepLimits.{limit_line}
+use Rattle.re_limits.specs.StepLimits.{limit_line}
 use Rattle.re_given.specs.Given.{SolvableGiven}
 use Rattle.re_given.specs.Inputs.{IsInput, exchanged_by}
 use Rattle.re_laws.specs.Algorithms.{Solvable}
@@ -15,7 +15,7 @@ use Rattle.re_search.specs.Laws.{NonePassed}
 use Rattle.re_step.specs.Derivations.{step_limit}
 use Rattle.re_step.specs.declared.derivation.StepLimit.{StepLimit}
 use Rattle.re_walks.specs.Walking.{Walk, cut, found, nowhere}
-use Rattle.re_given_words.specs.declared.fitting.TheConstants.{MAX_TRIES}
+use Rattle.re_settings.specs.declared.fitting.TheConstants.{MAX_TRIES}
 use Rattle.re_given_words.specs.declared.counting.Counted.{Counted}
 use Rattle.re_given_words.specs.declared.counting.Counted.TheVariants.{Exactly, MoreThan, Passed, Stopped, Tried}
 use Rattle.re_given_words.specs.declared.counting.Told.{Told}

@@ -1,29 +1,14 @@
--- Bounds that go on from a chain, and that `given` accepts.
-use Rattle.std.specs.Prelude.{◌≡◌, ◌≤◌, ℕ, true, List, ◌++◌, length, Option, None, Some}
+-- Bounds that go on from a chain, and that are taken in a setting.
+use Rattle.std.specs.Prelude.{◌≡◌, ◌≤◌, ℕ, true, List, ◌++◌, length}
 use Rattle.re_cert.specs.Bounds.{Bound, BoundStep, is_bound}
 use Rattle.re_cert.specs.declared.certificate.Kind.{Kind}
 use Rattle.re_chains.specs.Chains.{IsOverProblems}
-use Rattle.re_shaping.specs.Extensions.{AreSmall}
-use Rattle.re_frame.specs.Outcomes.{outcome_of}
-use Rattle.re_frame.specs.declared.output.Output.{Output}
-use Rattle.re_given.specs.Given.{ZeroGiven}
-use Rattle.re_given.specs.Inputs.{IsInput}
+use Rattle.re_shaping.specs.Extensions.{AreSmall, GoesOn}
 use Rattle.re_given_bounds.specs.GivenBounds.{MeansGiven}
 use Rattle.re_problem.specs.NamedProblems.{IsNamedProblem, NamedProblem, unnamed}
-use Rattle.re_problem.specs.Problems.{Problem}
-use Rattle.re_given_words.specs.Verdicts.{accepted, given_outcome}
-use Rattle.re_given_words.specs.declared.ends.Ends.{Ends}
-use Rattle.re_given_words.specs.declared.ends.Ends.TheVariants.{Solvable, Unknown, Unsolvable}
-use Rattle.re_given_words.specs.declared.words.BoundWord.TheVariants.{Given}
-
--- `given` accepts the bound given the input problem
-abbrev pub IsTaken : NamedProblem → Bound → Type 0
-IsTaken input bound = given_outcome Given input bound ≡ accepted bound
-
--- the answer of `given` to a bound, and nothing exactly where it accepts it
-abbrev pub Refuses : NamedProblem → Bound → Option Output → Type 0
-Refuses input bound None = IsTaken input bound
-Refuses input bound (Some output) = (IsTaken input bound → ⊥) × (outcome_of output ≡ given_outcome Given input bound)
+use Rattle.re_settings.specs.Taken.{IsTaken}
+use Rattle.re_settings.specs.declared.setting.Setting.{Setting}
+use Rattle.re_settings.specs.declared.setting.Setting.TheVariants.{Alone, Given}
 
 -- a bound of this kind goes on from the chain given the input problem: its parts make a bound over problems; it has the same first problem and, behind the
 -- chain's steps, at most so many more, each to a problem of at most so many labels; `given` accepts it, and what that says of algorithms holds of the chain's
@@ -45,12 +30,7 @@ abbrev pub TakenLaw : Type 0
 TakenLaw = (input : NamedProblem) (bound : Bound) (most labels : ℕ) → IsNamedProblem input → is_bound bound ≡ true → IsOverProblems bound → IsTaken input bound
     → GoesOnGiven input bound.kind most labels bound bound
 
--- the two degrees are those of the problem
-abbrev pub HasDegrees : Problem → Problem → Type 0
-HasDegrees problem input = (input.active.degree ≡ problem.active.degree) × (input.passive.degree ≡ problem.passive.degree)
-
--- what few tries tell of a problem given an input problem: that it is solvable in 0 rounds, or that it isn't; or they don't tell, or it is no input problem
-abbrev pub Tells : Problem → Problem → Ends → Type 0
-Tells problem input Solvable = IsInput problem input × ZeroGiven problem input
-Tells problem input Unsolvable = IsInput problem input × (ZeroGiven problem input → ⊥)
-Tells problem input Unknown = Unit {0}
+-- a bound of this kind goes on from the chain with at most so many more steps, each to a problem of at most so many labels, and is taken
+abbrev pub GoesOnIn : Setting → Kind → ℕ → ℕ → Bound → Bound → Type 0
+GoesOnIn Alone kind most labels chain bound = GoesOn kind most labels chain bound
+GoesOnIn (Given input) kind most labels chain bound = GoesOnGiven input kind most labels chain bound

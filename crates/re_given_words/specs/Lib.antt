@@ -2,16 +2,9 @@ pub mod Ahead
 pub mod Answers
 pub mod Counting
 pub mod Extensions
-pub mod GivenTexts
-pub mod InputFaults
 pub mod Laws
-pub mod Meanings
 pub mod ProductTexts
 pub mod RoundsTexts
 pub mod RowTests
 pub mod Searching
-pub mod SettingTexts
-pub mod Settings
-pub mod Verdicts
-pub mod Walks
 pub mod Words

@@ -2,7 +2,7 @@
 use Rattle.std.specs.Prelude.{◌≡◌, ℕ, ◌↔◌, List, ◌++◌, codes, if◌then◌else◌, Option, None, Some}
 use Rattle.std.specs.Fmt.{decimal}
 use Rattle.re_chains.specs.OverChains.{or_fault, problem_outcome}
-use Rattle.re_fit.specs.InputProblems.{input_fault}
+use Rattle.re_settings.specs.InputProblems.{input_fault}
 use Rattle.re_frame.specs.Outcomes.{Outcome, limit, refused}
 use Rattle.re_frame.specs.declared.status.Status.TheVariants.{Done}
 use Rattle.re_given.specs.Given.{SolvableGiven}
@@ -10,8 +10,8 @@ use Rattle.re_inputs.specs.NamedProducts.{is_long, named_product, pair_count, pa
 use Rattle.re_inputs.specs.declared.products.ProductFault.{ProductFault}
 use Rattle.re_inputs.specs.declared.products.ProductFault.TheVariants.{Nameless, NoMemory, TooManyConfigurations, TooManyLabels}
 use Rattle.re_problem.specs.NamedProblems.{NamedProblem, unnamed}
-use Rattle.re_given_words.specs.GivenTexts.{given_fault, given_input, given_problem}
-use Rattle.re_given_words.specs.InputFaults.{or_input_fault}
+use Rattle.re_settings.specs.GivenTexts.{given_fault, given_input, given_problem}
+use Rattle.re_settings.specs.InputFaults.{or_input_fault}
 
 -- ---- lines
 -- the line of a pair without a name of its own

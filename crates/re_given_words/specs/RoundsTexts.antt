@@ -1,7 +1,7 @@
 -- What `rounds` answers to a text: a problem text, or one with a line `== given` and an input problem behind it.
 use Rattle.std.specs.Prelude.{◌≡◌, ℕ, List, codes, if◌then◌else◌, Option, None, Some, Result, Ok, Err}
-use Rattle.re_fit.specs.InputProblems.{input_fault}
-use Rattle.re_fit.specs.declared.inputs.InputFault.{InputFault as Fault}
+use Rattle.re_settings.specs.InputProblems.{input_fault}
+use Rattle.re_settings.specs.declared.inputs.InputFault.{InputFault as Fault}
 use Rattle.re_frame.specs.Outcomes.{Outcome, refused}
 use Rattle.re_frame.specs.TextFaults.{fault_outcome}
 use Rattle.re_problem.specs.NamedProblems.{NamedProblem}
@@ -11,8 +11,8 @@ use Rattle.re_problem.specs.declared.fault.TextFault.{TextFault}
 use Rattle.re_problem.specs.declared.fault.TextFault.TheVariants.{Bad, NoMemory}
 use Rattle.re_chains.specs.TwoTexts.{has_line, problem_fault, problem_lines}
 use Rattle.re_given_words.specs.Counting.{IsCountedLine}
-use Rattle.re_given_words.specs.GivenTexts.{given_fault, given_input, given_problem}
-use Rattle.re_given_words.specs.InputFaults.{fault_line}
+use Rattle.re_settings.specs.GivenTexts.{given_fault, given_input, given_problem}
+use Rattle.re_settings.specs.InputFaults.{fault_line}
 use Rattle.re_given_words.specs.declared.counting.RoundsTexts.{RoundsTexts}
 
 -- ---- the text

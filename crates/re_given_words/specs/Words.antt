@@ -3,7 +3,7 @@ use Rattle.std.specs.Prelude.{ℕ, ◌≤◌, nat_le, List, [], ◌∷◌, ◌++
 use Rattle.std.specs.Str.{bytes_eq}
 use Rattle.re_cert.specs.declared.certificate.TheConstants.{MAX_STEPS}
 use Rattle.re_problem.specs.Numerals.{number_of}
-use Rattle.re_given_words.specs.declared.words.BoundWord.TheVariants.{Fit, Given}
+use Rattle.re_settings.specs.declared.bound_words.BoundWord.TheVariants.{Fit, Given}
 use Rattle.re_given_words.specs.declared.words.GivenWord.{GivenWord}
 use Rattle.re_given_words.specs.declared.words.GivenWord.TheVariants.{OfBound, Product, Rounds}
 

@@ -6,12 +6,12 @@ ghost use Rattle.re_given_words.specs.Words.{IsGivenWord};
 ghost use Rattle.re_io.specs.declared.read.TheConstants.{MAX_BYTES};
 ghost use Rattle.std.specs.Prelude.{◌≤◌, IfOk, length, true};
 
-use crate::judging::bound_output;
 use crate::multiplying::product_output;
 use crate::rounds::rounds_output;
 use crate::words::GivenWord;
 use re_frame::{Finding, Output};
 use re_labels::NoMemory;
+use re_settings::bound_output;
 use std::alloc::Global;
 
 // What the word gives to a text.

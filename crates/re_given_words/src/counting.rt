@@ -10,11 +10,12 @@ ghost use Rattle.re_step.specs.Derivations.{named_derived, step_limit};
 ghost use Rattle.std.specs.Fmt.{decimal};
 ghost use Rattle.std.specs.Prelude.{◌≡◌, ◌≤◌, ◌<◌, ◌++◌, IfOk, IfSome, None, Some, option_map};
 
-use crate::fitting::{FitAnswer, fit_answer, tries_output};
 use crate::looking::{Ahead, look_ahead};
-use re_frame::{Answer, Output, begun, done, limit_output, push_number, push_words};
+use re_frame::{Answer, Output, begun, done, push_number, push_words};
 use re_labels::{MAX_LABELS, NoMemory};
+use re_limits::limit_output;
 use re_problem::{Problem, zero_round};
+use re_settings::{FitAnswer, fit_answer, tries_output};
 use re_step::{StepFault, StepLimit, step};
 use std::alloc::Global;
 
@@ -145,7 +146,7 @@ fn count_on(
 /// How many rounds the problem takes, alone or given the input problem, where it takes no more than `most`. The problem, its derived
 /// problem, the derived problem of that one and so on are taken in turn: the first that is solvable without communication, given the
 /// input problem exchanged as often, tells the number. Where one that isn't has more than so many labels, none is derived from it, and the
-/// answer is `None`. The cost is that of `re_step::step` and of the walk of `re_fit` for each; one problem is held at a time.
+/// answer is `None`. The cost is that of `re_step::step` and of the walk of `re_settings` for each; one problem is held at a time.
 pub fn count_within(
     alloc: Global,
     texts: &RoundsTexts,

@@ -8,7 +8,7 @@ ghost use Rattle.std.specs.Prelude.{◌≡◌, ◌++◌, ◌∷◌, ◌<◌, ◌
 use crate::standing::Standing;
 use crate::stopping::{TryFault, spend};
 use arrayvec::ArrayVec;
-use re_algo::are_sets;
+use re_choice::are_sets;
 use re_labels::{Constraint, LabelSet, Row};
 use std::alloc::Global;
 

@@ -1,15 +1,15 @@
 //! Bounds that go on from a chain, in a setting.
-ghost use Rattle.re_given_words.specs.Extensions.{GoesOnGiven};
-ghost use Rattle.re_given_words.specs.Settings.{GoesOnIn, IsTakenIn};
+ghost use Rattle.re_given_words.specs.Extensions.{GoesOnGiven, TakenLaw};
+ghost use Rattle.re_given_words.specs.Extensions.{GoesOnIn};
+ghost use Rattle.re_settings.specs.Settings.{IsTakenIn};
 ghost use Rattle.re_shaping.specs.Extensions.{continued};
 ghost use Rattle.std.specs.Prelude.{◌≡◌, IfOk, IfSome, None};
 
-use crate::setting::Setting;
-use crate::taken::is_taken_given;
 use re_cert::Certificate;
 use re_chains::over_problems;
 use re_labels::NoMemory;
 use re_problem::Problem;
+use re_settings::{Setting, is_taken_given};
 use re_shaping::{Extension, are_small, extended, joined};
 use std::alloc::Global;
 
@@ -91,3 +91,8 @@ pub fn repeated_in(
         None => unreachable!(),
     }
 }
+
+/// A bound that `given` accepts goes on from itself.
+pub fn taken_law()
+    ensures { TakenLaw }
+{}

@@ -7,14 +7,12 @@ ghost use Rattle.re_io.specs.declared.read.TheConstants.{MAX_BYTES};
 ghost use Rattle.re_problem.specs.NamedProblems.{unnamed};
 ghost use Rattle.std.specs.Prelude.{◌≡◌, ◌≤◌, ◌<◌, ◌++◌, IfOk, codes, length};
 
-use crate::faults::input_fault_output;
-use crate::texts::{GivenTexts, read_given};
 use re_chains::problem_output;
-use re_fit::input_fault;
 use re_frame::{Answer, Output, begun, fault_output, push_number, push_words, refused};
 use re_inputs::{ProductFault, pair_name, product};
 use re_labels::{NoMemory, is_name};
 use re_problem::{Problem, TextFault};
+use re_settings::{GivenTexts, input_fault, input_fault_output, read_given};
 use std::alloc::Global;
 
 // The words and a name in parentheses.

@@ -10,7 +10,7 @@ ghost use Rattle.std.specs.Prelude.{◌≡◌, ◌≤◌, [], IfOk, IfSome, None
 
 use crate::listing::multisets_of;
 use arrayvec::ArrayVec;
-use re_algo::first_choice;
+use re_choice::first_choice;
 use re_labels::{Config, Constraint, LabelSet, NoMemory, Row};
 use re_problem::Problem;
 use std::alloc::Global;

@@ -1,6 +1,6 @@
 //! What `rounds` answers to a text.
-ghost use Rattle.re_fit.specs.InputProblems.{IsOf};
-ghost use Rattle.re_fit.specs.declared.inputs.InputFault.{InputFault as Fault};
+ghost use Rattle.re_settings.specs.InputProblems.{IsOf};
+ghost use Rattle.re_settings.specs.declared.inputs.InputFault.{InputFault as Fault};
 ghost use Rattle.re_frame.specs.Outcomes.{outcome_of};
 ghost use Rattle.re_given_words.specs.Counting.{IsBeside, IsCountedLine};
 ghost use Rattle.re_given_words.specs.RoundsTexts.{MayCount, MayCountBeside, RoundsGives, beside_fault};
@@ -9,13 +9,11 @@ ghost use Rattle.re_problem.specs.NamedProblems.{unnamed};
 ghost use Rattle.std.specs.Prelude.{◌≡◌, ◌≤◌, IfOk, IfSome, None, Some, length, option_map};
 
 use crate::counting::{RoundsTexts, count, counted_output};
-use crate::faults::input_fault_output;
-use crate::texts::{GIVEN, GivenTexts, read_given};
 use re_chains::{has_line, read_problem_at};
-use re_fit::input_fault;
 use re_frame::{Output, fault_output};
 use re_labels::NoMemory;
 use re_problem::{Problem, TextFault};
+use re_settings::{GIVEN, GivenTexts, input_fault, input_fault_output, read_given};
 use std::alloc::Global;
 
 // The problem and the input problem, if any, that a text writes. `Bad` comes exactly where the text has a fault, with its first one.

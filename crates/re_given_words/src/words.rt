@@ -4,15 +4,7 @@ ghost use Rattle.std.specs.Prelude.{◌≡◌, IfSome, map, string_bytes};
 
 use re_cert::MAX_STEPS;
 use re_problem::read_number;
-
-/// A word that reads a problem or a bound, and an input problem of its first problem.
-#[derive(Clone, Copy, Debug, PartialEq, Eq)]
-pub enum BoundWord {
-    /// `fit`: whether the last problem is solvable in 0 rounds given the input problem, exchanged as often as there are steps.
-    Fit,
-    /// `given`: the verdict on the bound given the input problem.
-    Given,
-}
+use re_settings::BoundWord;
 
 /// A word that tells of problems where a solution of an input problem is given.
 #[derive(Clone, Copy, Debug, PartialEq, Eq)]

@@ -6,7 +6,7 @@ use Rattle.re_cover.proofs.Outputs.{all-at, all-places}
 use Rattle.re_cover.specs.Graphs.{IsSolution, PortGraph, label_at}
 use Rattle.re_cover.specs.declared.ends.GraphEnd.{GraphEnd}
 use Rattle.re_problem.proofs.FedLines.{unnot}
-use Rattle.re_algo.proofs.JudgeCode.{all-below}
+use Rattle.re_choice.proofs.LabelTests.{all-below}
 use Rattle.re_graph.specs.Judging.{IsJudged, fault_in, first_active, first_passive, labels_fault}
 use Rattle.re_labels.proofs.Tests.{eqb-same}
 use Rattle.std.specs.Prelude.{◌==◌}

@@ -9,7 +9,7 @@ ghost use Rattle.std.specs.Prelude.{◌≡◌, ◌≤◌, ◌<◌, ◌==◌, IfS
 use crate::graph::{Graph, PassiveEnds};
 use crate::passing::is_config;
 use arrayvec::ArrayVec;
-use re_algo::are_labels;
+use re_choice::are_labels;
 use re_cover::GraphEnd;
 use re_labels::{Constraint, PortLabels};
 use re_problem::Problem;

@@ -2,13 +2,13 @@
 use Rattle.std.proofs.Common.{◌≡◌, ◌≢◌, ◌++◌, ◌∙◌, ℕ, List, Option, None, Some, ap, arith, codes, refl, slice_index_or, sym, subst}
 use Rattle.re_cover.specs.GivenGraphs.{NoSolutionGivenLaw}
 use Rattle.re_cover.specs.Graphs.{IsGraphOf, IsSolution}
-use Rattle.re_fit.specs.InputProblems.{IsJudged as IsInputJudged, input_fault}
-use Rattle.re_fit.specs.declared.inputs.InputFault.{InputFault as Fault}
-use Rattle.re_fit.specs.declared.inputs.InputFault.TheVariants.{Degrees, Empty, OneSide}
+use Rattle.re_settings.specs.InputProblems.{IsJudged as IsInputJudged, input_fault}
+use Rattle.re_settings.specs.declared.inputs.InputFault.{InputFault as Fault}
+use Rattle.re_settings.specs.declared.inputs.InputFault.TheVariants.{Degrees, Empty, OneSide}
 use Rattle.re_frame.specs.Outcomes.{Outcome, refused}
 use Rattle.re_frame.specs.declared.status.Status.TheVariants.{Done, Limit, No}
 use Rattle.re_given.specs.Inputs.{IsInput}
-use Rattle.re_given_words.specs.InputFaults.{fault_line, or_input_fault}
+use Rattle.re_settings.specs.InputFaults.{fault_line, or_input_fault}
 use Rattle.re_graph.proofs.Answering.{none-answer, some-answer}
 use Rattle.re_graph.specs.Judging.{IsJudged, labels_fault}
 use Rattle.re_graph.specs.Solving.{labels_of, solution_walk}

@@ -1,8 +1,8 @@
 -- The text of a graph with a solution of an input problem, by its parts.
 use Rattle.std.proofs.Common.{◌≡◌, ◌+◌, ◌-◌, ◌∙◌, ℕ, List, [], false, Bool, Option, None, Some, Result, Ok, Err, ap, length, option_map, subst, sym}
 use Rattle.std.specs.Prelude.{codes, if◌then◌else◌}
-use Rattle.re_given_words.specs.GivenTexts.{GivenGives, GivenRefuses, given_fault, given_input, given_problem}
-use Rattle.re_given_words.specs.declared.texts.GivenTexts.{GivenTexts}
+use Rattle.re_settings.specs.GivenTexts.{GivenGives, GivenRefuses, given_fault, given_input, given_problem}
+use Rattle.re_settings.specs.declared.texts.GivenTexts.{GivenTexts}
 use Rattle.re_problem.specs.ProblemTexts.{lines_of}
 use Rattle.re_problem.specs.declared.fault.InputFault.{InputFault}
 use Rattle.re_problem.specs.declared.fault.InputFault.TheVariants.{EarlyEnd}

@@ -11,10 +11,10 @@ use Rattle.re_problem.specs.declared.fault.InputFault.{InputFault}
 use Rattle.re_walks.specs.Walking.{Walk, cut, found, nowhere}
 use Rattle.re_graph_words.specs.Faults.{graph_fault_outcome}
 use Rattle.re_graph_words.specs.GraphInputs.{graph_input}
-use Rattle.re_fit.specs.InputProblems.{input_fault}
-use Rattle.re_fit.specs.declared.inputs.InputFault.{InputFault as Fault}
-use Rattle.re_given_words.specs.GivenTexts.{given_fault, given_input, given_problem}
-use Rattle.re_given_words.specs.InputFaults.{or_input_fault}
+use Rattle.re_settings.specs.InputProblems.{input_fault}
+use Rattle.re_settings.specs.declared.inputs.InputFault.{InputFault as Fault}
+use Rattle.re_settings.specs.GivenTexts.{given_fault, given_input, given_problem}
+use Rattle.re_settings.specs.InputFaults.{or_input_fault}
 use Rattle.re_graph.specs.Judging.{labels_fault}
 use Rattle.re_graph.specs.declared.judging.LabelsFault.{LabelsFault}
 use Rattle.re_chains.specs.TwoTexts.{has_line}

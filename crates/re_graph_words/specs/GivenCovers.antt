@@ -1,12 +1,12 @@
 -- What the word `cover` answers to a problem and an input problem.
 use Rattle.std.specs.Prelude.{◌≡◌, ◌≤◌, ◌<◌, ◌⊎◌, ℕ, List, ◌++◌, codes, length, Option, None, Some}
 use Rattle.re_cover.specs.Graphs.{PortGraph}
-use Rattle.re_fit.specs.InputProblems.{input_fault}
-use Rattle.re_fit.specs.declared.inputs.InputFault.{InputFault as Fault}
+use Rattle.re_settings.specs.InputProblems.{input_fault}
+use Rattle.re_settings.specs.declared.inputs.InputFault.{InputFault as Fault}
 use Rattle.re_frame.specs.Outcomes.{Outcome, done, refused, too_long}
 use Rattle.re_frame.specs.TextFaults.{fault_outcome}
 use Rattle.re_given.specs.Given.{SolvableGiven}
-use Rattle.re_given_words.specs.InputFaults.{fault_line}
+use Rattle.re_settings.specs.InputFaults.{fault_line}
 use Rattle.re_graph.specs.GraphTexts.{graph_text}
 use Rattle.re_graph.specs.Solving.{AreSolution, IsCover, labels_of}
 use Rattle.re_io.specs.declared.read.TheConstants.{MAX_BYTES}

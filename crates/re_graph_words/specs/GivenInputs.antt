@@ -8,8 +8,8 @@ use Rattle.re_labels.specs.PortLabels.{port_labels}
 use Rattle.re_problem.specs.NamedProblems.{NamedProblem, degrees_of}
 use Rattle.re_problem.specs.declared.fault.InputFault.{InputFault}
 use Rattle.re_problem.specs.declared.fault.InputFault.TheVariants.{BadEntry, BadItem, BadSection, EarlyEnd}
-use Rattle.re_given_words.specs.GivenTexts.{given_fault, given_input, given_problem}
-use Rattle.re_given_words.specs.declared.texts.GivenTexts.{GivenTexts}
+use Rattle.re_settings.specs.GivenTexts.{given_fault, given_input, given_problem}
+use Rattle.re_settings.specs.declared.texts.GivenTexts.{GivenTexts}
 use Rattle.re_problem.specs.SectionLines.{is_section}
 use Rattle.re_chains.specs.TwoTexts.{at_line, front_text, has_line, lines_behind, lines_to}
 use Rattle.re_graph_words.specs.GraphInputs.{or_text_fault}

@@ -2,11 +2,11 @@
 use Rattle.std.specs.Prelude.{◌≡◌, ℕ, List, ◌++◌, codes, Option, None, Some}
 use Rattle.std.specs.Fmt.{decimal}
 use Rattle.re_cover.specs.Graphs.{IsSolution}
-use Rattle.re_fit.specs.InputProblems.{input_fault}
+use Rattle.re_settings.specs.InputProblems.{input_fault}
 use Rattle.re_frame.specs.Outcomes.{Outcome, refused}
 use Rattle.re_frame.specs.declared.status.Status.TheVariants.{Done}
 use Rattle.re_given.specs.Given.{SolvableGiven}
-use Rattle.re_given_words.specs.InputFaults.{or_input_fault}
+use Rattle.re_settings.specs.InputFaults.{or_input_fault}
 use Rattle.re_graph.specs.Judging.{labels_fault}
 use Rattle.re_graph.specs.declared.judging.LabelsFault.{LabelsFault}
 use Rattle.re_graph.specs.declared.judging.LabelsFault.TheVariants.{Active, Passive}

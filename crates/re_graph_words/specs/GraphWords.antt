@@ -4,7 +4,7 @@ use Rattle.re_cover.specs.Graphs.{PortGraph}
 use Rattle.re_frame.specs.Outcomes.{Outcome, done, too_long}
 use Rattle.re_frame.specs.TextFaults.{fault_outcome}
 use Rattle.re_frame.specs.declared.status.Status.TheVariants.{No}
-use Rattle.re_given_words.specs.GivenTexts.{given_fault, given_input, given_problem}
+use Rattle.re_settings.specs.GivenTexts.{given_fault, given_input, given_problem}
 use Rattle.re_graph.specs.GraphTexts.{graph_text}
 use Rattle.re_graph.specs.Solving.{IsCover}
 use Rattle.re_io.specs.declared.read.TheConstants.{MAX_BYTES}

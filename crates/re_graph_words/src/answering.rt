@@ -14,9 +14,9 @@ use crate::solving::solve_output;
 use crate::words::GraphWord;
 use re_chains::has_line;
 use re_frame::{Finding, Output, fault_output};
-use re_given_words::GIVEN;
 use re_labels::NoMemory;
 use re_problem::{TextFault, read_problem};
+use re_settings::GIVEN;
 use std::alloc::Global;
 
 // What `cover` gives to the text of a problem.

@@ -1,9 +1,9 @@
 //! What `cover` answers where an input problem is given.
-ghost use Rattle.re_fit.specs.InputProblems.{input_fault as fault_of};
+ghost use Rattle.re_settings.specs.InputProblems.{input_fault as fault_of};
 ghost use Rattle.re_frame.specs.Outcomes.{outcome_of, refused as refused_with};
 ghost use Rattle.re_given.specs.Given.{SolvableGiven};
 ghost use Rattle.re_given.specs.Inputs.{IsInput};
-ghost use Rattle.re_given_words.specs.GivenTexts.{given_fault, given_input, given_problem};
+ghost use Rattle.re_settings.specs.GivenTexts.{given_fault, given_input, given_problem};
 ghost use Rattle.re_graph.specs.Solving.{AreSolution, IsCover};
 ghost use Rattle.re_graph_words.specs.GivenCovers.{IsGivenCover, MayCoverBeside, MayCoverGiven, MayCoverGivenRead, given_cover_text};
 ghost use Rattle.re_graph_words.specs.GivenSolutions.{given_none_line};
@@ -16,15 +16,14 @@ ghost use Rattle.std.specs.Prelude.{◌≡◌, ◌≤◌, ◌<◌, ◌*◌, ℕ,
 use crate::covering::{MAX_LISTED, not_found};
 use crate::given_solving::NO_SOLUTION;
 use crate::solving::{push_nodes, solve_output};
-use re_fit::input_fault;
 use re_frame::{Answer, Output, done, fault_output, push_words, too_long};
-use re_given_words::{input_fault_output, read_given};
 use re_graph::{
     Cover, FoundCover, Graph, MAX_STEPS, find_cover_given, find_gadgets_given, push_graph,
 };
 use re_io::MAX_BYTES;
 use re_labels::NoMemory;
 use re_problem::{Problem, TextFault, push_problem};
+use re_settings::{input_fault, input_fault_output, read_given};
 use std::alloc::Global;
 
 // The text of a problem, an input problem, and a graph with labels.

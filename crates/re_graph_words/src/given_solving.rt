@@ -14,11 +14,10 @@ use crate::faults::{ReadFault, graph_fault_output};
 use crate::given_texts::{GivenGraph, LabelledGraph, read_labelled};
 use crate::solving::solution_output;
 use re_cover::no_solution_given_law;
-use re_fit::input_fault;
 use re_frame::{Output, begun, push_number, push_words, refused};
-use re_given_words::input_fault_output;
 use re_graph::{LabelsFault, labels_fault};
 use re_labels::{NoMemory, PortLabels};
+use re_settings::{input_fault, input_fault_output};
 use std::alloc::Global;
 
 /// The line where there is no solution.

@@ -12,10 +12,10 @@ use crate::labels::read_labels;
 use crate::lines::read_lines;
 use crate::texts::{GRAPH, text_fault};
 use re_chains::{at_line, cut_at};
-use re_given_words::{GivenTexts, read_given};
 use re_graph::Graph;
 use re_labels::PortLabels;
 use re_problem::{InputFault, Problem};
+use re_settings::{GivenTexts, read_given};
 use std::alloc::Global;
 
 // The name of the line in front of the labels.

@@ -18,10 +18,10 @@ use crate::texts::{GraphText, read_graph_text};
 use re_cert::RowImage;
 use re_chains::has_line;
 use re_frame::{Output, begun, done, limit_of, refused};
-use re_given_words::GIVEN;
 use re_graph::{Graph, SolveFault, solve};
 use re_labels::{Names, NoMemory};
 use re_problem::Problem;
+use re_settings::GIVEN;
 use re_texts::push_image;
 use std::alloc::Global;
 

@@ -1,8 +1,10 @@
 -- What is hardest to answer, step by step, and what it says of all that an active node may see.
 use Rattle.std.proofs.Common.{◌≡◌, ◌⊎◌, ℕ, suc, ◌≤◌, ◌<◌, List, [], ◌∷◌, ◌++◌, ◌+◌, Bool, true, false, length, take, get_or, refl, sym, ◌∙◌, ap, subst, arith, inl, inr}
-use Rattle.std.specs.Prelude.{Contains}
+use Rattle.std.specs.Prelude.{Contains, nat_lt}
+use Rattle.std.proofs.lemmas.Bool.Decides.{nat_tests}
 use Rattle.std.specs.List.{AllByRecursion, AllZip}
 use Rattle.std.proofs.lemmas.List.{length-append, length-map}
+use Rattle.std.proofs.lemmas.List.Elements.{filter-append}
 use Rattle.re_greedy.proofs.Extras.{get_same, take_item}
 use Rattle.re_greedy.specs.Partials.{AreHardest, AreJoining, IsAnswered, IsCovered, IsStuck}
 use Rattle.re_labels.proofs.LawsOfRows.{multisets_law}
@@ -18,17 +20,32 @@ use Rattle.re_labels.proofs.Lists.{Contains-more_cases}
 use Rattle.re_problem.specs.Problems.{Problem}
 use Rattle.re_labels.proofs.Goodness.{IsAllowed-Rearranged, IsAllowed-is_allowed, is_allowed-IsAllowed}
 use Rattle.re_greedy.specs.Findings.{IsTried}
+use Rattle.re_greedy.specs.Greedy.{wanting}
 use Rattle.re_greedy.specs.declared.answering.Tried.{Tried}
 use Rattle.re_labels.specs.Constraints.{Constraint}
 use Rattle.re_labels.specs.GoodRows.{IsAllowed, is_allowed}
 use Rattle.std.proofs.Math.Seq.{get_or-append_seam}
 use Rattle.std.proofs.lemmas.List.{get_or_append_left}
 
+-- ---- how many want one more label
+wants : (degree : ℕ) (part : List (List ℕ)) (member : List ℕ) → length (wanting degree (part ++ member ∷ [])) ≡ length (wanting degree part) + length (wanting degree (member ∷ []))
+wants degree part member = ap length (filter-append (λ seen. nat_lt (length seen) degree) part (member ∷ [])) ∙ length-append (wanting degree part) (wanting degree (member ∷ []))
+
+wants_as_many : (degree : ℕ) (part : List (List ℕ)) (member : List ℕ) → length (wanting degree part) ≤ length (wanting degree (part ++ member ∷ []))
+wants_as_many degree part member = omega (arith, wants degree part member)
+
+wants_one : (degree : ℕ) (member : List ℕ) → length member < degree → length (wanting degree (member ∷ [])) ≡ 1
+wants_one degree member fewer = let e : nat_lt (length member) degree ≡ true = grind (arith, nat_tests) in rw e refl
+
+wants_more : (degree : ℕ) (part : List (List ℕ)) (member : List ℕ) → length member < degree → length (wanting degree (part ++ member ∷ [])) ≡ length (wanting degree part) + 1
+wants_more degree part member fewer = wants degree part member ∙ ap (λ n. length (wanting degree part) + n) (wants_one degree member fewer)
+
 -- ---- one multiset more
 module _ (degree : ℕ) (partial part chosen joining : List (List ℕ)) (member : List ℕ) (are : AreHardest degree partial part chosen joining) where
   pub hardest_long : degree ≤ length member → AreHardest degree partial (part ++ member ∷ []) chosen joining
   hardest_long long = record {
     alike = are.alike;
+    few = omega (arith, are.few, wants_as_many degree part member);
     each = are.each;
     hardest = λ seen at fewer. elim (Contains-more_cases part member seen at) [
       | inl there ↦ are.hardest seen there fewer
@@ -39,6 +56,7 @@ module _ (degree : ℕ) (partial part chosen joining : List (List ℕ)) (member 
   pub hardest_covered : (set : List ℕ) → AreJoining partial member set → IsCovered joining set → AreHardest degree partial (part ++ member ∷ []) chosen joining
   hardest_covered set joins (i, inside, within) = record {
     alike = are.alike;
+    few = omega (arith, are.few, wants_as_many degree part member);
     each = are.each;
     hardest = λ seen at fewer. elim (Contains-more_cases part member seen at) [
       | inl there ↦ are.hardest seen there fewer
@@ -50,6 +68,7 @@ module _ (degree : ℕ) (partial part chosen joining : List (List ℕ)) (member 
       → AreHardest degree partial (part ++ member ∷ []) (chosen ++ member ∷ []) (joining ++ set ∷ [])
   hardest_more set joins there fewer = record {
     alike = count;
+    few = omega (arith, are.few, wants_more degree part member fewer, length-append chosen (member ∷ []));
     each = λ i inside. each i inside (split i inside);
     hardest = λ seen at few. elim (Contains-more_cases part member seen at) [
       | inl before ↦ (
@@ -194,10 +213,10 @@ module _ (degree : ℕ) (members chosen joining : List (List ℕ)) (item : List 
       (subst (λ j. AreHardest degree members (take i members ++ item ∷ []) (chosen ++ item ∷ []) j) (sym two) more))
 
 -- ---- what was tried
-pub tried_is : (problem : Problem) (joining rows : List (List ℕ)) (constraint : Constraint) (tried answer : Tried) → constraint ≡ problem.active → rows ≡ joining → tried ≡ answer
-    → IsTried constraint rows tried → IsTried problem.active joining answer
-tried_is problem joining rows constraint tried answer one two e is =
-    subst (IsTried problem.active joining) e (subst (λ k. IsTried k joining tried) one (subst (λ r. IsTried constraint r tried) two is))
+pub tried_is : (problem : Problem) (joining rows : List (List ℕ)) (constraint : Constraint) (tries : ℕ) (tried answer : Tried) → constraint ≡ problem.active → rows ≡ joining → tried ≡ answer
+    → IsTried constraint rows tries tried → IsTried problem.active joining tries answer
+tried_is problem joining rows constraint tries tried answer one two e is =
+    subst (IsTried problem.active joining tries) e (subst (λ k. IsTried k joining tries tried) one (subst (λ r. IsTried constraint r tries tried) two is))
 
 pub hardest_is : (problem : Problem) (partial chosen joining : List (List ℕ)) (degree : ℕ) (constraint : Constraint) → degree ≡ constraint.degree → constraint ≡ problem.passive
     → AreHardest degree partial partial chosen joining → AreHardest problem.passive.degree partial partial chosen joining

@@ -299,13 +299,13 @@ left_all members left gone i over are labels = subst (λ xs. Contains left label
 
 -- ---- a list that is judged
 pub refused_list : RefusedListLaw
-refused_list problem partial GreedyList is refusal greedy = refusal
-refused_list problem partial NoEmpty is refusal greedy = is greedy.none
-refused_list problem partial (NotPassive labels) is refusal greedy = is.1 (λ count. greedy.full labels is.0 count)
-refused_list problem partial (StuckList around) is refusal greedy =
+refused_list problem partial tries GreedyList is refusal greedy = refusal
+refused_list problem partial tries NoEmpty is refusal greedy = is greedy.none
+refused_list problem partial tries (NotPassive labels) is refusal greedy = is.1 (λ count. greedy.full labels is.0 count)
+refused_list problem partial tries (StuckList around) is refusal greedy =
     stuck_within problem partial around.items partial is (λ labels at. at)
     (λ labels at. (AllByRecursion-contains (λ seen. Contains partial seen × (length seen < problem.passive.degree)) around.items labels is.each at).0) greedy
-refused_list problem partial LimitList is refusal greedy = refusal
+refused_list problem partial tries LimitList is refusal greedy = refusal
 
 pub right_more : (passive : Constraint) (members : List (List ℕ)) (i : ℕ) (item : List ℕ) → i < length members → item ≡ get_or members i item
     → ((labels : List ℕ) → Contains (take i members) labels → IsRight passive labels) → IsRight passive item → (labels : List ℕ) → Contains (take (i + 1) members) labels → IsRight passive labels

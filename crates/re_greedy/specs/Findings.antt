@@ -1,6 +1,6 @@
 -- What the search for multisets with which a problem is greedy gives.
-use Rattle.std.specs.Prelude.{◌≡◌, ℕ, true, false, List, [], length, Contains}
-use Rattle.re_greedy.specs.Greedy.{IsGreedy}
+use Rattle.std.specs.Prelude.{◌≡◌, ◌⊎◌, ℕ, ◌<◌, ◌≤◌, true, false, List, [], length, Contains}
+use Rattle.re_greedy.specs.Greedy.{IsGreedy, wanting}
 use Rattle.re_greedy.specs.Partials.{IsAnswered, IsPart, IsRight, IsStuck}
 use Rattle.re_greedy.specs.declared.answering.Reply.{Reply}
 use Rattle.re_greedy.specs.declared.answering.Reply.TheVariants.{Answered as ReplyAnswered, Limit as ReplyLimit, Stuck as ReplyStuck}
@@ -16,18 +16,24 @@ use Rattle.re_problem.specs.Problems.{Problem}
 use Rattle.re_labels.specs.Constraints.{Constraint}
 use Rattle.re_labels.specs.GoodRows.{is_allowed}
 
--- a multiset of places from whose sets no choice is a configuration, or that there is none
-abbrev pub IsTried : Constraint → List (List ℕ) → Tried → Type 0
-IsTried constraint joining (Stuck places) = Contains (multisets constraint.degree 0 (length joining)) places × (is_allowed constraint (placed joining places) ≡ false)
-IsTried constraint joining Answered =
+-- a multiset of places from whose sets no choice is a configuration, or that there is none, or that there are more multisets than tries
+abbrev pub IsTried : Constraint → List (List ℕ) → ℕ → Tried → Type 0
+IsTried constraint joining tries (Stuck places) = Contains (multisets constraint.degree 0 (length joining)) places × (is_allowed constraint (placed joining places) ≡ false)
+IsTried constraint joining tries Answered =
     (places : List ℕ) → Contains (multisets constraint.degree 0 (length joining)) places → is_allowed constraint (placed joining places) ≡ true
-IsTried constraint joining Limit = Unit {0}
+IsTried constraint joining tries Limit = tries < length (multisets constraint.degree 0 (length joining))
 
--- what an active node can't answer, or that it can answer all
-abbrev pub IsReply : Problem → List (List ℕ) → Reply → Type 0
-IsReply problem partial (ReplyStuck around) = IsStuck problem partial around.items
-IsReply problem partial ReplyAnswered = IsAnswered problem partial
-IsReply problem partial ReplyLimit = Unit {0}
+-- the tries may not be enough: of the multisets that want one more label there are more than 1000, or some of them have more multisets of as many as an active
+-- node has neighbours than there are tries
+abbrev pub IsBeyond : Problem → List (List ℕ) → ℕ → Type 0
+IsBeyond problem partial tries = (count : ℕ) × (count ≤ length (wanting problem.passive.degree partial))
+    × ((1000 < count) ⊎ (tries < length (multisets problem.active.degree 0 count)))
+
+-- what an active node can't answer, or that it can answer all, or that so many tries may not be enough
+abbrev pub IsReply : Problem → List (List ℕ) → ℕ → Reply → Type 0
+IsReply problem partial tries (ReplyStuck around) = IsStuck problem partial around.items
+IsReply problem partial tries ReplyAnswered = IsAnswered problem partial
+IsReply problem partial tries ReplyLimit = IsBeyond problem partial tries
 
 -- multisets whose ones of passive degree are passive configurations, among them all that are to be kept, of which the empty one is one
 pub record IsWhole (problem : Problem) (partial kept : List (List ℕ)) : Type 0 where
@@ -57,13 +63,13 @@ IsFinding problem (Greedy found) = IsGreedy problem found.items
 IsFinding problem NotGreedy = (partial : List (List ℕ)) → IsGreedy problem partial → ⊥
 IsFinding problem Unknown = Unit {0}
 
--- that the problem is greedy with these multisets, or what isn't as it has to be
-abbrev pub IsListVerdict : Problem → List (List ℕ) → ListVerdict → Type 0
-IsListVerdict problem partial GreedyList = IsGreedy problem partial
-IsListVerdict problem partial NoEmpty = Contains partial [] → ⊥
-IsListVerdict problem partial (NotPassive labels) = Contains partial labels × (IsRight problem.passive labels → ⊥)
-IsListVerdict problem partial (StuckList around) = IsStuck problem partial around.items
-IsListVerdict problem partial LimitList = Unit {0}
+-- that the problem is greedy with these multisets, or what isn't as it has to be, or that so many tries may not be enough
+abbrev pub IsListVerdict : Problem → List (List ℕ) → ℕ → ListVerdict → Type 0
+IsListVerdict problem partial tries GreedyList = IsGreedy problem partial
+IsListVerdict problem partial tries NoEmpty = Contains partial [] → ⊥
+IsListVerdict problem partial tries (NotPassive labels) = Contains partial labels × (IsRight problem.passive labels → ⊥)
+IsListVerdict problem partial tries (StuckList around) = IsStuck problem partial around.items
+IsListVerdict problem partial tries LimitList = IsBeyond problem partial tries
 
 -- it says that the problem isn't greedy with them
 abbrev pub IsRefusal : ListVerdict → Type 0
@@ -75,4 +81,4 @@ IsRefusal LimitList = ⊥
 
 -- and then it isn't
 abbrev pub RefusedListLaw : Type 0
-RefusedListLaw = (problem : Problem) (partial : List (List ℕ)) (verdict : ListVerdict) → IsListVerdict problem partial verdict → IsRefusal verdict → IsGreedy problem partial → ⊥
+RefusedListLaw = (problem : Problem) (partial : List (List ℕ)) (tries : ℕ) (verdict : ListVerdict) → IsListVerdict problem partial tries verdict → IsRefusal verdict → IsGreedy problem partial → ⊥

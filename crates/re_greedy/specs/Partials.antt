@@ -1,6 +1,7 @@
 -- What may stand around passive nodes, step by step: what joins it, what is hard to answer, what a search finds.
 use Rattle.std.specs.Prelude.{◌≡◌, ℕ, ◌<◌, ◌≤◌, ◌↔◌, List, [], ◌∷◌, ◌++◌, length, Contains, MatchOption, Option, slice_index_or}
 use Rattle.std.specs.List.{AllByRecursion, AllZip, remove}
+use Rattle.re_greedy.specs.Greedy.{wanting}
 use Rattle.re_labels.specs.Configs.{sorted}
 use Rattle.re_labels.specs.Sets.{IsIn, IsWithin}
 use Rattle.re_problem.specs.Problems.{Problem}
@@ -18,9 +19,11 @@ AreJoining partial seen labels = (x : ℕ) → IsIn x labels ↔ Contains partia
 abbrev pub IsCovered : List (List ℕ) → List ℕ → Type 0
 IsCovered sets set = (i : ℕ) × (i < length sets) × IsWithin (slice_index_or sets i []) set
 
--- some multisets of the list that want one more label, each with the labels that may join it; what may join another one of the part holds what may join one of these
+-- some multisets of the list that want one more label, no more than the part has of them, each with the labels that may join it; what may join another one of the
+-- part holds what may join one of these
 pub record AreHardest (degree : ℕ) (partial part chosen joining : List (List ℕ)) : Type 0 where
   pub alike : length joining ≡ length chosen
+  pub few : length chosen ≤ length (wanting degree part)
   pub each : (i : ℕ) → i < length chosen →
       Contains partial (slice_index_or chosen i []) × (length (slice_index_or chosen i []) < degree) × AreJoining partial (slice_index_or chosen i []) (slice_index_or joining i [])
   pub hardest : (seen : List ℕ) → Contains part seen → length seen < degree →

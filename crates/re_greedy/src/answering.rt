@@ -57,7 +57,7 @@ fn allows_at(constraint: &Constraint, joining: &[LabelSet], places: &[u16]) -> b
 // The first multiset of places from whose sets no choice is a configuration.
 fn first_stuck(constraint: &Constraint, joining: &[LabelSet], tries: &mut u32) -> Tried
     requires { length joining.now < 2 ^ 16 }
-    ensures { IsTried constraint.now joining.now result }
+    ensures { IsTried constraint.now joining.now tries.old result }
 {
     for picks in Multisets::new(constraint.degree() as usize, joining.len() as u16) {
         if *tries == 0 {
@@ -84,14 +84,15 @@ fn around_of(alloc: Global, chosen: &[Partial], places: &[u16]) -> Result<Vec<Pa
 }
 
 /// Whether an active node can answer whatever it sees around its passive nodes, where each of these shows one of the multisets that wants one more label
-/// and has to show one again. It tries the multisets of the hardest of these: the number of tries goes down by one for each.
+/// and has to show one again. It tries the multisets of the hardest of these: the number of tries goes down by one for each. `Limit` where there are more of
+/// them than tries, or where the hardest ones are more than 1000.
 pub fn reply_to(
     alloc: Global,
     problem: &Problem,
     members: &[Partial],
     tries: &mut u32,
 ) -> Result<Reply, NoMemory>
-    ensures { IfOk result (IsReply (unnamed problem.now) members.now) }
+    ensures { IfOk result (IsReply (unnamed problem.now) members.now tries.old) }
 {
     let hardest = hardest_of(alloc, members, problem.passive().degree())?;
     if hardest.joining.len() > 1000 {

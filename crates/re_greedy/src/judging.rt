@@ -65,7 +65,7 @@ pub fn judge_list(
     members: &[Partial],
     tries: &mut u32,
 ) -> Result<ListVerdict, NoMemory>
-    ensures { IfOk result (IsListVerdict (unnamed problem.now) members.now) }
+    ensures { IfOk result (IsListVerdict (unnamed problem.now) members.now tries.old) }
 {
     if !has_member(members, &[]) {
         return Ok(ListVerdict::NoEmpty);

@@ -26,7 +26,7 @@ use Rattle.re_forests.proofs.BoundsAbove.{below as below_forests, never as no_so
 use Rattle.re_forests.proofs.InViews.{never as nothing_left}
 use Rattle.re_gap.specs.Laws.{AboveLogOnViewsLaw, NotFlexibleLaw}
 use Rattle.re_given_bounds.proofs.EdgeClasses.{edge_coloured}
-use Rattle.re_given_words.specs.declared.setting.Setting.TheVariants.{Alone}
+use Rattle.re_settings.specs.declared.setting.Setting.TheVariants.{Alone}
 use Rattle.re_labels.specs.declared.sides.Side.{Side}
 use Rattle.re_labels.specs.declared.sides.Side.TheVariants.{Active, Passive}
 use Rattle.re_laws.specs.Algorithms.{Solvable}

@@ -12,10 +12,10 @@ use Rattle.re_check.specs.Verdicts.{steps_fault}
 use Rattle.re_check.specs.declared.verdict.ClauseFault.{ClauseFault}
 use Rattle.re_classes.specs.Laws.{IsSolvableColoured}
 use Rattle.re_greedy.proofs.GreedyChains.{greedy_coloured}
-use Rattle.re_greedy.specs.Findings.{IsListVerdict, IsRefusal, RefusedListLaw}
+use Rattle.re_greedy.specs.Findings.{IsBeyond, IsListVerdict, IsRefusal, RefusedListLaw}
 use Rattle.re_greedy.specs.Greedy.{IsGreedy}
 use Rattle.re_greedy.specs.declared.judging.ListVerdict.{ListVerdict}
-use Rattle.re_greedy.specs.declared.judging.ListVerdict.TheVariants.{Greedy}
+use Rattle.re_greedy.specs.declared.judging.ListVerdict.TheVariants.{Greedy, Limit}
 use Rattle.re_judging.specs.GreedyParts.{IsGreedyFrom, is_upper_chain, seen_from, whole_list}
 use Rattle.re_judging.specs.Turns.{Turns}
 use Rattle.re_labels.proofs.Tests.{and-true}
@@ -60,14 +60,17 @@ greedy_means turns chain is over sound upper greedy =
 -- ---- verdicts
 -- what is judged is the problem that is seen, with the whole list
 pub listed : (turns : Turns) (last seen : NamedProblem) (members : List (List ℕ)) (verdict : ListVerdict) → seen ≡ seen_from turns.side last → members ≡ [] ∷ (turns.multisets ++ seen.passive.configs)
-    → IsListVerdict (unnamed seen) members verdict → IsListVerdict (unnamed (seen_from turns.side last)) (whole_list turns last) verdict
+    → IsListVerdict (unnamed seen) members 1000000 verdict → IsListVerdict (unnamed (seen_from turns.side last)) (whole_list turns last) 1000000 verdict
 listed turns last seen members verdict same list is =
-    let P : NamedProblem → Type 0 = λ p. IsListVerdict (unnamed p) ([] ∷ (turns.multisets ++ p.passive.configs)) verdict in
-    subst P same (subst (λ members. IsListVerdict (unnamed seen) members verdict) list is)
+    let P : NamedProblem → Type 0 = λ p. IsListVerdict (unnamed p) ([] ∷ (turns.multisets ++ p.passive.configs)) 1000000 verdict in
+    subst P same (subst (λ members. IsListVerdict (unnamed seen) members 1000000 verdict) list is)
 
-pub greedy_is : (problem : Problem) (partial : List (List ℕ)) (verdict : ListVerdict) → verdict ≡ Greedy → IsListVerdict problem partial verdict → IsGreedy problem partial
-greedy_is problem partial verdict same is = subst (IsListVerdict problem partial) same is
+pub greedy_is : (problem : Problem) (partial : List (List ℕ)) (verdict : ListVerdict) → verdict ≡ Greedy → IsListVerdict problem partial 1000000 verdict → IsGreedy problem partial
+greedy_is problem partial verdict same is = subst (IsListVerdict problem partial 1000000) same is
 
-pub refused_is : RefusedListLaw → (problem : Problem) (partial : List (List ℕ)) (verdict other : ListVerdict) → verdict ≡ other → IsRefusal other → IsListVerdict problem partial verdict
+pub beyond_is : (problem : Problem) (partial : List (List ℕ)) (verdict : ListVerdict) → verdict ≡ Limit → IsListVerdict problem partial 1000000 verdict → IsBeyond problem partial 1000000
+beyond_is problem partial verdict same is = subst (IsListVerdict problem partial 1000000) same is
+
+pub refused_is : RefusedListLaw → (problem : Problem) (partial : List (List ℕ)) (verdict other : ListVerdict) → verdict ≡ other → IsRefusal other → IsListVerdict problem partial 1000000 verdict
     → IsGreedy problem partial → ⊥
-refused_is law problem partial verdict other same refuses is greedy = law problem partial verdict is (subst IsRefusal (sym same) refuses) greedy
+refused_is law problem partial verdict other same refuses is greedy = law problem partial 1000000 verdict is (subst IsRefusal (sym same) refuses) greedy

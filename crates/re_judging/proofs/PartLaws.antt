@@ -12,9 +12,9 @@ use Rattle.re_judging.specs.Facts.{FactHolds}
 use Rattle.re_judging.specs.PartVerdicts.{IsGivenFact, IsUpperFact, bound_fact}
 use Rattle.re_judging.specs.declared.types.Fact.{Fact}
 use Rattle.re_judging.specs.declared.types.Fact.TheVariants.{AtMost, FewColours, FixedPoint, Flexible, Length, MoreThan, Never, NoSolution, Nothing}
-use Rattle.re_fit.specs.InputProblems.{IsJudged, input_fault}
-use Rattle.re_fit.specs.declared.inputs.InputFault.{InputFault}
-use Rattle.re_fit.specs.declared.inputs.InputFault.TheVariants.{Degrees, Empty, OneSide}
+use Rattle.re_settings.specs.InputProblems.{IsJudged, input_fault}
+use Rattle.re_settings.specs.declared.inputs.InputFault.{InputFault}
+use Rattle.re_settings.specs.declared.inputs.InputFault.TheVariants.{Degrees, Empty, OneSide}
 use Rattle.re_frame.specs.Outcomes.{Outcome, refused}
 use Rattle.re_frame.specs.declared.status.Status.TheVariants.{Done}
 use Rattle.re_given.proofs.Ungiven.{SolvableGiven-ungiven}
@@ -22,7 +22,7 @@ use Rattle.re_given.specs.Given.{SolvableGiven}
 use Rattle.re_given.specs.Inputs.{IsInput}
 use Rattle.re_given_bounds.proofs.ClassMeaning.{above_log}
 use Rattle.re_given_bounds.specs.GivenBounds.{IsOver, MeansGiven}
-use Rattle.re_given_words.specs.InputFaults.{fault_line, or_input_fault}
+use Rattle.re_settings.specs.InputFaults.{fault_line, or_input_fault}
 use Rattle.re_graph.specs.Judging.{labels_fault}
 use Rattle.re_graph_words.specs.GivenInputs.{Labelled}
 use Rattle.re_graph_words.specs.GivenSolutions.{GivenMeans, given_none_line, or_labels_fault}

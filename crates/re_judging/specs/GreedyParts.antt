@@ -9,6 +9,7 @@ use Rattle.re_frame.specs.Check.{verdict_outcome}
 use Rattle.re_frame.specs.Outcomes.{Outcome, limit_of, outcome_of, refused}
 use Rattle.re_frame.specs.SearchLines.{not_upper_line}
 use Rattle.re_frame.specs.TextFaults.{fault_outcome}
+use Rattle.re_greedy.specs.Findings.{IsBeyond}
 use Rattle.re_greedy.specs.Greedy.{IsGreedy}
 use Rattle.re_greedy.specs.declared.finding.TheConstants.{MAX_MULTISETS}
 use Rattle.re_inputs.specs.NamedInputs.{named_exchanged}
@@ -54,6 +55,10 @@ whole_list turns problem = [] ∷ (turns.multisets ++ (seen_from turns.side prob
 abbrev pub IsGreedyFrom : Turns → NamedProblem → Type 0
 IsGreedyFrom turns problem = IsGreedy (unnamed (seen_from turns.side problem)) (whole_list turns problem)
 
+-- a million tries may not be enough to tell
+abbrev pub MayPassTries : Turns → NamedProblem → Type 0
+MayPassTries turns problem = IsBeyond (unnamed (seen_from turns.side problem)) (whole_list turns problem) 1000000
+
 -- the lines where it isn't, and where so many tries weren't enough to tell
 abbrev pub not_greedy : Outcome
 not_greedy = refused (codes "no: not greedy with these multisets\n")
@@ -63,7 +68,8 @@ tries_limit = limit_of 1000000 (codes "tries")
 
 abbrev pub IsGreedyBy : Turns → Bound → Judged → Type 0
 IsGreedyBy turns chain (Holds part) = IsGreedyFrom turns (last_problem chain) × (part.problem ≡ chain.first) × (part.fact ≡ says.FewColours Active)
-IsGreedyBy turns chain (Refused output) = ((outcome_of output ≡ not_greedy) × (IsGreedyFrom turns (last_problem chain) → ⊥)) ⊎ (outcome_of output ≡ tries_limit)
+IsGreedyBy turns chain (Refused output) =
+    ((outcome_of output ≡ not_greedy) × (IsGreedyFrom turns (last_problem chain) → ⊥)) ⊎ ((outcome_of output ≡ tries_limit) × MayPassTries turns (last_problem chain))
 
 -- only few multisets are taken
 abbrev pub IsFewBy : Bool → Turns → Bound → Judged → Type 0

@@ -26,8 +26,8 @@ use Rattle.re_frame.specs.Check.{verdict_outcome}
 use Rattle.re_frame.specs.Outcomes.{Outcome, outcome_of, refused}
 use Rattle.re_frame.specs.TextFaults.{fault_outcome}
 use Rattle.re_frame.specs.declared.status.Status.TheVariants.{Done}
-use Rattle.re_given_words.specs.Verdicts.{given_outcome}
-use Rattle.re_given_words.specs.declared.words.BoundWord.TheVariants as word
+use Rattle.re_settings.specs.Verdicts.{given_outcome}
+use Rattle.re_settings.specs.declared.bound_words.BoundWord.TheVariants as word
 use Rattle.re_graph_words.specs.GivenInputs.{Labelled, labelled_input}
 use Rattle.re_graph_words.specs.GivenSolutions.{given_none_line}
 use Rattle.re_graph_words.specs.GraphInputs.{graph_input}

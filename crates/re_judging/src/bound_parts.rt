@@ -7,8 +7,8 @@ ghost use Rattle.re_evidence.specs.Colours.{IsNamedColouring};
 ghost use Rattle.re_judging.specs.PartAnswers.{PartMeans};
 ghost use Rattle.re_judging.specs.PartVerdicts.{IsCertificate, IsChecked, IsGiven, IsGivenBy, IsGivenFact, IsUpperFact, bound_fact};
 ghost use Rattle.re_frame.specs.Outcomes.{outcome_of};
-ghost use Rattle.re_given_words.specs.Verdicts.{given_outcome};
-ghost use Rattle.re_given_words.specs.declared.words.BoundWord.TheVariants.{Given};
+ghost use Rattle.re_settings.specs.Verdicts.{given_outcome};
+ghost use Rattle.re_settings.specs.declared.bound_words.BoundWord.TheVariants.{Given};
 ghost use Rattle.re_io.specs.declared.read.TheConstants.{MAX_BYTES};
 ghost use Rattle.std.specs.Prelude.{◌≡◌, ◌≤◌, ◌↔◌, IfOk, IsTrue, codes, length};
 
@@ -18,11 +18,10 @@ use re_cert::{Certificate, Kind, read_certificate};
 use re_chains::{TwoTexts, over_problems, read_two};
 use re_check::{Verdict, check};
 use re_evidence::{colouring_of, few_colours};
-use re_fit::input_fault;
 use re_frame::{Answer, fault_output, verdict_output};
-use re_given_words::{GIVEN, answer_law, given_verdict, given_verdict_output};
 use re_labels::{NoMemory, Side};
 use re_problem::{Problem, TextFault};
+use re_settings::{GIVEN, answer_law, given_verdict, given_verdict_output, input_fault};
 use std::alloc::Global;
 
 // What an accepted bound says.

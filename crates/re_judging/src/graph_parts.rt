@@ -15,14 +15,13 @@ ghost use Rattle.std.specs.Prelude.{◌≡◌, ◌↔◌, ◌≤◌, ℕ, IfOk, 
 
 use crate::types::{Fact, Judged, Part};
 use re_chains::has_line;
-use re_fit::input_fault;
 use re_frame::{Answer, Finding, Output};
-use re_given_words::GIVEN;
 use re_graph_words::{
     GraphText, GraphWord, LabelledGraph, ReadFault, read_graph_text, read_labelled,
 };
 use re_labels::NoMemory;
 use re_problem::Problem;
+use re_settings::{GIVEN, input_fault};
 use std::alloc::Global;
 
 /// The line where there is no solution.

@@ -125,7 +125,7 @@ fn not_greedy(alloc: Global) -> Result<Output, NoMemory>
 
 // Whether the problem is greedy from the side with the multisets, the empty one and all passive configurations.
 fn list_verdict(alloc: Global, turns: &Turns, problem: &Problem) -> Result<ListVerdict, NoMemory>
-    ensures { IfOk result (IsListVerdict (unnamed (seen_from turns.now.side problem.now)) (whole_list turns.now problem.now)) }
+    ensures { IfOk result (IsListVerdict (unnamed (seen_from turns.now.side problem.now)) (whole_list turns.now problem.now) 1000000) }
 {
     let seen = seen_from(alloc, problem, turns.side)?;
     let list = whole_list(alloc, turns, &seen)?;

@@ -7,11 +7,10 @@
 //! - how a text is cut into parts, and which problem a part is on: `Joints`, and the readers of problems and of certificates that `PartVerdicts` names.
 //! How a part is judged, what it says and what follows from all of them needs no belief: each step between is proved.
 //!
-//! No call from here searches for a bound, or computes a step of round elimination. Bounds are checked clause by clause, given an input problem too; flexible
-//! sets and levels of labels are computed from the problem; solutions of a graph, sets by which an upper step leads to an input problem, and what a node may
-//! see are tried, with limits. Libraries below have other words that do search or compute steps, so the list of crates is longer: `re_frame` names
-//! `re_step` for lines of limits, `re_given_words` names `re_step`, `re_shaping` and `re_search` for `rounds` and for bounds that go on, and `re_fit` and
-//! `re_graph` walk with what `re_bridge`, `re_walks` and `re_algo` have.
+//! No crate below computes a step of round elimination or searches for a bound, as `crates.txt` shows (`tools/paths.py re_judging` lists them). Bounds are
+//! checked clause by clause, given an input problem too; flexible sets and levels of labels are computed from the problem; solutions of a graph, sets by which
+//! an upper step leads to an input problem, and what a node may see are tried, with limits. Two of the crates below have words that search, too, `re_graph` and
+//! `re_graph_words` for a graph, and `re_greedy` has a search for multisets: nothing here calls these.
 #![tactic(auto)]
 
 mod bound_parts;

@@ -10,8 +10,8 @@ use crate::greedy_parts::{GREEDY, greedy_part};
 use crate::level_parts::{LENGTH, length_part};
 use crate::types::{Judged, PartKind};
 use re_chains::has_line;
-use re_given_words::GIVEN;
 use re_labels::NoMemory;
+use re_settings::GIVEN;
 use std::alloc::Global;
 
 /// The name of the line in front of a graph.

@@ -10,8 +10,8 @@ use Rattle.re_chains.specs.Chains.{IsSoundLower}
 use Rattle.re_chains.specs.OverChains.{GivesText, certificate_outcome}
 use Rattle.re_frame.specs.Outcomes.{Outcome, refused}
 use Rattle.re_frame.specs.SearchLines.{solvable_line}
-use Rattle.re_given_words.specs.Settings.{TakenAloneLaw}
-use Rattle.re_given_words.specs.declared.setting.Setting.TheVariants.{Alone}
+use Rattle.re_settings.specs.Settings.{TakenAloneLaw}
+use Rattle.re_settings.specs.declared.setting.Setting.TheVariants.{Alone}
 use Rattle.re_search_words.specs.Lines.{searched_limit, searched_outcome}
 use Rattle.re_search_words.specs.MayGive.{MayFindBy}
 use Rattle.re_search_words.specs.declared.words.SearchWord.TheVariants.{Cycle}

@@ -6,7 +6,7 @@ use Rattle.re_frame.specs.Runs.{MaySay}
 use Rattle.re_search_words.specs.RelaxedWords.{MayGive, looked_at}
 use Rattle.re_search_words.specs.declared.relaxed_words.RelaxedWord.{RelaxedWord}
 use Rattle.re_chains.specs.ChainTexts.{chain_fault, text_chain}
-use Rattle.re_given_words.specs.declared.setting.Setting.TheVariants.{Alone}
+use Rattle.re_settings.specs.declared.setting.Setting.TheVariants.{Alone}
 use Rattle.re_search_words.proofs.Saying.{read_says}
 use Rattle.re_search_words.specs.declared.words.SearchWord.TheVariants.{Cycle}
 

@@ -9,9 +9,9 @@ use Rattle.re_check.specs.declared.verdict.Verdict.{Verdict}
 use Rattle.re_frame.proofs.Said.{check_says, fault_says, says_as}
 use Rattle.re_frame.specs.Outcomes.{Outcome}
 use Rattle.re_frame.specs.Runs.{MaySay}
-use Rattle.re_given_words.proofs.SettingSays.{input_says, refusal_says, text_says}
-use Rattle.re_given_words.specs.SettingTexts.{parts_of}
-use Rattle.re_given_words.specs.declared.setting.Setting.{Setting}
+use Rattle.re_settings.proofs.SettingSays.{input_says, refusal_says, text_says}
+use Rattle.re_settings.specs.SettingTexts.{parts_of}
+use Rattle.re_settings.specs.declared.setting.Setting.{Setting}
 use Rattle.re_search_words.specs.MayGive.{IsFound, MayFind, MayFindBy, MayFindElse, MayGive, MayGiveAt, MayGiveIn, MayGiveRead, MayGiveSound, word_chain}
 use Rattle.re_search_words.specs.declared.words.SearchWord.{SearchWord}
 use Rattle.re_search_words.specs.declared.words.SearchWord.TheVariants.{Cycle, Longest, Shortest}

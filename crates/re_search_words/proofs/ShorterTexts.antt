@@ -8,9 +8,10 @@ use Rattle.re_shaping.specs.Extensions.{AreSmall}
 use Rattle.re_frame.specs.Outcomes.{Outcome, status_of, too_long}
 use Rattle.re_frame.specs.declared.output.Output.{Output}
 use Rattle.re_frame.specs.declared.status.Status.TheVariants as status
-use Rattle.re_given_words.specs.Settings.{GivesIn, GoesOnIn, text_outcome_in}
-use Rattle.re_given_words.specs.declared.setting.Setting.{Setting}
-use Rattle.re_given_words.specs.declared.setting.Setting.TheVariants as settings
+use Rattle.re_given_words.specs.Extensions.{GoesOnIn}
+use Rattle.re_settings.specs.Settings.{GivesIn, text_outcome_in}
+use Rattle.re_settings.specs.declared.setting.Setting.{Setting}
+use Rattle.re_settings.specs.declared.setting.Setting.TheVariants as settings
 use Rattle.re_search_words.specs.MayGive.{IsFound, IsTextOn, MayFind, MayFindElse}
 use Rattle.re_search_words.specs.declared.words.SearchWord.TheVariants.{Longest, Shortest}
 

@@ -14,9 +14,10 @@ use Rattle.re_frame.specs.Check.{verdict_outcome}
 use Rattle.re_frame.specs.Outcomes.{Outcome, refused, too_long}
 use Rattle.re_frame.specs.SearchLines.{not_found_line, not_lower_line, not_upper_line}
 use Rattle.re_frame.specs.TextFaults.{fault_outcome}
-use Rattle.re_given_words.specs.SettingTexts.{parts_of}
-use Rattle.re_given_words.specs.Settings.{GivesIn, GoesOnIn, IsFaultIn, IsRefusalIn, IsSettingOf, IsTakenIn, text_outcome_in}
-use Rattle.re_given_words.specs.declared.setting.Setting.{Setting}
+use Rattle.re_settings.specs.SettingTexts.{parts_of}
+use Rattle.re_given_words.specs.Extensions.{GoesOnIn}
+use Rattle.re_settings.specs.Settings.{GivesIn, IsFaultIn, IsRefusalIn, IsSettingOf, IsTakenIn, text_outcome_in}
+use Rattle.re_settings.specs.declared.setting.Setting.{Setting}
 use Rattle.re_search_words.specs.Lines.{searched_limit, searched_outcome}
 use Rattle.re_search_words.specs.declared.words.SearchWord.{SearchWord}
 use Rattle.re_search_words.specs.declared.words.SearchWord.TheVariants.{Cycle, Longest, Shortest}

@@ -4,7 +4,7 @@ use Rattle.std.specs.Str.{bytes_eq}
 use Rattle.re_cert.specs.declared.certificate.TheConstants.{MAX_STEPS}
 use Rattle.re_chains.specs.ChainTexts.{chain_fault, text_chain}
 use Rattle.re_frame.specs.Outcomes.{Outcome}
-use Rattle.re_given_words.specs.declared.setting.Setting.TheVariants.{Alone}
+use Rattle.re_settings.specs.declared.setting.Setting.TheVariants.{Alone}
 use Rattle.re_problem.specs.Numerals.{number_of}
 use Rattle.re_search_words.specs.Library.{member_named}
 use Rattle.re_search_words.specs.declared.library.Member.{Member}

@@ -4,8 +4,8 @@ ghost use Rattle.re_chains.specs.HeldBounds.{held_bound};
 ghost use Rattle.re_chains.specs.ChainTexts.{text_chain};
 ghost use Rattle.re_chains.specs.OverChains.{steps_refusal};
 ghost use Rattle.re_frame.specs.Outcomes.{outcome_of};
-ghost use Rattle.re_given_words.specs.SettingTexts.{parts_of};
-ghost use Rattle.re_given_words.specs.Settings.{IsSettingOf, IsTakenIn};
+ghost use Rattle.re_settings.specs.SettingTexts.{parts_of};
+ghost use Rattle.re_settings.specs.Settings.{IsSettingOf, IsTakenIn};
 ghost use Rattle.re_io.specs.declared.read.TheConstants.{MAX_BYTES};
 ghost use Rattle.re_problem.specs.NamedProblems.{unnamed};
 ghost use Rattle.re_search_words.specs.MayGive.{MayFind, MayFindBy, MayFindElse, MayGive, MayGiveAt, MayGiveIn, MayGiveSound, upper_chain, word_chain};
@@ -22,12 +22,12 @@ use re_frame::{
     Answer, Finding, Output, fault_output, not_found_output, not_lower_output, not_upper_output,
     verdict_output,
 };
-use re_given_words::{
-    Setting, SettingTexts, front_of, input_refusal_in, is_taken, print_in, read_in, refusal_in,
-    repeated_in,
-};
+use re_given_words::repeated_in;
 use re_labels::NoMemory;
 use re_problem::TextFault;
+use re_settings::{
+    Setting, SettingTexts, front_of, input_refusal_in, is_taken, print_in, read_in, refusal_in,
+};
 use std::alloc::Global;
 
 // What `longest` gives to a chain that is taken.

@@ -2,7 +2,7 @@
 ghost use Rattle.re_cert.specs.declared.certificate.Kind.TheVariants.{Lower, Upper};
 ghost use Rattle.re_frame.specs.Outcomes.{outcome_of, status_of};
 ghost use Rattle.re_frame.specs.declared.status.Status.TheVariants.{Done};
-ghost use Rattle.re_given_words.specs.Settings.{IsSettingOf, IsTakenIn};
+ghost use Rattle.re_settings.specs.Settings.{IsSettingOf, IsTakenIn};
 ghost use Rattle.re_problem.specs.NamedProblems.{unnamed};
 ghost use Rattle.re_search_words.specs.MayGive.{IsFound};
 ghost use Rattle.std.specs.Prelude.{◌≡◌, ◌≤◌, ◌<◌, IfOk, IfSome};
@@ -10,8 +10,8 @@ ghost use Rattle.std.specs.Prelude.{◌≡◌, ◌≤◌, ◌<◌, IfOk, IfSome}
 use re_beams::{Shortest, find_longest, find_shortest};
 use re_chains::{LowerChain, UpperChain};
 use re_frame::Output;
-use re_given_words::{Setting, has_text_in, is_done, print_in};
 use re_labels::NoMemory;
+use re_settings::{Setting, has_text_in, is_done, print_in};
 use std::alloc::Global;
 
 /// With how many labels a search is tried again behind one with so many: three quarters of them.

@@ -4,7 +4,7 @@ ghost use Rattle.re_cert.specs.declared.certificate.TheConstants.{MAX_STEPS};
 ghost use Rattle.re_chains.specs.HeldBounds.{held_bound};
 ghost use Rattle.re_chains.specs.OverChains.{steps_refusal};
 ghost use Rattle.re_frame.specs.Outcomes.{outcome_of};
-ghost use Rattle.re_given_words.specs.declared.setting.Setting.TheVariants.{Alone};
+ghost use Rattle.re_settings.specs.declared.setting.Setting.TheVariants.{Alone};
 ghost use Rattle.re_io.specs.declared.read.TheConstants.{MAX_BYTES};
 ghost use Rattle.re_search_words.specs.Answers.{Answers};
 ghost use Rattle.re_search_words.specs.RelaxedWords.{MayGive, looked_at};
@@ -20,9 +20,9 @@ use crate::{searched_limit, searched_output};
 use re_cert::Certificate;
 use re_chains::{Chain, LowerChain, certificate_output, judged_chain, read_chain};
 use re_frame::{Finding, Output, fault_output, not_lower_output, solvable_output, verdict_output};
-use re_given_words::taken_alone_law;
 use re_labels::NoMemory;
 use re_problem::TextFault;
+use re_settings::taken_alone_law;
 use std::alloc::Global;
 
 // What the word searches for.

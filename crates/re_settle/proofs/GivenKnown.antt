@@ -7,19 +7,20 @@ use Rattle.re_cert.specs.declared.certificate.Kind.TheVariants as kind
 use Rattle.re_chains.specs.Chains.{chain_with}
 use Rattle.re_chains.specs.ChainTexts.{problem_chain}
 use Rattle.re_closure.specs.Closures.{IsClosed}
-use Rattle.re_fit.specs.InputProblems.{input_fault}
+use Rattle.re_settings.specs.InputProblems.{input_fault}
 use Rattle.re_frame.specs.Outcomes.{Outcome}
 use Rattle.re_given.specs.Inputs.{IsInput}
 use Rattle.re_given_bounds.specs.GivenBounds.{MeansGiven}
 use Rattle.re_given_words.proofs.CountingMeans.{count_means}
 use Rattle.re_given_words.proofs.GoingOn.{taken_law}
 use Rattle.re_given_words.specs.Counting.{CountMeans, IsBeside, IsCounted, MayTell, walk_after}
-use Rattle.re_given_words.specs.Extensions.{GoesOnGiven, IsTaken}
-use Rattle.re_given_words.specs.InputFaults.{or_input_fault}
-use Rattle.re_given_words.specs.Verdicts.{given_outcome, lower_with}
+use Rattle.re_given_words.specs.Extensions.{GoesOnGiven}
+use Rattle.re_settings.specs.Taken.{IsTaken}
+use Rattle.re_settings.specs.InputFaults.{or_input_fault}
+use Rattle.re_settings.specs.Verdicts.{given_outcome, lower_with}
 use Rattle.re_given_words.specs.declared.counting.Counted.{Counted}
 use Rattle.re_given_words.specs.declared.counting.Counted.TheVariants as counted
-use Rattle.re_given_words.specs.declared.words.BoundWord.TheVariants.{Given}
+use Rattle.re_settings.specs.declared.bound_words.BoundWord.TheVariants.{Given}
 use Rattle.re_labels.specs.declared.TheConstants.{MAX_LABELS}
 use Rattle.re_problem.specs.NamedProblems.{IsNamedProblem, NamedProblem, unnamed}
 use Rattle.re_problem.specs.Problems.{IsProblem, Problem}

@@ -1,12 +1,12 @@
 -- What the word may answer given an input problem.
 use Rattle.std.proofs.Common.{ℕ, List, Option, Some, None, inl, inr, refl, true}
 use Rattle.std.specs.Prelude.{◌⊎◌}
-use Rattle.re_fit.specs.InputProblems.{input_fault}
-use Rattle.re_fit.specs.declared.inputs.InputFault.{InputFault as Fault}
+use Rattle.re_settings.specs.InputProblems.{input_fault}
+use Rattle.re_settings.specs.declared.inputs.InputFault.{InputFault as Fault}
 use Rattle.re_frame.proofs.Said.{fault_says, says_as}
 use Rattle.re_frame.specs.Outcomes.{Outcome}
 use Rattle.re_frame.specs.Runs.{MaySay}
-use Rattle.re_given_words.specs.GivenTexts.{given_fault, given_input, given_problem}
+use Rattle.re_settings.specs.GivenTexts.{given_fault, given_input, given_problem}
 use Rattle.re_problem.specs.NamedProblems.{NamedProblem}
 use Rattle.re_problem.specs.declared.fault.InputFault.{InputFault}
 use Rattle.re_evidence.specs.Claims.{is_final}

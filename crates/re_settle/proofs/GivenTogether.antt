@@ -9,7 +9,7 @@ use Rattle.re_given_bounds.specs.Telling.{TellsPassive}
 use Rattle.re_problem.specs.NamedProblems.{NamedProblem, unnamed}
 use Rattle.re_problem.specs.Problems.{IsProblem, Problem}
 use Rattle.re_evidence.proofs.Together.{within_holds}
-use Rattle.re_given_words.specs.declared.setting.Setting.TheVariants.{Given}
+use Rattle.re_settings.specs.declared.setting.Setting.TheVariants.{Given}
 use Rattle.re_evidence.specs.declared.types.Claim.TheVariants.{AtMost, Exactly, MoreThan, Never}
 use Rattle.re_settle.specs.declared.types.Shown.{Shown}
 use Rattle.re_settle.specs.declared.types.Way.{Way}

@@ -17,7 +17,7 @@ use Rattle.re_given_words.specs.Counting.{CountMeans, MayTell}
 use Rattle.re_given_words.specs.declared.counting.Counted.{Counted}
 use Rattle.re_given_words.specs.declared.counting.Counted.TheVariants as counted
 use Rattle.re_labels.specs.declared.TheConstants.{MAX_LABELS}
-use Rattle.re_given_words.specs.declared.setting.Setting.TheVariants as setting
+use Rattle.re_settings.specs.declared.setting.Setting.TheVariants as setting
 use Rattle.re_beams.specs.ShortestAnswers as shortest
 use Rattle.re_beams.specs.declared.shortening.Shortest.TheVariants as shortest_answer
 use Rattle.re_laws.proofs.ZeroRounds.{Solvable-zero}

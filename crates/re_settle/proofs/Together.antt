@@ -12,7 +12,7 @@ use Rattle.re_settle.proofs.Fixed.{unfixed_at_once}
 use Rattle.re_settle.proofs.Known.{closure_holds}
 use Rattle.re_evidence.proofs.Local.{claim_local, constant_class}
 use Rattle.re_evidence.proofs.Together.{within_holds}
-use Rattle.re_given_words.specs.declared.setting.Setting.TheVariants.{Alone}
+use Rattle.re_settings.specs.declared.setting.Setting.TheVariants.{Alone}
 use Rattle.re_evidence.specs.Claims.{Holds, within}
 use Rattle.re_chains.specs.ChainTexts.{problem_chain}
 use Rattle.re_settle.specs.Ways.{AnswersClosure, AnswersCount, AnswersFixed, IsFound, IsKnown, IsUnclosed, IsUncounted, IsUnfixed, ShowsZero}

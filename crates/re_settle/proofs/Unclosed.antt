@@ -12,7 +12,7 @@ use Rattle.re_closure.specs.declared.types.ClosureLimit.TheVariants.{Combination
 use Rattle.re_frame.specs.Outcomes.{Outcome, done, limit, refused, too_long, within_limit}
 use Rattle.re_frame.specs.declared.status.Status.{Status}
 use Rattle.re_frame.specs.declared.status.Status.TheVariants as status
-use Rattle.re_given_words.specs.declared.setting.Setting.TheVariants.{Alone}
+use Rattle.re_settings.specs.declared.setting.Setting.TheVariants.{Alone}
 use Rattle.re_io.specs.declared.read.TheConstants.{MAX_BYTES}
 use Rattle.re_problem.specs.NamedProblems.{NamedProblem, unnamed}
 use Rattle.re_problem.specs.Problems.{IsProblem}

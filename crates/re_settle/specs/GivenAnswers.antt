@@ -1,14 +1,14 @@
 -- What the word `settle` may answer to a problem and an input problem, or to a problem.
 use Rattle.std.specs.Prelude.{◌≡◌, ℕ, ◌⊎◌, Bool, true, false, List, ◌++◌, codes, if◌then◌else◌, Option, None, Some}
 use Rattle.std.specs.Fmt.{decimal}
-use Rattle.re_fit.specs.InputProblems.{input_fault}
-use Rattle.re_fit.specs.declared.inputs.InputFault.{InputFault as Fault}
+use Rattle.re_settings.specs.InputProblems.{input_fault}
+use Rattle.re_settings.specs.declared.inputs.InputFault.{InputFault as Fault}
 use Rattle.re_frame.specs.Outcomes.{Outcome, done, refused}
 use Rattle.re_frame.specs.TextFaults.{fault_outcome}
 use Rattle.re_given_words.specs.Counting.{walk_after}
-use Rattle.re_given_words.specs.GivenTexts.{given_fault, given_input, given_problem}
-use Rattle.re_given_words.specs.InputFaults.{fault_line}
-use Rattle.re_given_words.specs.Walks.{tries_outcome}
+use Rattle.re_settings.specs.GivenTexts.{given_fault, given_input, given_problem}
+use Rattle.re_settings.specs.InputFaults.{fault_line}
+use Rattle.re_settings.specs.Walks.{tries_outcome}
 use Rattle.re_problem.specs.NamedProblems.{NamedProblem, unnamed}
 use Rattle.re_problem.specs.declared.fault.InputFault.{InputFault}
 use Rattle.re_settle.specs.Answers.{MayGive}

@@ -7,7 +7,8 @@ use Rattle.re_chains.specs.ChainTexts.{problem_chain}
 use Rattle.re_closure.specs.Closures.{IsClosed}
 use Rattle.re_cover.specs.Graphs.{PortGraph}
 use Rattle.re_given_words.specs.Counting.{IsCounted}
-use Rattle.re_given_words.specs.Extensions.{GoesOnGiven, IsTaken}
+use Rattle.re_given_words.specs.Extensions.{GoesOnGiven}
+use Rattle.re_settings.specs.Taken.{IsTaken}
 use Rattle.re_given_words.specs.declared.counting.Counted.{Counted}
 use Rattle.re_graph_words.specs.GivenCovers.{IsGivenCover}
 use Rattle.re_given_bounds.specs.Telling.{TellsPassive}

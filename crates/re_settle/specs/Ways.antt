@@ -25,7 +25,7 @@ use Rattle.re_flexible.specs.declared.levels.Flexibility.TheVariants.{Length, No
 use Rattle.re_given_words.specs.Counting.{IsCounted, MayTell}
 use Rattle.re_given_words.specs.declared.counting.Counted.{Counted}
 use Rattle.re_given_words.specs.declared.counting.Counted.TheVariants as counted
-use Rattle.re_given_words.specs.declared.setting.Setting.TheVariants as setting
+use Rattle.re_settings.specs.declared.setting.Setting.TheVariants as setting
 use Rattle.re_beams.specs.ShortestAnswers as shortest
 use Rattle.re_shaping.specs.Extensions.{GoesOn}
 use Rattle.re_beams.specs.declared.shortening.Shortest.TheVariants as shortest_answer

@@ -1,5 +1,5 @@
 //! What the word answers to a text.
-ghost use Rattle.re_fit.specs.InputProblems.{input_fault as fault_of};
+ghost use Rattle.re_settings.specs.InputProblems.{input_fault as fault_of};
 ghost use Rattle.re_frame.specs.Outcomes.{outcome_of, status_of};
 ghost use Rattle.re_frame.specs.Runs.{MaySay};
 ghost use Rattle.re_given.specs.Inputs.{IsInput};
@@ -15,13 +15,13 @@ use crate::given_lines::settled_output;
 use crate::settling_given::settle_given;
 use crate::words::SettleWord;
 use re_chains::{has_line, problem_chain};
-use re_fit::input_fault;
 use re_frame::{Finding, Output, fault_output};
-use re_given_words::{
-    GIVEN, GivenTexts, given_verdict, given_verdict_output, input_fault_output, read_given,
-};
 use re_labels::NoMemory;
 use re_problem::{Problem, TextFault};
+use re_settings::{
+    GIVEN, GivenTexts, given_verdict, given_verdict_output, input_fault, input_fault_output,
+    read_given,
+};
 use std::alloc::Global;
 
 /// The word `settle N` over a text: a problem, or a problem, a line `== given` and an input problem.

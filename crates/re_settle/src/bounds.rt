@@ -19,10 +19,10 @@ use re_beams::{Shortest, find_shortest};
 use re_cert::{Certificate, Kind};
 use re_chains::{LowerChain, UpperChain};
 use re_evidence::Claim;
-use re_given_words::Setting;
 use re_labels::NoMemory;
 use re_problem::Problem;
 use re_search::{FindFault, Search, find_lower, find_upper};
+use re_settings::Setting;
 use std::alloc::Global;
 
 /// How many configurations a problem in degree 5 has for which patterns are looked for.

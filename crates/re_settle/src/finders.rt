@@ -3,8 +3,9 @@ ghost use Rattle.re_cert.specs.Bounds.{last_problem};
 ghost use Rattle.re_cert.specs.declared.certificate.Kind.TheVariants.{Lower};
 ghost use Rattle.re_cycle.specs.Answers.{Answers as CycleAnswers};
 ghost use Rattle.re_given.specs.Inputs.{IsInput};
-ghost use Rattle.re_given_words.specs.Extensions.{GoesOnGiven, IsTaken};
-ghost use Rattle.re_given_words.specs.declared.setting.Setting.TheVariants.{Given};
+ghost use Rattle.re_given_words.specs.Extensions.{GoesOnGiven};
+ghost use Rattle.re_settings.specs.Taken.{IsTaken};
+ghost use Rattle.re_settings.specs.declared.setting.Setting.TheVariants.{Given};
 ghost use Rattle.re_problem.specs.NamedProblems.{unnamed};
 ghost use Rattle.re_problem.specs.Zero.{zero_place};
 ghost use Rattle.re_shaping.specs.Extensions.{GoesOn};
@@ -15,9 +16,9 @@ use re_beams::{Shortest, find_longest, find_shortest};
 use re_cert::Certificate;
 use re_chains::{LowerChain, UpperChain};
 use re_cycle::{Cycle, find_cycle};
-use re_given_words::{Setting, is_taken, taken_alone_law};
 use re_labels::NoMemory;
 use re_problem::Problem;
+use re_settings::{Setting, is_taken, taken_alone_law};
 use std::alloc::Global;
 
 // The setting in which a solution of the input problem is given.

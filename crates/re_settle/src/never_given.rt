@@ -1,7 +1,7 @@
 //! Fixed points and graphs. Each function tries one way to show that no number of rounds solves a problem given an input problem.
 ghost use Rattle.re_chains.specs.ChainTexts.{problem_chain};
 ghost use Rattle.re_given.specs.Inputs.{IsInput};
-ghost use Rattle.re_given_words.specs.Extensions.{IsTaken};
+ghost use Rattle.re_settings.specs.Taken.{IsTaken};
 ghost use Rattle.re_problem.specs.NamedProblems.{unnamed};
 ghost use Rattle.re_settle.specs.Ways.{HasText};
 ghost use Rattle.re_settle.specs.GivenWays.{HasGivenText, IsKnownGiven};

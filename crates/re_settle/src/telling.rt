@@ -14,9 +14,9 @@ use crate::lines::{by_claim, claim_text, rest_text};
 use crate::words::SettleWord;
 use re_chains::has_line;
 use re_frame::{Finding, Output, fault_output};
-use re_given_words::GIVEN;
 use re_labels::NoMemory;
 use re_problem::{Problem, TextFault, read_problem};
+use re_settings::GIVEN;
 use std::alloc::Global;
 
 // What is claimed of a problem.

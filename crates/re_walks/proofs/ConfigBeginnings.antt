@@ -3,7 +3,7 @@ use Rattle.std.proofs.Common.{◌≡◌, ℕ, zero, suc, ◌<◌, ◌≤◌, ◌
 use Rattle.std.specs.Prelude.{Contains, find, is_some}
 use Rattle.std.specs.List.{AllByRecursion}
 use Rattle.std.proofs.lemmas.List.{length-take, take-append-drop}
-use Rattle.re_algo.proofs.Beginning.{some_found}
+use Rattle.re_choice.proofs.Beginning.{some_found}
 use Rattle.re_labels.proofs.Membership.{Contains-count_from, Contains-here, any_true}
 use Rattle.re_labels.specs.Lists.{count_from}
 use Rattle.re_labels.proofs.ChoicesOfRows.{choices-IsChoice}

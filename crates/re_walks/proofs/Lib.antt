@@ -1,3 +1,4 @@
+pub mod FirstEntries
 pub mod ConfigBeginnings
 pub mod LabelsBelow
 pub mod Raising

@@ -6,7 +6,7 @@ ghost use Rattle.std.specs.List.{AllByRecursion};
 ghost use Rattle.std.specs.Prelude.{◌≡◌, ◌<◌, ◌≤◌, ◌++◌, ◌-◌, length, replicate};
 
 use arrayvec::ArrayVec;
-use re_algo::first_choice;
+use re_choice::first_choice;
 use re_labels::{Constraint, LabelSet, MAX_LABELS};
 
 // The set of the labels below the number.
@@ -39,7 +39,7 @@ fn begun_sets(labels: &[u8], degree: u8, all: LabelSet) -> ArrayVec<LabelSet, 6>
 }
 
 /// Whether some configuration of labels below the number begins with these labels, in some order of its own. It takes no memory, and costs
-/// what `first_choice` of `re_algo` costs.
+/// what `first_choice` of `re_choice` costs.
 pub fn is_begun(active: &Constraint, n: u8, labels: &[u8]) -> bool
     requires n { n ≤ MAX_LABELS }
     requires few { length labels.now ≤ active.now.degree }

@@ -18,9 +18,9 @@ use Rattle.re_labels.proofs.Goodness.{filled-is_full, is_full-filled}
 use Rattle.re_labels.proofs.SetsInOrder.{AreSets, in_order-good, in_order-length}
 use Rattle.re_labels.specs.Constraints.{Constraint, has_config}
 use Rattle.re_labels.specs.GoodRows.{is_good}
-use Rattle.re_algo.proofs.Beginning.{any-fixed}
-use Rattle.re_algo.proofs.Drawing.{chosen_some}
-use Rattle.re_algo.specs.FirstChoice.{IsDrawn}
+use Rattle.re_choice.proofs.Beginning.{any-fixed}
+use Rattle.re_choice.proofs.Drawing.{chosen_some}
+use Rattle.re_choice.specs.FirstChoice.{IsDrawn}
 use Rattle.re_why.proofs.Found.{found_passes, not_all}
 use Rattle.re_why.specs.BadChoice.{begins, first_bad, first_behind, is_bad}
 

@@ -23,7 +23,7 @@ use Rattle.re_check.proofs.RowChoices.{entry-becomes}
 use Rattle.re_check.specs.LabelsOver.{labels_over}
 use Rattle.re_check.specs.RowEntries.{image_entries, row_entries}
 use Rattle.re_check.specs.StepClauses.{HasRowSets, KeepsImages, KeepsRows, OccursInRows}
-use Rattle.re_algo.proofs.Beginning.{some_found}
+use Rattle.re_choice.proofs.Beginning.{some_found}
 use Rattle.re_why.proofs.Found.{found_passes, none_all}
 use Rattle.re_why.proofs.Giving.{at-held, from-none, from-some, gives-at_last, gives-or, held-at, map-none, map-some, some-none, some-some, unordered-rising, unordered-some}
 use Rattle.re_why.proofs.Occurring.{has-is, is-has, is-occurs, occurs-is}

@@ -1,5 +1,5 @@
 //! The first choice of one label of each of some sets that is no configuration.
-ghost use Rattle.re_algo.specs.FirstChoice.{IsDrawn};
+ghost use Rattle.re_choice.specs.FirstChoice.{IsDrawn};
 ghost use Rattle.re_why.specs.BadChoice.{begins, first_bad, first_behind};
 ghost use Rattle.re_labels.specs.Rows.{choices};
 ghost use Rattle.re_labels.specs.Sets.{IsLabelSet};
@@ -7,8 +7,8 @@ ghost use Rattle.std.specs.List.{AllByRecursion};
 ghost use Rattle.std.specs.Prelude.{◌+◌, ◌<◌, ◌≡◌, ◌∷◌, length};
 
 use arrayvec::ArrayVec;
-use re_algo::{are_sets, fixed};
 use re_check::is_good;
+use re_choice::{are_sets, fixed};
 use re_labels::{Constraint, LabelSet, MAX_LABELS, PortLabels, Row};
 
 // Whether the drawn labels and one label of each of the others are no configuration for some choice.

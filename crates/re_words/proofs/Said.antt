@@ -53,7 +53,7 @@ use Rattle.re_table_texts.specs.declared.table_texts.TableForm.{TableForm}
 use Rattle.re_table_texts.specs.declared.table_texts.TableForm.TheVariants as form
 use Rattle.re_words.specs.Tabling.{behind_next, if_counted, or_fault, or_refusal, same_problems, slower_outcome, tabled, tabling_outcome}
 use Rattle.re_words.specs.Working.{derived_text, diagram_outcome, merge_outcome, step_outcome, stepped, trim_outcome, universal_outcome}
-use Rattle.re_frame.specs.StepLimits.{or_limit}
+use Rattle.re_limits.specs.StepLimits.{or_limit}
 use Rattle.re_words.specs.declared.command.Command.{Command}
 use Rattle.re_words.specs.declared.command.Command.TheVariants.{Makes, Reads}
 use Rattle.re_words.specs.declared.command.Making.{Making}
@@ -64,7 +64,8 @@ use Rattle.re_words.specs.declared.command.Reading.TheVariants as reading
 use Rattle.re_frame.specs.declared.output.Output.{Output}
 use Rattle.re_frame.specs.declared.status.Status.{Status}
 use Rattle.re_frame.specs.declared.status.Status.TheVariants.{BadWords, No}
-use Rattle.re_frame.proofs.Said.{fault_says, passed}
+use Rattle.re_frame.proofs.Said.{fault_says}
+use Rattle.re_limits.proofs.Passed.{passed}
 
 -- ---- the commands that read a problem
 chosen : (b : Bool) (x y : Outcome) (judging : Bool) → MaySay x.status judging → MaySay y.status judging → MaySay (if b then x else y).status judging

@@ -16,7 +16,7 @@ use Rattle.re_step.specs.Derivations.{named_derived, step_limit}
 use Rattle.re_step.specs.declared.derivation.StepLimit.{StepLimit}
 use Rattle.re_frame.specs.Outcomes.{Outcome, done, limit}
 use Rattle.re_words.specs.Working.{derived_text, stepped}
-use Rattle.re_frame.specs.StepLimits.{limit_line, or_limit}
+use Rattle.re_limits.specs.StepLimits.{limit_line, or_limit}
 use Rattle.re_labels.specs.GoodRows.{max_rows, max_sets}
 
 -- ---- rows and sets

@@ -10,7 +10,7 @@ use Rattle.re_search.specs.OneStep.{one_step_bound}
 use Rattle.re_step.specs.Derivations.{named_derived, step_limit}
 use Rattle.re_frame.specs.Check.{verdict_outcome}
 use Rattle.re_frame.specs.Outcomes.{Outcome, done}
-use Rattle.re_frame.specs.StepLimits.{or_limit}
+use Rattle.re_limits.specs.StepLimits.{or_limit}
 use Rattle.re_words.specs.declared.command.Making.{Making}
 use Rattle.re_words.specs.declared.command.Making.TheVariants.{OfFamily, OneStep}
 

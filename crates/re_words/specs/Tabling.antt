@@ -19,7 +19,7 @@ use Rattle.re_table_texts.specs.declared.table_texts.TableForm.{TableForm}
 use Rattle.re_table_texts.specs.declared.table_texts.TableForm.TheVariants.{Faster, Plain, Slower}
 use Rattle.re_frame.specs.Outcomes.{Outcome, done, limit_of, refused}
 use Rattle.re_frame.specs.TextFaults.{fault_outcome}
-use Rattle.re_frame.specs.StepLimits.{or_limit}
+use Rattle.re_limits.specs.StepLimits.{or_limit}
 
 -- ---- whether two problems are the same, their names too
 abbrev pub same_lists : List (List ℕ) → List (List ℕ) → Bool

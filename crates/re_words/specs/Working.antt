@@ -13,7 +13,7 @@ use Rattle.re_step.specs.Derivations.{named_derived, step_limit}
 use Rattle.re_labels.specs.Constraints.{Constraint}
 use Rattle.re_labels.specs.GoodRows.{max_rows, max_sets}
 use Rattle.re_frame.specs.Outcomes.{Outcome, done, limit_of}
-use Rattle.re_frame.specs.StepLimits.{or_limit}
+use Rattle.re_limits.specs.StepLimits.{or_limit}
 
 -- the constraint of a side
 abbrev pub constraint_at : Side → NamedProblem → Constraint

@@ -3,8 +3,9 @@ ghost use Rattle.re_words.specs.Counting.{rounds_line, rounds_outcome};
 ghost use Rattle.re_frame.specs.Outcomes.{outcome_of};
 ghost use Rattle.std.specs.Prelude.{◌≡◌, IfOk, string_bytes};
 
-use re_frame::{Output, done, limit_output};
+use re_frame::{Output, done};
 use re_labels::NoMemory;
+use re_limits::limit_output;
 use re_problem::Problem;
 use re_search::types::Rounds;
 use re_search::{RoundsFault, rounds};

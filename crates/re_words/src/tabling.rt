@@ -3,7 +3,7 @@ ghost use Rattle.re_algo.specs.Tables.{entries};
 ghost use Rattle.re_words.specs.Command.{judges};
 ghost use Rattle.re_frame.specs.Outcomes.{Outcome, done as done_with, outcome_of};
 ghost use Rattle.re_words.specs.Tabling.{active_line, behind_next, behind_step, faster_outcome, or_refusal, same_constraints, same_lists, same_problems, slower_outcome, table_outcome, tabled, tabling_outcome};
-ghost use Rattle.re_frame.specs.StepLimits.{or_limit};
+ghost use Rattle.re_limits.specs.StepLimits.{or_limit};
 ghost use Rattle.re_table_texts.specs.PrintedTables.{table_text};
 ghost use Rattle.re_laws.specs.Algorithms.{Solves};
 ghost use Rattle.re_problem.specs.Derived.{derived as next_problem};
@@ -15,9 +15,10 @@ ghost use Rattle.std.specs.Prelude.{◌≡◌, ◌≢◌, ◌≤◌, ◌↔◌, 
 
 use crate::command::Command;
 use re_algo::{MAX_VIEWS, SlowerFault, Table, TableVerdict, faster, slower, solves};
-use re_frame::{Answering, Output, begun, done, fault_output, limit_of, limit_output, refused};
+use re_frame::{Answering, Output, begun, done, fault_output, limit_of, refused};
 use re_io::MAX_BYTES;
 use re_labels::{Constraint, Names, NoMemory};
+use re_limits::limit_output;
 use re_problem::{Problem, TextFault};
 use re_step::{Derived, StepFault, step};
 use re_table_texts::{TableForm, TableInput, print_table, read_table};

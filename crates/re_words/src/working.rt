@@ -6,8 +6,9 @@ ghost use Rattle.re_step.specs.Derivations.{derivation};
 ghost use Rattle.std.specs.Prelude.{◌≡◌, ◌≤◌, ◌+◌, ◌++◌, IfOk};
 
 use re_changes::{diagram, merge, trim};
-use re_frame::{Output, done, limit_of, limit_output};
+use re_frame::{Output, done, limit_of};
 use re_labels::{Constraint, MAX_ROWS, NoMemory, Side};
+use re_limits::limit_output;
 use re_printing::{print_diagram, print_meanings, print_rows};
 use re_problem::{Problem, print_problem, push_problem};
 use re_step::{Derived, RowsFault, StepFault, maximal_rows, step};

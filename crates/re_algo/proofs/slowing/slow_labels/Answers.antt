@@ -2,7 +2,7 @@ use Rattle.std.proofs.Common.{◌∙◌, ap, sym}
 use Rattle.std.specs.Prelude.{find}
 use Rattle.re_algo.proofs.SlowCode.{some_of}
 use Rattle.re_algo.specs.Choosing.{sets_around}
-use Rattle.re_algo.proofs.Beginning.{some_found}
+use Rattle.re_choice.proofs.Beginning.{some_found}
 use Rattle.re_labels.specs.Rows.{choices}
 use Rattle.re_labels.specs.Constraints.{has_config}
 use Rattle.re_laws.specs.Shown.{tree_of_view}

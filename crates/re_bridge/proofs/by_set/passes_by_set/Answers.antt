@@ -1,6 +1,6 @@
 use Rattle.std.proofs.Common.{◌<◌, ◌∙◌, sym, subst, length}
 use Rattle.std.specs.List.{AllByRecursion}
-use Rattle.re_bridge.proofs.SetTests.{entries-low, entries-rise}
+use Rattle.re_walks.proofs.FirstEntries.{entries-low, entries-rise}
 use Rattle.re_labels.specs.Lists.{IsRising}
 use Rattle.re_labels.specs.Sets.{number}
 use Rattle.re_problem.specs.Steps.{SetEntry, entry_sets}

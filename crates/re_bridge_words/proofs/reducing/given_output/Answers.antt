@@ -3,7 +3,7 @@ use Rattle.std.proofs.lemmas.Result.{IfOk-weaker}
 use Rattle.re_bridge_words.specs.ReduceWords.{IsReducedProductText}
 use Rattle.re_frame.specs.Outcomes.{outcome_of}
 use Rattle.re_frame.specs.declared.status.Status.TheVariants.{Done}
-use Rattle.re_given_words.specs.GivenTexts.{given_input}
+use Rattle.re_settings.specs.GivenTexts.{given_input}
 use Rattle.re_bridge_words.proofs.reducing.given_output.Goals as goal
 
 pub returns-in-Ok-clause-text : goal.returns-in-Ok-clause-text

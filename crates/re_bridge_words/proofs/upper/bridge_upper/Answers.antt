@@ -1,7 +1,7 @@
 use Rattle.std.proofs.Common.{sym, subst, ◌∙◌}
 use Rattle.std.specs.Prelude.{option_map}
 use Rattle.re_cert.specs.Bounds.{last_problem}
-use Rattle.re_fit.specs.Laws.{IsLeading}
+use Rattle.re_settings.specs.Laws.{IsLeading}
 use Rattle.re_problem.specs.NamedProblems.{unnamed}
 use Rattle.re_bridge_words.proofs.UpperSteps.{few-sets, leads}
 use Rattle.re_bridge_words.proofs.upper.bridge_upper.Goals as goal

@@ -5,7 +5,7 @@ use Rattle.re_chains.specs.OverChains.{steps_refusal}
 use Rattle.re_closure.proofs.Judged.{judged_edges}
 use Rattle.re_closure.specs.ClosureWords.{MayGiveRead, MayGiveSound}
 use Rattle.re_closure.specs.DiagramTexts.{AreEdges, diagram_edges, front_chain}
-use Rattle.re_given_words.specs.declared.setting.Setting.TheVariants.{Alone}
+use Rattle.re_settings.specs.declared.setting.Setting.TheVariants.{Alone}
 use Rattle.re_frame.specs.Outcomes.{outcome_of}
 use Rattle.re_closure.proofs.answering.cut_output.Goals as goal
 

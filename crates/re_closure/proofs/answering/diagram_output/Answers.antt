@@ -6,7 +6,7 @@ use Rattle.re_chains.specs.HeldBounds.{held_bound}
 use Rattle.re_chains.specs.OverChains.{IsJudged}
 use Rattle.re_closure.proofs.Judged.{lower_may, refused_may, upper_may}
 use Rattle.re_closure.specs.DiagramTexts.{AreEdges}
-use Rattle.re_given_words.specs.declared.setting.Setting.TheVariants.{Alone}
+use Rattle.re_settings.specs.declared.setting.Setting.TheVariants.{Alone}
 use Rattle.re_frame.specs.Outcomes.{outcome_of}
 use Rattle.re_closure.proofs.answering.diagram_output.Goals as goal
 

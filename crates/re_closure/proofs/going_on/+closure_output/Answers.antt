@@ -1,7 +1,7 @@
 use Rattle.std.proofs.Common.{◌≡◌, ◌+◌, ap, arith, length, refl, subst, suc, ◌∙◌}
 use Rattle.std.proofs.lemmas.Result.{IfOk-weaker}
 use Rattle.re_chains.proofs.WordsGiven.{both_ok}
-use Rattle.re_given_words.proofs.EndNumbers.{some_number}
+use Rattle.re_settings.proofs.EndNumbers.{some_number}
 use Rattle.re_closure.proofs.SaidWithin.{closed_within, next_within, open_within, stop_within}
 use Rattle.re_closure.specs.ClosureWords.{Closes, stop_outcome}
 use Rattle.re_frame.specs.Outcomes.{outcome_of}

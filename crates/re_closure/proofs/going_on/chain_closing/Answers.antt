@@ -1,5 +1,5 @@
 use Rattle.std.proofs.Common.{inr, subst}
-use Rattle.re_given_words.specs.Settings.{RefusesIn}
+use Rattle.re_settings.specs.Settings.{RefusesIn}
 use Rattle.re_closure.proofs.going_on.chain_closing.Goals as goal
 
 pub returns-in-Some : goal.returns-in-Some

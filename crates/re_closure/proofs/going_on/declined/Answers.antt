@@ -1,7 +1,7 @@
 use Rattle.std.proofs.Common.{subst, sym}
 use Rattle.std.specs.Prelude.{IfOk}
 use Rattle.std.proofs.lemmas.Result.{IfOk-weaker}
-use Rattle.re_given_words.specs.declared.setting.Setting.{Setting}
+use Rattle.re_settings.specs.declared.setting.Setting.{Setting}
 use Rattle.re_closure.proofs.GivenTaken.{judged_fixed}
 use Rattle.re_closure.specs.ClosureWords.{IsJudgedFixed}
 use Rattle.re_closure.proofs.going_on.declined.Goals as goal

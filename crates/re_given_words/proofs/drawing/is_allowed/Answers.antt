@@ -1,5 +1,5 @@
 use Rattle.std.proofs.Common.{◌∙◌, [], arith, refl, sym}
-use Rattle.re_algo.proofs.Beginning.{asked_length, asked_none, asked_some}
+use Rattle.re_choice.proofs.Beginning.{asked_length, asked_none, asked_some}
 use Rattle.re_given_words.proofs.drawing.is_allowed.Goals as goal
 
 pub allows-requires : goal.allows-requires

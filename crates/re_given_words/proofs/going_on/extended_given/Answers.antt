@@ -3,7 +3,7 @@ use Rattle.std.proofs.lemmas.Bool.{false≢true}
 use Rattle.re_shaping.proofs.Continued.{whole}
 use Rattle.re_shaping.specs.Extensions.{AreSmall, continued}
 use Rattle.re_given_words.proofs.GoingOn.{goes_on, not_small}
-use Rattle.re_given_words.specs.Extensions.{IsTaken}
+use Rattle.re_settings.specs.Taken.{IsTaken}
 use Rattle.re_given_words.proofs.going_on.extended_given.Goals as goal
 
 pub returns-then-not-are_small-clause-none : goal.returns-then-not-are_small-clause-none

@@ -2,7 +2,7 @@ use Rattle.std.proofs.Common.{◌∙◌, subst, sym}
 use Rattle.re_cert.specs.Bounds.{Bound}
 use Rattle.re_cert.specs.declared.certificate.Kind.{Kind}
 use Rattle.re_given_words.proofs.GoingOn.{goes_on_itself, with_nothing}
-use Rattle.re_given_words.specs.Settings.{GoesOnIn}
+use Rattle.re_given_words.specs.Extensions.{GoesOnIn}
 use Rattle.re_given_words.proofs.going_on.repeated_in.Goals as goal
 
 pub unreachable-requires : goal.unreachable-requires

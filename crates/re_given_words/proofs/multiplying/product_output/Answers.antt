@@ -2,8 +2,8 @@ use Rattle.std.proofs.Common.{◌∙◌, ap, subst}
 use Rattle.re_frame.specs.Outcomes.{outcome_of}
 use Rattle.re_frame.specs.TextFaults.{fault_outcome}
 use Rattle.re_given_words.proofs.ProductMeaning.{product_read, product_wrong}
-use Rattle.re_given_words.proofs.RoundsAnswers.{both_ok}
-use Rattle.re_given_words.specs.GivenTexts.{GivenRefuses}
+use Rattle.re_settings.proofs.Answered.{both_ok}
+use Rattle.re_settings.specs.GivenTexts.{GivenRefuses}
 use Rattle.re_given_words.proofs.multiplying.product_output.Goals as goal
 
 pub returns-in-Ok : goal.returns-in-Ok

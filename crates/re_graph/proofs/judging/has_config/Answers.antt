@@ -1,6 +1,6 @@
 use Rattle.std.proofs.Common.{sym}
 use Rattle.re_labels.specs.declared.TheConstants.{MAX_LABELS}
-use Rattle.re_algo.proofs.JudgeCode.{below-all}
+use Rattle.re_choice.proofs.LabelTests.{below-all}
 use Rattle.re_graph.proofs.Judged.{other-count, too-great}
 use Rattle.re_graph.proofs.judging.has_config.Goals as goal
 

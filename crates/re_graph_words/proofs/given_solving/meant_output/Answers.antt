@@ -1,6 +1,6 @@
 use Rattle.std.proofs.Common.{subst}
 use Rattle.std.proofs.lemmas.Result.{IfOk-weaker}
-use Rattle.re_fit.specs.InputProblems.{IsJudged as IsInputJudged}
+use Rattle.re_settings.specs.InputProblems.{IsJudged as IsInputJudged}
 use Rattle.re_frame.specs.Outcomes.{outcome_of}
 use Rattle.re_graph.specs.Judging.{IsJudged}
 use Rattle.re_problem.specs.NamedProblems.{unnamed}

@@ -12,14 +12,14 @@ use Rattle.re_problem.specs.NamedProblems.{unnamed}
 
 pub search-returns-in-Stuck : goal.search-returns-in-Stuck
 search-returns-in-Stuck t c =
-    let stuck : IsStuck (unnamed c.args.problem.now) c.args.members.now c.in-Stuck.around.items = subst (IsReply (unnamed c.args.problem.now) c.args.members.now) c.in-Stuck.is (c.in_ok-around.ensures) in
+    let stuck : IsStuck (unnamed c.args.problem.now) c.args.members.now c.in-Stuck.around.items = subst (IsReply (unnamed c.args.problem.now) c.args.members.now _) c.in-Stuck.is (c.in_ok-around.ensures) in
     IfOk-weaker c.search_without.result _ _
     (λ answer is. searched_of (unnamed c.args.problem.now) c.args.members.now c.args.kept.now c.as_slice.result.now answer
     (subst (IsStuck (unnamed c.args.problem.now) c.args.members.now) (sym c.as_slice.ensures.value) stuck) is) c.search_without.ensures
 
 pub search-returns-in_ok-copied-in-Answered : goal.search-returns-in_ok-copied-in-Answered
 search-returns-in_ok-copied-in-Answered t c =
-    let answered : IsAnswered (unnamed c.args.problem.now) c.args.members.now = subst (IsReply (unnamed c.args.problem.now) c.args.members.now) c.in-Answered.is (c.in_ok-around.ensures) in
+    let answered : IsAnswered (unnamed c.args.problem.now) c.args.members.now = subst (IsReply (unnamed c.args.problem.now) c.args.members.now _) c.in-Answered.is (c.in_ok-around.ensures) in
     subst (IsGreedy (unnamed c.args.problem.now)) (sym c.in_ok-copied-in-Answered.ensures) (whole_greedy (unnamed c.args.problem.now) c.args.members.now c.args.kept.now c.requires answered)
 
 pub search_without-returns-then-has_member : goal.search_without-returns-then-has_member

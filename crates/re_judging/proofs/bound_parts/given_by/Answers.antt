@@ -1,10 +1,10 @@
 use Rattle.std.proofs.Common.{◌≡◌, ◌∙◌, ap, length, subst, sym}
 use Rattle.re_chains.specs.OverChains.{or_refusal, steps_refusal}
-use Rattle.re_fit.specs.InputProblems.{IsJudged, input_fault}
+use Rattle.re_settings.specs.InputProblems.{IsJudged, input_fault}
 use Rattle.re_frame.specs.Outcomes.{Outcome, status_of}
 use Rattle.re_frame.specs.declared.status.Status.TheVariants.{Done}
-use Rattle.re_given_words.specs.Verdicts.{given_outcome, sound_outcome}
-use Rattle.re_given_words.specs.declared.words.BoundWord.TheVariants.{Given}
+use Rattle.re_settings.specs.Verdicts.{given_outcome, sound_outcome}
+use Rattle.re_settings.specs.declared.bound_words.BoundWord.TheVariants.{Given}
 use Rattle.re_judging.proofs.PartLaws.{done_input, given_true}
 use Rattle.re_judging.specs.Facts.{FactHolds}
 use Rattle.re_problem.specs.NamedProblems.{NamedProblem, unnamed}

@@ -14,7 +14,7 @@ returns-in-Greedy-clause-means c =
     let chain = c.args.chain.now in
     let last = last_problem chain in
     let same : chain.first ≡ c.in_ok-copy-in-Greedy.field-0 = sym (c.in_ok-copy-in-Greedy.ensures ∙ c.first.ensures.first) in
-    let is = subst (λ (p : NamedProblem). IsListVerdict (unnamed (seen_from turns.side p)) (whole_list turns p) c.in_ok-verdict.verdict) c.last.ensures c.in_ok-verdict.ensures in (
+    let is = subst (λ (p : NamedProblem). IsListVerdict (unnamed (seen_from turns.side p)) (whole_list turns p) 1000000 c.in_ok-verdict.verdict) c.last.ensures c.in_ok-verdict.ensures in (
       subst (λ (p : NamedProblem). IsProblem (unnamed p)) same c.over_problems.ensures.first.problem,
       subst (λ (p : NamedProblem). IsSolvableColoured (unnamed p)) same
           (greedy_means turns chain c.kind-kind.ensures.bound c.over_problems.ensures c.requires.sound c.requires.upper

@@ -5,7 +5,7 @@ use Rattle.re_cert.specs.declared.certificate.Kind.TheVariants.{Lower}
 use Rattle.re_chains.proofs.WordsGiven.{both_ok}
 use Rattle.re_frame.specs.Outcomes.{outcome_of, status_of}
 use Rattle.re_frame.specs.declared.status.Status.TheVariants.{Done}
-use Rattle.re_given_words.specs.Settings.{GoesOnIn}
+use Rattle.re_given_words.specs.Extensions.{GoesOnIn}
 use Rattle.re_search_words.specs.MayGive.{IsFound}
 use Rattle.re_search_words.proofs.ShorterTexts.{lengthened, stayed}
 use Rattle.re_search_words.proofs.answering.longest_found.Goals as goal

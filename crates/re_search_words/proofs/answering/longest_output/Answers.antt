@@ -1,6 +1,6 @@
 use Rattle.std.proofs.Common.{inl, inr, subst}
 use Rattle.std.proofs.lemmas.Result.{IfOk-weaker}
-use Rattle.re_given_words.specs.Settings.{RefusesIn}
+use Rattle.re_settings.specs.Settings.{RefusesIn}
 use Rattle.re_search_words.proofs.answering.longest_output.Goals as goal
 
 pub returns-in-Some : goal.returns-in-Some

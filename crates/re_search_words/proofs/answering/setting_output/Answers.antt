@@ -1,6 +1,6 @@
 use Rattle.std.proofs.Common.{inl, inr, subst}
 use Rattle.std.proofs.lemmas.Result.{IfOk-weaker}
-use Rattle.re_given_words.specs.Settings.{RefusesInput}
+use Rattle.re_settings.specs.Settings.{RefusesInput}
 use Rattle.re_problem.specs.NamedProblems.{NamedProblem}
 use Rattle.re_search_words.proofs.answering.setting_output.Goals as goal
 

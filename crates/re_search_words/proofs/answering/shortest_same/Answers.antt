@@ -4,7 +4,7 @@ use Rattle.re_cert.specs.declared.certificate.Kind.{Kind}
 use Rattle.re_cert.specs.declared.certificate.Kind.TheVariants.{Upper}
 use Rattle.re_chains.proofs.WordsGiven.{both_ok}
 use Rattle.re_frame.specs.Outcomes.{outcome_of}
-use Rattle.re_given_words.specs.Settings.{GoesOnIn}
+use Rattle.re_given_words.specs.Extensions.{GoesOnIn}
 use Rattle.re_search_words.specs.MayGive.{IsTextOn}
 use Rattle.re_search_words.proofs.ShorterTexts.{text_on}
 use Rattle.re_search_words.proofs.answering.shortest_same.Goals as goal

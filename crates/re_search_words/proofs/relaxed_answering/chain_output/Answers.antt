@@ -4,7 +4,7 @@ use Rattle.re_cert.specs.declared.certificate.TheConstants.{MAX_STEPS}
 use Rattle.re_chains.specs.HeldBounds.{held_bound}
 use Rattle.re_chains.specs.declared.chains.Chain.{Chain}
 use Rattle.re_frame.specs.Outcomes.{outcome_of}
-use Rattle.re_given_words.specs.declared.setting.Setting.TheVariants.{Alone}
+use Rattle.re_settings.specs.declared.setting.Setting.TheVariants.{Alone}
 use Rattle.re_search_words.specs.RelaxedWords.{looked_at}
 use Rattle.re_search_words.specs.MayGive.{MayGiveAt}
 use Rattle.re_search_words.specs.declared.words.SearchWord.TheVariants.{Cycle}

@@ -7,7 +7,7 @@ use Rattle.re_problem.specs.NamedProblems.{NamedProblem}
 use Rattle.re_search_words.specs.Answers.{Answers}
 use Rattle.re_search_words.proofs.Behind.{counted, found, full, solvable}
 use Rattle.re_search_words.specs.RelaxedWords.{looked_at}
-use Rattle.re_given_words.specs.declared.setting.Setting.TheVariants.{Alone}
+use Rattle.re_settings.specs.declared.setting.Setting.TheVariants.{Alone}
 use Rattle.re_cert.specs.declared.certificate.TheConstants.{MAX_STEPS}
 use Rattle.re_search_words.specs.MayGive.{MayFindBy}
 use Rattle.re_search_words.specs.declared.words.SearchWord.TheVariants.{Cycle}

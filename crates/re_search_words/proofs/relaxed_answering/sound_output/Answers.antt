@@ -3,7 +3,7 @@ use Rattle.std.proofs.lemmas.Result.{IfOk-weaker}
 use Rattle.re_cert.specs.Bounds.{Bound}
 use Rattle.re_cert.specs.declared.certificate.TheConstants.{MAX_STEPS}
 use Rattle.re_frame.specs.Outcomes.{outcome_of}
-use Rattle.re_given_words.specs.declared.setting.Setting.TheVariants.{Alone}
+use Rattle.re_settings.specs.declared.setting.Setting.TheVariants.{Alone}
 use Rattle.re_search_words.specs.RelaxedWords.{looked_at}
 use Rattle.re_search_words.specs.MayGive.{MayGiveAt, MayGiveSound}
 use Rattle.re_search_words.specs.declared.words.SearchWord.TheVariants.{Cycle}

@@ -1,7 +1,7 @@
 use Rattle.std.proofs.Common.{◌∙◌, [], ap, subst}
 use Rattle.re_cert.specs.declared.certificate.Kind.TheVariants.{Upper}
 use Rattle.re_chains.specs.Chains.{chain_with}
-use Rattle.re_given_words.specs.declared.setting.Setting.TheVariants.{Alone}
+use Rattle.re_settings.specs.declared.setting.Setting.TheVariants.{Alone}
 use Rattle.re_problem.specs.NamedProblems.{NamedProblem}
 use Rattle.re_beams.specs.ShortestAnswers.{Answers}
 use Rattle.re_settle.proofs.Known.{shortest_known}

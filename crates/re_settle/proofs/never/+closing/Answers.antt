@@ -3,7 +3,7 @@ use Rattle.std.specs.Prelude.{IfSome}
 use Rattle.re_chains.specs.declared.one_kind.LowerChain.{LowerChain}
 use Rattle.re_closure.specs.Closures.{Answers}
 use Rattle.re_closure.specs.declared.types.ClosureFault.TheVariants.{Limit}
-use Rattle.re_given_words.proofs.EndNumbers.{some_number}
+use Rattle.re_settings.proofs.EndNumbers.{some_number}
 use Rattle.re_problem.specs.NamedProblems.{NamedProblem, unnamed}
 use Rattle.re_problem.specs.Problems.{IsProblem}
 use Rattle.re_settle.proofs.Known.{closes_later}

@@ -1,6 +1,6 @@
 use Rattle.std.proofs.Common.{◌*◌, ap, subst}
 use Rattle.re_cycle.specs.Answers.{Answers}
-use Rattle.re_given_words.specs.declared.setting.Setting.TheVariants.{Alone}
+use Rattle.re_settings.specs.declared.setting.Setting.TheVariants.{Alone}
 use Rattle.re_settle.proofs.Known.{cycle_known}
 use Rattle.re_settle.proofs.never.cycle_way.Goals as goal
 

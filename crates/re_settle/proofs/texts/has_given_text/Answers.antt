@@ -7,7 +7,7 @@ use Rattle.re_frame.specs.declared.status.Status.TheVariants as status
 use Rattle.re_io.specs.declared.read.TheConstants.{MAX_BYTES}
 use Rattle.re_chains.specs.GivenTexts.{IsGivenText, given_text}
 use Rattle.re_settle.proofs.texts.has_given_text.Goals as goal
-use Rattle.re_given_words.proofs.TextsThatFit.{not_over, text_done}
+use Rattle.re_settings.proofs.TextsThatFit.{not_over, text_done}
 
 pub returns-in-Done-clause-text : goal.returns-in-Done-clause-text
 unfolding within_limit

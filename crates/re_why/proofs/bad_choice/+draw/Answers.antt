@@ -1,8 +1,8 @@
 use Rattle.std.proofs.Common.{◌≡◌, ◌<◌, ◌+◌, ◌∷◌, ap, sym, refl, false, ◌∙◌, subst, arith, length}
 use Rattle.std.specs.List.{AllByRecursion}
-use Rattle.re_algo.proofs.Beginning.{begun_found, not_begun}
-use Rattle.re_algo.proofs.Drawing.{drawn_here, drawn_later}
-use Rattle.re_algo.specs.FirstChoice.{IsDrawn}
+use Rattle.re_choice.proofs.Beginning.{begun_found, not_begun}
+use Rattle.re_choice.proofs.Drawing.{drawn_here, drawn_later}
+use Rattle.re_choice.specs.FirstChoice.{IsDrawn}
 use Rattle.re_why.specs.BadChoice.{begins, first_behind, is_bad}
 use Rattle.re_labels.proofs.Patterns.{others-are, parted}
 use Rattle.re_labels.proofs.Numbers.{IsLabelSet-filter}

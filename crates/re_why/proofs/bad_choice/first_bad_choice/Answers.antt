@@ -1,6 +1,6 @@
 use Rattle.std.proofs.Common.{◌∙◌, sym, ap, subst, arith}
 use Rattle.re_why.proofs.Beginning.{found_none, found_ports}
-use Rattle.re_algo.specs.FirstChoice.{IsDrawn}
+use Rattle.re_choice.specs.FirstChoice.{IsDrawn}
 use Rattle.re_why.specs.BadChoice.{first_behind}
 use Rattle.re_labels.proofs.Patterns.{others-are, parted}
 use Rattle.re_labels.specs.PortLabels.{port_labels}

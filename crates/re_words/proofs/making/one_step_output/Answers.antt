@@ -8,7 +8,7 @@ use Rattle.re_step.specs.Derivations.{named_derived, step_limit}
 use Rattle.re_frame.specs.Check.{verdict_outcome}
 use Rattle.re_words.specs.Making.{behind, one_step_outcome, sizes_text}
 use Rattle.re_frame.specs.Outcomes.{Outcome, outcome_of}
-use Rattle.re_frame.specs.StepLimits.{or_limit}
+use Rattle.re_limits.specs.StepLimits.{or_limit}
 use Rattle.re_words.proofs.making.one_step_output.Goals as goal
 
 -- the certificate is that of the one step, whose last problem is the derived one

@@ -1,5 +1,0 @@
-use Rattle.re_fit.proofs.Told.{fit_walk_law as law}
-use Rattle.re_fit.proofs.fit_walk_law.Goals as goal
-
-pub returns : goal.returns
-returns c = law

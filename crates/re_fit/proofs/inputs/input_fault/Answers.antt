@@ -1,7 +1,0 @@
-use Rattle.std.proofs.Common.{subst, sym}
-use Rattle.re_fit.proofs.Judged.{judged}
-use Rattle.re_fit.specs.InputProblems.{IsJudged}
-use Rattle.re_fit.proofs.inputs.input_fault.Goals as goal
-
-pub returns-clause-judged : goal.returns-clause-judged
-returns-clause-judged c = subst (IsJudged c.args.problem.now c.args.input.now) (sym c.fault_of.ensures) (judged c.args.problem.now c.args.input.now c.names-names.ensures.problem)

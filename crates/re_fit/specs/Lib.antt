@@ -1,3 +1,0 @@
-pub mod Fits
-pub mod InputProblems
-pub mod Laws

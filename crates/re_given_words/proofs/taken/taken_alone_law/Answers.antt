@@ -1,5 +1,0 @@
-use Rattle.re_given_words.proofs.TakenAlone.{taken_alone}
-use Rattle.re_given_words.proofs.taken.taken_alone_law.Goals as goal
-
-pub returns : goal.returns
-returns c = taken_alone

@@ -1,5 +1,0 @@
-use Rattle.re_given_words.proofs.GoingOn.{taken_law}
-use Rattle.re_given_words.proofs.taken.taken_law.Goals as goal
-
-pub returns : goal.returns
-returns c = taken_law

@@ -1,4 +1,0 @@
-use Rattle.re_given_words.proofs.verdicts.+fixed_verdict.Given as goal
-
-abbrev pub decreases-fixed_verdict : goal.decreases-fixed_verdict
-decreases-fixed_verdict l = l.number

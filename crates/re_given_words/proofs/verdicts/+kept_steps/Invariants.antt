@@ -1,4 +1,0 @@
-use Rattle.re_given_words.proofs.verdicts.+kept_steps.Given as goal
-
-abbrev pub decreases-kept_steps : goal.decreases-kept_steps
-decreases-kept_steps l = l.number

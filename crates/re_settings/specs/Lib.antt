@@ -1,0 +1,11 @@
+pub mod Fits
+pub mod GivenTexts
+pub mod InputFaults
+pub mod InputProblems
+pub mod Laws
+pub mod Meanings
+pub mod SettingTexts
+pub mod Settings
+pub mod Taken
+pub mod Verdicts
+pub mod Walks

@@ -51,11 +51,12 @@ too. All is proved of what `settle` says; where bounds come from certificates, `
 identifiers one comes in a round.
 
 Words are those that `settle` names now: a relaxation (`relaxed 16`) where `closure` shows the same later, in degrees
-3 and 2 `greedy` for each class of order log* N, on paths a flexible set. Made before these were tried, the tables had
-other words, and the same answers and classes; of the 7,697 problems of 3 labels and degrees 3 and 2 `flexible.py`
-finds a flexible set in 1,027 of the 1,191 that no number of rounds solves, and one level of labels in the other 164.
-Lines of two tables are those of an earlier run, in the new words: of 3 labels in degrees 3 and 3 the 23 between two
-bounds, of 4 labels on paths about 27,000 that say *exactly*, of which 240 drawn ones were asked again.
+3 and 2 `greedy` for each class of order log* N and for two bounds above of that order, on paths a flexible set. Made
+before these were tried, the tables had other words, and the same answers and, but for those two bounds, classes; of the
+7,697 problems of 3 labels and degrees 3 and 2 `flexible.py` finds a flexible set in 1,027 of the 1,191 that no number
+of rounds solves, and one level of labels in the other 164. Lines of two tables are those of an earlier run, in the new
+words: of 3 labels in degrees 3 and 3 the 23 between two bounds, of 4 labels on paths about 27,000 that say *exactly*,
+of which 240 drawn ones were asked again.
 
 Bounds that no words find stand in `certificates.tar.xz`, and `certificates.py` puts them into the table. An upper one
 goes from a derived problem to a solved problem that is enough for it (`explore bridge`), or to sets of its labels at

@@ -267,13 +267,21 @@ LINES = {
     "easy": ("constant", "order log* N", "at least order log* N", "more than"),
     "log": ("at least order log N", "order log N", "order N", "at least order log* N", "more than"),
 }
+STAR = ", at most order log* N"
 SHOWN = {"constant": "constant", "log*": "order log\\* n", "easy": "at most order log\\* n", "log": "at least order log n"}
 
 
 def agrees(published, line):
-    """Whether the line on identifiers leaves room for the published class: what it says from below, where a bound above stands behind it."""
-    line = re.sub(", at most order log N$", "", line)
+    """Whether the line on identifiers leaves room for the published class: what it says from below, and the bound above that stands behind it."""
+    if published == "log" and line.endswith(STAR):
+        return False
+    line = re.sub(r", at most order log\*? N$", "", line)
     return any(line == told or told in ("constant", "more than") and line.startswith(told) for told in LINES[published])
+
+
+def is_weaker(published, line):
+    """Whether it leaves room for other classes too."""
+    return line.startswith(("more than", "at least order log* N")) and not (published == "easy" and line.endswith(STAR))
 
 
 def text_of(active, passive):
@@ -313,7 +321,7 @@ def write_table(explore, words):
         claim, by, known, known_by, seconds = settled(explore, words, text_of(active, passive))
         fine = agrees(published, known)
         wrong += not fine
-        if fine and known.startswith(("more than", "at least order log* N")):
+        if fine and is_weaker(published, known):
             weaker.append(name)
         shown = known.replace("*", "\\*") + ("" if fine else " **contradicts**")
         print(f"| {name} | {source} | {SHOWN[published]} | {claim} | {by} | {shown} | {known_by} | {seconds:.1f} |", flush=True)

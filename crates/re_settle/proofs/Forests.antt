@@ -20,8 +20,8 @@ use Rattle.re_evidence.proofs.Forests.{bounded, claim_on_forests, constant_on_fo
 use Rattle.re_evidence.proofs.Local.{claim_local}
 use Rattle.re_settle.proofs.Local.{fixed_found, nothing_further}
 use Rattle.re_evidence.specs.Claims.{Holds, within}
-use Rattle.re_evidence.specs.Classes.{ClassHolds, LeastHolds, bounded_class}
-use Rattle.re_settle.specs.Classes.{class_of, least_of, never_class}
+use Rattle.re_evidence.specs.Classes.{ClassHolds, LeastHolds, MostHolds, bounded_class}
+use Rattle.re_settle.specs.Classes.{above_with, class_of, least_of, never_class}
 use Rattle.re_evidence.specs.OnForests.{ClassOnForests, MayBeBelow, MostOnForests, most_of}
 use Rattle.re_settle.specs.Levels.{above_of, further_ahead, length_of}
 use Rattle.re_settle.specs.Ways.{IsFound, IsFoundFurther, IsSettled}
@@ -66,7 +66,7 @@ unsolvable_found times problem is none =
 -- one level alone
 linear_further : (times : ℕ) (problem : NamedProblem) → IsProblem (unnamed problem) → IsFound times problem (settled.Never Flexible) → IsFlexibility (unnamed problem) (Length 1)
     → IsFoundFurther times problem (settled.Never Flexible) further.Linear
-linear_further times problem is found one = record { shown = one; class = never_local problem is found.holds }
+linear_further times problem is found one = record { shown = one; class = never_local problem is found.holds; above = tt }
 
 -- two bounds without one above say what the one below says
 least_back : (problem : Problem) (least : Least) → ClassHolds (bounded_class least None) problem → LeastHolds least problem
@@ -87,6 +87,15 @@ never_class_on_forests times problem way further.Greedy above is found high =
 never_class_on_forests times problem way (further.FixedPoint later) above is found high =
     bounded (unnamed problem) is least.Log above ((above_forests (unnamed problem) is).1 found.class) high
 
+-- the bound above that is found, or else the one that is known
+above_on_forests : (problem : Problem) (further : Further) (above : Option Most) → IsProblem problem → IfSome (above_with further None) (λ (most : Most). MostHolds most problem)
+    → MayBeBelow above problem → MayBeBelow (above_with further above) problem
+above_on_forests problem further.Nothing above is found high = high
+above_on_forests problem further.Linear above is found high = high
+above_on_forests problem (further.FewColours coloured) above is found high = below_forests problem is found
+above_on_forests problem further.Greedy above is found high = below_forests problem is found
+above_on_forests problem (further.FixedPoint later) above is found high = high
+
 -- the class on forests
 class_on_forests : (times : ℕ) (problem : NamedProblem) (settled : Settled) (further : Further) (above : Option Most) → IsProblem (unnamed problem) → IsFound times problem settled
     → IsFoundFurther times problem settled further → MayBeBelow above (unnamed problem) → ClassOnForests (class_of settled further above) (unnamed problem)
@@ -94,7 +103,8 @@ class_on_forests times problem settled.Unsolvable further above is found besides
 class_on_forests times problem (settled.Exactly shown) further above is found besides high = constant_on_forests (unnamed problem) is (Exactly shown.rounds) found.holds found.class
 class_on_forests times problem (settled.Never way) further above is found besides high = never_class_on_forests times problem way further above is besides high
 class_on_forests times problem (settled.Within more None) further above is found besides high =
-    bounded (unnamed problem) is (least.MoreThan more.rounds) above (claim_on_forests (unnamed problem) is (MoreThan more.rounds) found.holds found.class) high
+    bounded (unnamed problem) is (least.MoreThan more.rounds) (above_with further above) (claim_on_forests (unnamed problem) is (MoreThan more.rounds) found.holds found.class)
+    (above_on_forests (unnamed problem) further above is besides.above high)
 class_on_forests times problem (settled.Within more (Some most)) further above is found besides high =
     constant_on_forests (unnamed problem) is (within more.rounds most.rounds) found.holds found.class
 

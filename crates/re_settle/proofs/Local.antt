@@ -1,5 +1,5 @@
 -- What is known of a problem, said of local algorithms.
-use Rattle.std.proofs.Common.{◌≡◌, ℕ, Bool, ◌≤◌, true, [], length, ap, refl, ◌∙◌, sym, subst, arith, Some}
+use Rattle.std.proofs.Common.{◌≡◌, ℕ, Bool, ◌≤◌, true, [], length, ap, refl, ◌∙◌, sym, subst, arith, None, Some}
 use Rattle.std.specs.Prelude.{if◌then◌else◌}
 use Rattle.re_forest_words.specs.Showings.{IsShown as IsGreedyShown, ShownLaw}
 use Rattle.re_forest_words.specs.declared.showing.Shown.{Shown as GreedyShown}
@@ -38,6 +38,7 @@ use Rattle.re_evidence.specs.declared.types.Least.{Least}
 use Rattle.re_settle.specs.declared.types.Settled.{Settled}
 use Rattle.re_settle.specs.declared.types.ColouredWay.TheVariants.{Rounds, Shortest}
 use Rattle.re_settle.specs.declared.types.Settled.TheVariants as settled
+use Rattle.re_settle.specs.declared.types.Shown.{Shown as Bounded}
 use Rattle.re_settle.specs.declared.types.Way.{Way}
 use Rattle.re_settle.specs.declared.types.Way.TheVariants.{Cover}
 use Rattle.re_chains.specs.GivenTexts.{IsGivenText, given_text}
@@ -94,16 +95,24 @@ cover_never times problem nodes is known = record { known = known; least = above
 
 -- ---- what is found of the class besides
 pub nothing_further : (times : ℕ) (problem : NamedProblem) (settled : Settled) → IsFound times problem settled → IsFoundFurther times problem settled further.Nothing
-nothing_further times problem settled found = record { shown = tt; class = found.class }
+nothing_further times problem settled found = record { shown = tt; class = found.class; above = tt }
 
 pub coloured_further : (times : ℕ) (problem : NamedProblem) (way : Way) (coloured : Coloured) → IsProblem (unnamed problem) → IsFound times problem (settled.Never way)
     → IsColoured times problem coloured → IsFoundFurther times problem (settled.Never way) (further.FewColours coloured)
-coloured_further times problem way coloured is found few = record { shown = few; class = few_order coloured.side (unnamed problem) is found.holds few.solvable }
+coloured_further times problem way coloured is found few =
+    let order = few_order coloured.side (unnamed problem) is found.holds few.solvable in
+    record { shown = few; class = order; above = order.1 }
 
 pub fixed_further : (times : ℕ) (problem : NamedProblem) (way later : Way) → IsFixedPoint times problem later
     → IsFoundFurther times problem (settled.Never way) (further.FixedPoint later)
-fixed_further times problem way later fixed = record { shown = (fixed.known.shown, fixed.finds); class = fixed.above }
+fixed_further times problem way later fixed = record { shown = (fixed.known.shown, fixed.finds); class = fixed.above; above = tt }
 
 pub greedy_further : ShownLaw → (times : ℕ) (problem : NamedProblem) (way : Way) (shown : GreedyShown) → IsProblem (unnamed problem) → IsFound times problem (settled.Never way)
     → IsGreedyShown (unnamed problem) 2 shown → IsFoundFurther times problem (settled.Never way) further.Greedy
-greedy_further law times problem way shown is found by = record { shown = (shown, by); class = few_order Active (unnamed problem) is found.holds (law (unnamed problem) 2 shown is by).0 }
+greedy_further law times problem way shown is found by =
+    let means = law (unnamed problem) 2 shown is by in
+    record { shown = (shown, by); class = few_order Active (unnamed problem) is found.holds means.0; above = means.1 }
+
+pub greedy_bounded : ShownLaw → (times : ℕ) (problem : NamedProblem) (more : Bounded) (shown : GreedyShown) → IsProblem (unnamed problem)
+    → IsFound times problem (settled.Within more None) → IsGreedyShown (unnamed problem) 2 shown → IsFoundFurther times problem (settled.Within more None) further.Greedy
+greedy_bounded law times problem more shown is found by = record { shown = (shown, by); class = found.class; above = (law (unnamed problem) 2 shown is by).1 }

@@ -8,6 +8,7 @@ use Rattle.re_evidence.specs.declared.types.Class.TheVariants as class
 use Rattle.re_evidence.specs.declared.types.Least.{Least}
 use Rattle.re_evidence.specs.declared.types.Least.TheVariants as least
 use Rattle.re_evidence.specs.declared.types.Most.{Most}
+use Rattle.re_evidence.specs.declared.types.Most.TheVariants as most
 use Rattle.re_evidence.specs.declared.types.Order.TheVariants as order
 use Rattle.re_settle.specs.declared.types.Further.{Further}
 use Rattle.re_settle.specs.declared.types.Further.TheVariants as further
@@ -30,10 +31,18 @@ never_class way (further.FewColours coloured) above = class.Order order.LogStar
 never_class way further.Greedy above = class.Order order.LogStar
 never_class way (further.FixedPoint later) above = bounded_class least.Log above
 
+-- the bound above that is found besides, or else this one: what is solvable given few colours, or greedy, takes at most the order of log* N
+abbrev pub above_with : Further → Option Most → Option Most
+above_with further.Nothing above = above
+above_with further.Linear above = above
+above_with (further.FewColours coloured) above = Some most.LogStar
+above_with further.Greedy above = Some most.LogStar
+above_with (further.FixedPoint later) above = above
+
 -- the class where so much is known, and at most so many rounds are enough on finite forests; without these it is the class of local algorithms
 abbrev pub class_of : Settled → Further → Option Most → Class
 class_of settled.Unsolvable further above = class.NoSolution
 class_of (settled.Exactly shown) further above = class.Constant (Exactly shown.rounds)
 class_of (settled.Never way) further above = never_class way further above
-class_of (settled.Within more None) further above = bounded_class (least.MoreThan more.rounds) above
+class_of (settled.Within more None) further above = bounded_class (least.MoreThan more.rounds) (above_with further above)
 class_of (settled.Within more (Some most)) further above = class.Constant (within more.rounds most.rounds)

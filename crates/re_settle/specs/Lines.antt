@@ -128,7 +128,7 @@ length_lines names (Some count) = (codes "literature: order N^(1/" ++ decimal co
 abbrev pub bound_lines : List (List ℕ) → Option Most → Option ℕ → List ℕ
 bound_lines names above length = above_line names above ++ length_lines names length
 
--- the lines of the words that show the class of what no number of rounds solves, where these aren't those that show this
+-- the lines of the words that show the class of what no number of rounds is known to solve, where these aren't those that show the claim
 abbrev pub further_lines : List (List ℕ) → Further → Option Most → Option ℕ → List ℕ
 further_lines names further.Nothing above length = bound_lines names above length
 further_lines names further.Linear above length = codes ""
@@ -141,7 +141,7 @@ abbrev pub shows_lines : List (List ℕ) → Settled → Further → Option Most
 shows_lines names settled.Unsolvable further above length = codes ""
 shows_lines names (settled.Exactly shown) further above length = codes ""
 shows_lines names (settled.Never way) further above length = further_lines names further above length
-shows_lines names (settled.Within more None) further above length = bound_lines names above length
+shows_lines names (settled.Within more None) further above length = further_lines names further above length
 shows_lines names (settled.Within more (Some most)) further above length = codes ""
 
 abbrev pub class_lines : List (List ℕ) → Classified → List ℕ

@@ -38,8 +38,8 @@ use Rattle.re_search.specs.Searches.{search_of}
 use Rattle.re_search.specs.declared.types.Search.TheVariants.{Found}
 use Rattle.re_evidence.specs.Claims.{Holds}
 use Rattle.re_settle.specs.Claims.{claim_of}
-use Rattle.re_evidence.specs.Classes.{ClassHolds, LeastHolds}
-use Rattle.re_settle.specs.Classes.{class_of, least_of}
+use Rattle.re_evidence.specs.Classes.{ClassHolds, LeastHolds, MostHolds}
+use Rattle.re_settle.specs.Classes.{above_with, class_of, least_of}
 use Rattle.re_settle.specs.Coloured.{IsColoured}
 use Rattle.re_settle.specs.Measures.{IsSmall, doublings, greatest_degree, longest_labels, longest_steps, shortest_labels, shortest_steps}
 use Rattle.re_evidence.specs.declared.types.Claim.{Claim}
@@ -50,6 +50,7 @@ use Rattle.re_settle.specs.declared.types.Classified.{Classified}
 use Rattle.re_settle.specs.declared.types.Further.{Further}
 use Rattle.re_settle.specs.declared.types.Further.TheVariants as further
 use Rattle.re_evidence.specs.declared.types.Least.TheVariants as least
+use Rattle.re_evidence.specs.declared.types.Most.{Most}
 use Rattle.re_settle.specs.declared.types.Settled.{Settled}
 use Rattle.re_settle.specs.declared.types.Settled.TheVariants as settled
 use Rattle.re_settle.specs.declared.types.Way.{Way}
@@ -252,10 +253,11 @@ pub record IsFound (times : ℕ) (problem : NamedProblem) (settled : Settled) : 
   pub fixed : AnswersFixed problem settled
   pub closed : AnswersClosure times problem settled
 
--- and so much of its class besides, which is true of them too
+-- and so much of its class besides, which is true of them too, and so is the bound above that is found
 pub record IsFoundFurther (times : ℕ) (problem : NamedProblem) (settled : Settled) (further : Further) : Type 0 where
   pub shown : IsShownFurther times further problem
   pub class : ClassHolds (class_of settled further None) (unnamed problem)
+  pub above : IfSome (above_with further None) (λ (most : Most). MostHolds most (unnamed problem))
 
 -- so much is known of it: what is found, the class on finite forests too, and what its levels of labels tell, of which `flexible` tells how many there are: where
 -- there is no flexible set, they tell all. Of what is solvable without communication exactly 0 rounds are claimed

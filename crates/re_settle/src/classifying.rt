@@ -5,17 +5,17 @@ ghost use Rattle.re_problem.specs.NamedProblems.{unnamed};
 ghost use Rattle.re_evidence.specs.OnForests.{most_of};
 ghost use Rattle.re_settle.specs.Levels.{length_of};
 ghost use Rattle.re_settle.specs.Ways.{IsFixedPoint, IsFound, IsFoundFurther, IsSettled};
-ghost use Rattle.std.specs.Prelude.{◌≡◌, ◌≤◌, IfOk, IfSome, IsSome};
+ghost use Rattle.std.specs.Prelude.{◌≡◌, ◌≤◌, IfOk, IfSome, IsSome, None};
 
 use crate::coloured::{late_coloured, soon_coloured};
 use crate::lines::least_of;
 use crate::never::far_way;
 use crate::settling::search;
-use crate::types::{Classified, Further, Settled, Way};
+use crate::types::{Classified, Further, Settled, Shown, Way};
 use re_chains::problem_chain;
 use re_evidence::{Least, Most, most_of};
 use re_flexible::{Flexibility, flexibility_of};
-use re_forest_words::{Showing, Shown, greedy_behind, shown_law};
+use re_forest_words::{Showing, Shown as GreedyShown, greedy_behind, shown_law};
 use re_gap::{above_log_on_views_law, not_flexible_law};
 use re_labels::{LabelSet, NoMemory};
 use re_problem::Problem;
@@ -110,7 +110,7 @@ fn excluded(alloc: Global, problem: &Problem, way: Way, times: u8) -> Result<Fur
 }
 
 // What shows that the problem, or one of the two derived ones behind it, is greedy, if anything is found.
-fn greedy_way(alloc: Global, problem: &Problem) -> Result<Option<Shown>, NoMemory>
+fn greedy_way(alloc: Global, problem: &Problem) -> Result<Option<GreedyShown>, NoMemory>
     ensures { IfOk result (λ found. IfSome found (IsGreedyShown (unnamed problem.now) 2)) }
 {
     match greedy_behind(alloc, problem, 2)? {
@@ -136,9 +136,55 @@ fn beside_graph(alloc: Global, problem: &Problem, way: Way, times: u8) -> Result
     }
 }
 
-// Whether these words leave a question of the class, where a flexible set shows so much.
-fn is_open(way: Way, most: Most) -> bool {
-    least_of(way) == Least::LogStar && most == Most::Log
+// What is found of the class of a problem of which so many rounds are known to be too few, and no number to be enough, besides what shows this: it is
+// looked whether the problem is greedy.
+fn beside_bound(
+    alloc: Global,
+    problem: &Problem,
+    more: Shown,
+    times: u8,
+) -> Result<Further, NoMemory>
+    requires found { IsFound times problem.now (Settled.Within more None) }
+    ensures { IfOk result (IsFoundFurther times problem.now (Settled.Within more None)) }
+{
+    let _names = problem.names();
+    let _rounds = more.rounds;
+    let _times = times;
+    shown_law();
+    match greedy_way(alloc, problem)? {
+        Some(shown) => {
+            let _steps = shown.steps;
+            Ok(Further::Greedy)
+        }
+        None => Ok(Further::Nothing),
+    }
+}
+
+// What is found of the class of a problem with a flexible set, besides what shows so much of it.
+fn beside(
+    alloc: Global,
+    problem: &Problem,
+    settled: Settled,
+    times: u8,
+) -> Result<Further, NoMemory>
+    requires found { IsFound times problem.now settled }
+    requires times { times ≤ 64 }
+    ensures { IfOk result (IsFoundFurther times problem.now settled) }
+{
+    match settled {
+        Settled::Never(way) => beside_graph(alloc, problem, way, times),
+        Settled::Within(more, None) => beside_bound(alloc, problem, more, times),
+        _ => Ok(Further::Nothing),
+    }
+}
+
+// Whether so much leaves a question of the class, where a flexible set shows this.
+fn is_open(settled: Settled, most: Most) -> bool {
+    match settled {
+        Settled::Never(way) => least_of(way) == Least::LogStar && most == Most::Log,
+        Settled::Within(_, None) => most == Most::Log,
+        _ => false,
+    }
 }
 
 // What is claimed where a set of labels is flexible.
@@ -177,41 +223,27 @@ pub(crate) fn claim(alloc: Global, problem: &Problem, times: u8) -> Result<Class
     }
 }
 
-// The same with what is found of the class of a problem with a flexible set, which no number of rounds solves, as these words show.
+// The same with what is found of the class of a problem with a flexible set.
 fn with_further(
     alloc: Global,
     problem: &Problem,
     claimed: Classified,
-    way: Way,
     times: u8,
 ) -> Result<Classified, NoMemory>
     requires known { IsSettled times problem.now claimed }
-    requires way { claimed.settled ≡ Settled.Never way }
     requires above { IsSome claimed.above }
     requires times { times ≤ 64 }
     ensures settled { IfOk result (IsSettled times problem.now) }
     ensures same { IfOk result (λ classified. classified.settled ≡ claimed.settled) }
 {
     let _names = problem.names();
-    let further = beside_graph(alloc, problem, way, times)?;
+    let further = beside(alloc, problem, claimed.settled, times)?;
     Ok(Classified {
         settled: claimed.settled,
         further,
         above: claimed.above,
         length: claimed.length,
     })
-}
-
-// The words that show that no number of rounds is enough, where these and a flexible set leave a question of the class.
-fn open_way(claimed: Classified) -> Option<Way>
-    ensures way { IfSome result (λ way. claimed.settled ≡ Settled.Never way) }
-    ensures above { IfSome result (λ way. IsSome claimed.above) }
-{
-    let Settled::Never(way) = claimed.settled else {
-        return None;
-    };
-    let most = claimed.above?;
-    if is_open(way, most) { Some(way) } else { None }
 }
 
 /// The same with what is found of the class besides, where a question of it is left: on paths a flexible set tells it.
@@ -226,9 +258,13 @@ pub(crate) fn classify(
     ensures settled { IfOk result (IsSettled times problem.now) }
     ensures same { IfOk result (λ classified. classified.settled ≡ claimed.settled) }
 {
-    match open_way(claimed) {
-        Some(way) => with_further(alloc, problem, claimed, way, times),
-        None => Ok(claimed),
+    let Some(most) = claimed.above else {
+        return Ok(claimed);
+    };
+    if is_open(claimed.settled, most) {
+        with_further(alloc, problem, claimed, times)
+    } else {
+        Ok(claimed)
     }
 }
 

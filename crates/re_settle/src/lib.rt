@@ -27,12 +27,12 @@
 //!    each doubling. In degrees 5 and 2, of at most 8 N configurations, what `shortest 6 20` finds. Else what `shortest` finds, with 12 steps and 8
 //!    more for each doubling, to 8, 6, 4 and 4 labels, and 4, 2, 1 and 1 more for each doubling.
 //!
-//! Where a graph settles it, and the degrees aren't both 2, more is found of the class by the first of these: whether the problem, or one of the two
-//! derived ones behind it, is greedy, as `explore greedy` finds; whether some number of rounds, at most 8, is enough given few colours of nodes, by
-//! problems of at most 16 labels, or of edges, by problems of at most 8; behind a graph of at most 4 nodes the fixed points of 4; of a problem of at
-//! most 8 N configurations what `shortest` finds given few colours of nodes, with 8 steps and 8 more for each doubling of N, and the labels that it
-//! has above; that number of rounds given them by problems of at most 24 labels; what `shortest` finds given few colours of edges, where that input
-//! problem has at most 64 N configurations.
+//! Where a graph settles it, or no upper bound is found, and the degrees aren't both 2, more is found of the class by the first of these: whether the
+//! problem, or one of the two derived ones behind it, is greedy, as `explore greedy` finds; and then, behind a graph alone, whether some number of
+//! rounds, at most 8, is enough given few colours of nodes, by problems of at most 16 labels, or of edges, by problems of at most 8; behind a graph of
+//! at most 4 nodes the fixed points of 4; of a problem of at most 8 N configurations what `shortest` finds given few colours of nodes, with 8 steps
+//! and 8 more for each doubling of N, and the labels that it has above; that number of rounds given them by problems of at most 24 labels; what
+//! `shortest` finds given few colours of edges, where that input problem has at most 64 N configurations.
 //!
 //! What is found is accepted by `check`, and its text is no longer than one that is read; or it is a count of rounds, or a graph without a
 //! solution. Where a text is too long, the way counts as one that finds nothing; for an upper bound without labels left out one with few labels

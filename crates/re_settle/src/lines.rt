@@ -4,7 +4,7 @@ ghost use Rattle.re_settle.specs.Answers.{by_claim, settled_outcome};
 ghost use Rattle.re_evidence.specs.Claims.{is_final, within};
 ghost use Rattle.re_settle.specs.Claims.{claim_of};
 ghost use Rattle.re_evidence.specs.Classes.{bounded_class};
-ghost use Rattle.re_settle.specs.Classes.{class_of, least_of, never_class};
+ghost use Rattle.re_settle.specs.Classes.{above_with, class_of, least_of, never_class};
 ghost use Rattle.re_evidence.specs.Lines.{alone_text};
 ghost use Rattle.re_settle.specs.Lines.{above_line, bound_lines, claim_lines, class_lines, classes_text, coloured_line, coloured_words, colours_text, first_text, further_lines, length_lines, number_texts, rest_lines, shows_lines, way_line, way_lines, way_numbers, way_rest, way_words};
 ghost use Rattle.std.specs.Prelude.{◌≡◌, ◌++◌, ◌∷◌, [], IfOk, OnOk, Some};
@@ -198,6 +198,23 @@ fn never_class(way: Way, further: Further, above: Option<Most>) -> Class
     }
 }
 
+// The bound above that is found besides, or else this one.
+fn above_with(further: Further, above: Option<Most>) -> Option<Most>
+    ensures { result ≡ above_with further above }
+{
+    match further {
+        Further::FewColours(_) | Further::Greedy => Some(Most::LogStar),
+        _ => above,
+    }
+}
+
+// The class of what takes more than so many rounds, where so much is found besides.
+fn open_class(rounds: u8, further: Further, above: Option<Most>) -> Class
+    ensures { result ≡ bounded_class (Least.MoreThan rounds) (above_with further above) }
+{
+    bounded_class(Least::MoreThan(rounds), above_with(further, above))
+}
+
 // The class, where at most so many rounds are known to be enough.
 fn class_of(settled: Settled, further: Further, above: Option<Most>) -> Class
     ensures { result ≡ class_of settled further above }
@@ -206,7 +223,7 @@ fn class_of(settled: Settled, further: Further, above: Option<Most>) -> Class
         Settled::Unsolvable => Class::NoSolution,
         Settled::Exactly(shown) => Class::Constant(Claim::Exactly(shown.rounds)),
         Settled::Never(way) => never_class(way, further, above),
-        Settled::Within(more, None) => bounded_class(Least::MoreThan(more.rounds), above),
+        Settled::Within(more, None) => open_class(more.rounds, further, above),
         Settled::Within(more, Some(most)) => Class::Constant(within(more.rounds, most.rounds)),
     }
 }
@@ -286,7 +303,7 @@ fn push_bound_lines(
     push_length(text, names, length)
 }
 
-// Appends the lines of the words that show the class of what no number of rounds solves, where these aren't those that show this.
+// Appends the lines of the words that show the class of what no number of rounds is known to solve, where these aren't those that show the claim.
 fn push_further(
     text: &mut Vec<u8>,
     names: &Names,
@@ -313,16 +330,13 @@ fn push_shows(text: &mut Vec<u8>, names: &Names, classified: Classified) -> Resu
     ensures { OnOk result (text.new.items ≡ text.old.items ++ shows_lines names.now classified.settled classified.further classified.above classified.length) }
 {
     match classified.settled {
-        Settled::Never(_) => push_further(
+        Settled::Never(_) | Settled::Within(_, None) => push_further(
             text,
             names,
             classified.further,
             classified.above,
             classified.length,
         ),
-        Settled::Within(_, None) => {
-            push_bound_lines(text, names, classified.above, classified.length)
-        }
         _ => push_words(text, ""),
     }
 }

@@ -80,17 +80,17 @@ pub enum Settled {
     Within(Shown, Option<Shown>),
 }
 
-/// What is found of the class of a problem that no number of rounds solves, besides what shows this.
+/// What is found of the class of a problem that no number of rounds is known to solve, besides what shows what is claimed.
 #[derive(Clone, Copy, Debug, PartialEq, Eq)]
 pub enum Further {
     /// Nothing.
     Nothing,
     /// It takes the order of N, since it has one level of labels alone.
     Linear,
-    /// It takes the order of log* N: some number of rounds is enough given a proper colouring of one side with one colour more than a node of this
-    /// side meets others.
+    /// It takes at most the order of log* N: some number of rounds is enough given a proper colouring of one side with one colour more than a node of
+    /// this side meets others.
     FewColours(Coloured),
-    /// It takes the order of log* N: it, or a problem at most 2 derived ones behind it, is greedy, as `explore greedy` shows.
+    /// It takes at most the order of log* N: it, or a problem at most 2 derived ones behind it, is greedy, as `explore greedy` shows.
     Greedy,
     /// It takes at least the order of log N, as a fixed point shows.
     FixedPoint(Way),

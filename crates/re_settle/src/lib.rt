@@ -13,7 +13,7 @@
 //!
 //! 1. Whether the problem is solvable without communication.
 //! 2. A fixed point of at most 4 steps without merges; one behind one of the first 16 N relaxations; a graph of at most 4 active nodes without a
-//!    solution.
+//!    solution, which comes first where a passive node has more than two neighbours and the problem more than 32 N configurations.
 //! 3. Its number of rounds, where this is at most `MAX_ROUNDS` and no step on the way passes a limit, or one does and the problem before it, or
 //!    the one before that, tells of one round more, or two.
 //! 4. A fixed point: of the closure of the problem; of that behind 1 or 2 steps, where the closures before are solvable without communication and the

@@ -47,6 +47,9 @@ pub const CYCLE_NODES: u32 = 300;
 /// How many relaxations are looked at before dearer ways.
 const NEAR_RELAXED: u32 = 16;
 
+/// Above how many configurations closures cost much where a passive node has more than two neighbours.
+const DEAR_SIZE: usize = 32;
+
 /// How many are looked at among these.
 const FAR_RELAXED: u32 = 200;
 
@@ -484,6 +487,11 @@ fn near_way(
     }
 }
 
+// Whether a graph of few nodes costs less than closures do. Nothing rests on it.
+fn is_dear(problem: &Problem, times: u8) -> bool {
+    problem.passive().degree() > 2 && !is_small(problem, DEAR_SIZE, times)
+}
+
 /// The first words that show that no number of rounds solves the problem, whose chain is given too, of those that cost little, whatever its size.
 pub(crate) fn soon_way(
     alloc: Global,
@@ -496,6 +504,11 @@ pub(crate) fn soon_way(
     ensures shown { IfOk result (λ found. IfSome found (IsNever times problem.now)) }
     ensures none { IfOk result (λ found. found ≡ None → IsUnfixed problem.now) }
 {
+    if is_dear(problem, times) {
+        if let Some(way) = cover_way(alloc, problem, times)? {
+            return Ok(Some(way));
+        }
+    }
     match near_way(alloc, problem, chain, times)? {
         Some(way) => Ok(Some(way)),
         None => cover_way(alloc, problem, times),

@@ -6,5 +6,6 @@ pub mod Thinning
 mod Drawn
 mod PartsSaid
 mod Reported
+mod SameParts
 mod Saying
 mod Solved

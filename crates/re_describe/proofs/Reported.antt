@@ -3,7 +3,8 @@ use Rattle.std.proofs.Common.{◌≡◌, ℕ, true, false, List, Option, Some, N
 use Rattle.re_cover.specs.Graphs.{PortGraph}
 use Rattle.re_settings.specs.InputProblems.{input_fault}
 use Rattle.re_settings.specs.declared.inputs.InputFault.{InputFault as NoInput}
-use Rattle.re_frame.specs.Outcomes.{Outcome, refused}
+use Rattle.re_frame.specs.Outcomes.{Outcome, outcome_of, refused}
+use Rattle.re_frame.specs.declared.output.Output.{Output}
 use Rattle.re_frame.specs.declared.status.Status.{Status}
 use Rattle.re_frame.specs.declared.status.Status.TheVariants.{BadInput, BadWords, Done, Limit, No, NoMemory, ReadFault, WriteFault}
 use Rattle.re_given.specs.Given.{SolvableGiven}
@@ -18,10 +19,15 @@ use Rattle.re_graph_words.specs.SolveWords.{ReadLabelledMeans, ReadMeans, read_l
 use Rattle.re_graph_words.specs.declared.faults.GraphFault.{GraphFault}
 use Rattle.re_graph_words.specs.declared.solving.TheConstants.{MAX_TRIES}
 use Rattle.re_graph_words.specs.declared.texts.GraphText.{GraphText}
+use Rattle.re_judging.proofs.JudgedTexts.{refusal}
+use Rattle.re_judging.specs.Judging.{IsJudgedFirst, in_part}
+use Rattle.re_judging.specs.declared.types.Judged.{Judged}
+use Rattle.re_judging.specs.declared.types.Judged.TheVariants.{Refused}
 use Rattle.re_laws.specs.Algorithms.{Solvable}
 use Rattle.re_problem.specs.NamedProblems.{NamedProblem, unnamed}
 use Rattle.re_walks.specs.Walking.{Walk, cut, found, nowhere}
 use Rattle.re_describe.specs.DescribeWords.{is_given_no, is_no, told_no}
+use Rattle.re_describe.specs.GivenReports.{is_done}
 
 -- ---- a problem and a graph
 status_no : (status : Status) → is_no status ≡ true → status ≡ No
@@ -59,3 +65,20 @@ pub never_given : (input : Result Labelled GraphFault) (labelled : Labelled) (to
     → (T : ℕ) → SolvableGiven (unnamed labelled.given.problem) (unnamed labelled.given.input) T → ⊥
 never_given input labelled told is answer means says =
     let known : ReadLabelledMeans (Ok labelled) told = subst (λ r. ReadLabelledMeans r told) is means in known.never (answer ∙ ap read_labelled_outcome is ∙ told_refused labelled says)
+
+-- ---- evidence
+done_status : (status : Status) → is_done status ≡ true → status ≡ Done
+done_status Done says = refl
+done_status No says = absurd (let bad : false ≡ true = says in cc)
+done_status BadWords says = absurd (let bad : false ≡ true = says in cc)
+done_status BadInput says = absurd (let bad : false ≡ true = says in cc)
+done_status Limit says = absurd (let bad : false ≡ true = says in cc)
+done_status ReadFault says = absurd (let bad : false ≡ true = says in cc)
+done_status WriteFault says = absurd (let bad : false ≡ true = says in cc)
+done_status NoMemory says = absurd (let bad : false ≡ true = says in cc)
+
+-- where `judge` answers Done the first part isn't refused
+pub first_holds : (bytes : List ℕ) (first : Judged) (output : Output) (told : Outcome) → first ≡ Refused output → IsJudgedFirst bytes first told → is_done told.status ≡ true → ⊥
+first_holds bytes first output told is answer done =
+    let refuses : told ≡ in_part 1 (outcome_of output) = subst (λ judged. IsJudgedFirst bytes judged told) is answer in
+    refusal 1 (outcome_of output) told refuses (done_status told.status done)

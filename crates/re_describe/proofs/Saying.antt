@@ -27,15 +27,17 @@ use Rattle.re_graph_words.specs.declared.faults.GraphFault.{GraphFault}
 use Rattle.re_graph_words.specs.declared.faults.GraphFault.TheVariants.{EndMissing, EndTwice, NoSuchEnd, NotEnds, Text, TooManyNodes}
 use Rattle.re_graph_words.specs.declared.solving.TheConstants.{MAX_TRIES}
 use Rattle.re_graph_words.specs.declared.texts.GraphText.{GraphText}
+use Rattle.re_judging.proofs.FaultLaws.{Says, parts_say}
 use Rattle.re_judging.proofs.JudgedTexts.{judging_says}
+use Rattle.re_judging.specs.PartFaults.{parts_fault}
 use Rattle.re_judging.specs.declared.types.Judged.{Judged}
 use Rattle.re_judging.specs.declared.types.Judged.TheVariants.{Holds, Refused}
 use Rattle.re_problem.specs.NamedProblems.{NamedProblem, unnamed}
 use Rattle.re_problem.specs.declared.fault.InputFault.{InputFault}
 use Rattle.re_walks.specs.Walking.{Walk, cut, found, nowhere}
 use Rattle.re_describe.specs.ClassReports.{is_evidence}
-use Rattle.re_describe.specs.DescribeWords.{GroupsBy, MayDescribe, OrFault, ReportsBy, ReportsGraph, ReportsHeld, ReportsJudged, ReportsJudgement, ReportsLabelled, ReportsSolved, ReportsText, ReportsTold, is_done, is_judged, is_no, may_refuse, told_no, withheld, withheld_status}
-use Rattle.re_describe.specs.GivenReports.{judged}
+use Rattle.re_describe.specs.DescribeWords.{GroupsBy, GroupsText, IsSame, MayDescribe, OrFault, OrGraphFault, OrOutcome, ReportsBy, ReportsGraph, ReportsHeld, ReportsJudged, ReportsJudgement, ReportsLabelled, ReportsSolved, ReportsText, ReportsTold, is_judged, is_no, may_refuse, told_no, withheld}
+use Rattle.re_describe.specs.GivenReports.{is_done, judged}
 use Rattle.re_describe.specs.declared.words.DescribeWord.{DescribeWord}
 use Rattle.re_describe.specs.declared.words.DescribeWord.TheVariants.{Groups, Report}
 use Rattle.re_describe.specs.declared.words.ReportForm.{ReportForm}
@@ -104,34 +106,50 @@ reports_say false true form bytes outcome may =
 reports_say false false form bytes outcome may = or_fault (chain_fault bytes) _ outcome true (λ report. subst (λ status. MaySay status true) (sym report.status) tt) may
 
 -- ---- evidence
-withheld_says : (status : Status) → MaySay status true → MaySay (withheld_status status) true
-withheld_says Done says = refl
-withheld_says No says = says
-withheld_says BadWords says = says
-withheld_says BadInput says = says
-withheld_says Limit says = says
-withheld_says ReadFault says = says
-withheld_says WriteFault says = says
-withheld_says NoMemory says = says
+held_says : (first : Judged) (form : ReportForm) (bytes : List ℕ) (told outcome : Outcome) → ReportsHeld form bytes told first outcome → MaySay outcome.status true
+held_says (Holds part) form bytes told outcome report = subst (λ status. MaySay status true) (sym report.status) tt
+held_says (Refused output) form bytes told outcome none = absurd none
 
-held_says : (judged : Judged) (form : ReportForm) (bytes : List ℕ) (told outcome : Outcome) → MaySay told.status true → ReportsHeld form bytes told judged outcome → MaySay outcome.status true
-held_says (Holds part) form bytes told outcome says report = subst (λ status. MaySay status true) (sym report.status) tt
-held_says (Refused output) form bytes told outcome says is = says_as outcome _ is (withheld_says told.status says)
-
-judgement_says : (judged : Bool) (form : ReportForm) (bytes : List ℕ) (told outcome : Outcome) → MaySay told.status true → ReportsJudgement judged form bytes told outcome
-    → MaySay outcome.status true
-judgement_says true form bytes told outcome says (judged, part, held) = held_says judged form bytes told outcome says held
-judgement_says false form bytes told outcome says is = says_as outcome _ is says
+judgement_says : (judged : Bool) (form : ReportForm) (bytes : List ℕ) (told : Outcome) (first : Judged) (outcome : Outcome) → MaySay told.status true
+    → ReportsJudgement judged form bytes told first outcome → MaySay outcome.status true
+judgement_says true form bytes told first outcome says held = held_says first form bytes told outcome held
+judgement_says false form bytes told first outcome says is = says_as outcome _ is says
 
 text_says : (evidence : Bool) (form : ReportForm) (bytes : List ℕ) (outcome : Outcome) → ReportsText evidence form bytes outcome → MaySay outcome.status true
-text_says true form bytes outcome (told, may, reports) = judgement_says (is_done told.status) form bytes told outcome (judging_says bytes told may) reports
+text_says true form bytes outcome reports =
+    judgement_says (is_done reports.told.status) form bytes reports.told reports.may.first outcome (judging_says bytes reports.told reports.may) reports.reports
 text_says false form bytes outcome may = reports_say (has_line (codes "graph") bytes) (has_line (codes "given") bytes) form bytes outcome may
 
-groups_say : (given : Bool) (bytes : List ℕ) (outcome : Outcome) → GroupsBy given bytes outcome → MaySay outcome.status false
-groups_say true bytes outcome may = or_fault (two_fault (codes "given") bytes) _ outcome false (λ same. subst (λ status. MaySay status false) (sym same.status) tt) may
-groups_say false bytes outcome may = or_fault (chain_fault bytes) _ outcome false (λ same. subst (λ status. MaySay status false) (sym same.status) tt) may
+same_says : (IsText : List ℕ → Type 0) (outcome : Outcome) → IsSame IsText outcome → MaySay outcome.status false
+same_says IsText outcome same = subst (λ status. MaySay status false) (sym same.status) tt
+
+fault_never_no : (fault : GraphFault) → MaySay (graph_fault_outcome fault).status false
+fault_never_no (Text fault) = fault_says fault false
+fault_never_no (NotEnds line) = tt
+fault_never_no (NoSuchEnd line) = tt
+fault_never_no (EndTwice line) = tt
+fault_never_no (EndMissing line) = tt
+fault_never_no (TooManyNodes line) = tt
+
+or_graph_fault : {X : Type 0} (read : Result X GraphFault) (IsText : List ℕ → Type 0) (outcome : Outcome) → OrGraphFault read (IsSame IsText outcome) outcome → MaySay outcome.status false
+or_graph_fault (Err fault) IsText outcome says = subst (λ (o : Outcome). MaySay o.status false) (sym says) (fault_never_no fault)
+or_graph_fault (Ok read) IsText outcome same = same_says IsText outcome same
+
+groups_say : (graph given : Bool) (bytes : List ℕ) (outcome : Outcome) → GroupsBy graph given bytes outcome → MaySay outcome.status false
+groups_say true true bytes outcome may = or_graph_fault (labelled_input bytes) _ outcome may
+groups_say true false bytes outcome may = or_graph_fault (graph_input bytes) _ outcome may
+groups_say false true bytes outcome may = or_fault (two_fault (codes "given") bytes) _ outcome false (same_says _ outcome) may
+groups_say false false bytes outcome may = or_fault (chain_fault bytes) _ outcome false (same_says _ outcome) may
+
+evidence_says : (fault : Option Outcome) (IsText : List ℕ → Type 0) (outcome : Outcome) → Says fault → OrOutcome fault (IsSame IsText outcome) outcome → MaySay outcome.status false
+evidence_says (Some refusal) IsText outcome says is = subst (λ (o : Outcome). MaySay o.status false) (sym is) says
+evidence_says None IsText outcome says same = same_says IsText outcome same
+
+groups_text_says : (evidence : Bool) (bytes : List ℕ) (outcome : Outcome) → GroupsText evidence bytes outcome → MaySay outcome.status false
+groups_text_says true bytes outcome may = evidence_says (parts_fault 15 1 bytes) _ outcome (parts_say 15 1 bytes) may
+groups_text_says false bytes outcome may = groups_say (has_line (codes "graph") bytes) (has_line (codes "given") bytes) bytes outcome may
 
 pub describe_says : (word : DescribeWord) (bytes : List ℕ) (outcome : Outcome) → MayDescribe word bytes outcome → MaySay outcome.status (may_refuse word)
 unfolding MayDescribe
 describe_says (Report form) bytes outcome may = text_says (is_evidence bytes) form bytes outcome may
-describe_says Groups bytes outcome may = groups_say (has_line (codes "given") bytes) bytes outcome may
+describe_says Groups bytes outcome may = groups_text_says (is_evidence bytes) bytes outcome may

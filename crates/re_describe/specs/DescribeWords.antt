@@ -26,14 +26,14 @@ use Rattle.re_io.specs.declared.read.TheConstants.{MAX_BYTES}
 use Rattle.re_laws.specs.Algorithms.{Solvable}
 use Rattle.re_problem.specs.NamedProblems.{NamedProblem, unnamed}
 use Rattle.re_problem.specs.declared.fault.InputFault.{InputFault}
-use Rattle.re_judging.specs.Joints.{first_part}
 use Rattle.re_judging.specs.Judging.{MayJudge}
-use Rattle.re_judging.specs.PartVerdicts.{IsPart}
+use Rattle.re_judging.specs.PartFaults.{parts_fault}
 use Rattle.re_judging.specs.declared.types.Judged.{Judged}
 use Rattle.re_judging.specs.declared.types.Judged.TheVariants.{Holds, Refused}
 use Rattle.re_describe.specs.ClassReports.{IsClassMarkdown, is_evidence}
-use Rattle.re_describe.specs.GivenReports.{IsGivenMarkdown, judged}
+use Rattle.re_describe.specs.GivenReports.{IsGivenMarkdown, is_done, judged}
 use Rattle.re_describe.specs.GraphReports.{AreParts}
+use Rattle.re_describe.specs.GroupTexts.{WritesBoth, WritesEvidence, WritesGraph, WritesLabelled, WritesSame}
 use Rattle.re_describe.specs.LabelledReports.{AreLabelledParts}
 use Rattle.re_describe.specs.Latex.{latex_of}
 use Rattle.re_describe.specs.Pictures.{picture}
@@ -55,7 +55,7 @@ describe_word_of words = None
 
 -- the lines of help
 unfoldable pub describe_help : List ℕ
-describe_help = codes "describe, describe latex: reads a certificate or a problem, or one with a line == given and an input problem or == graph and a graph, or evidence, gives a report on it in Markdown, or in LaTeX\ncondense: reads a certificate or a problem, or one with a line == given and an input problem, gives the same with its configurations in groups\n"
+describe_help = codes "describe, describe latex: reads a certificate or a problem, or one with a line == given and an input problem or == graph and a graph, or evidence, gives a report on it in Markdown, or in LaTeX\ncondense: reads what describe reads, gives the same with its configurations in groups\n"
 
 -- whether it may answer No
 abbrev pub may_refuse : DescribeWord → Bool
@@ -79,6 +79,11 @@ pub record IsReport (form : ReportForm) (IsSaid : List ℕ → Type 0) (outcome 
 abbrev pub OrFault : Option InputFault → Type 0 → Outcome → Type 0
 OrFault (Some fault) IsGiven outcome = outcome ≡ fault_outcome fault
 OrFault None IsGiven outcome = IsGiven
+
+-- the same of a text with a graph
+abbrev pub OrGraphFault : {X : Type 0} → Result X GraphFault → Type 0 → Outcome → Type 0
+OrGraphFault (Err fault) IsGiven outcome = outcome ≡ graph_fault_outcome fault
+OrGraphFault (Ok read) IsGiven outcome = IsGiven
 
 -- ---- a bound given an input problem: a report where `given` accepts or refuses it, and else what `given` answers
 -- whether it judges the bound: the other problem is an input problem, and the tries suffice
@@ -162,38 +167,22 @@ ReportsLabelled form (Ok labelled) outcome = ReportsTold (told_no labelled) form
 ReportsLabelled form (Err fault) outcome = outcome ≡ graph_fault_outcome fault
 
 -- ---- evidence: a report where `judge` takes it, and else what `judge` answers
-abbrev pub is_done : Status → Bool
-is_done Done = true
-is_done status = false
-
--- where this comes of its first part
+-- where this came of its first part, which holds then
 abbrev pub ReportsHeld : ReportForm → List ℕ → Outcome → Judged → Outcome → Type 0
 ReportsHeld form bytes told (Holds part) outcome = IsReport form (IsClassMarkdown bytes part.problem told) outcome
-ReportsHeld form bytes told (Refused output) outcome = outcome ≡ withheld told
+ReportsHeld form bytes told (Refused output) outcome = ⊥
 
-abbrev pub ReportsJudgement : Bool → ReportForm → List ℕ → Outcome → Outcome → Type 0
-ReportsJudgement true form bytes told outcome = (judged : Judged) × IsPart (first_part bytes) judged × ReportsHeld form bytes told judged outcome
-ReportsJudgement false form bytes told outcome = outcome ≡ told
+abbrev pub ReportsJudgement : Bool → ReportForm → List ℕ → Outcome → Judged → Outcome → Type 0
+ReportsJudgement true form bytes told first outcome = ReportsHeld form bytes told first outcome
+ReportsJudgement false form bytes told first outcome = outcome ≡ told
 
-abbrev pub ReportsEvidence : ReportForm → List ℕ → Outcome → Type 0
-ReportsEvidence form bytes outcome = (told : Outcome) × MayJudge bytes told × ReportsJudgement (is_done told.status) form bytes told outcome
+-- of what `judge` may answer, with the first part as it was judged for that
+pub record ReportsEvidence (form : ReportForm) (bytes : List ℕ) (outcome : Outcome) : Type 0 where
+  pub told : Outcome
+  pub may : MayJudge bytes told
+  pub reports : ReportsJudgement (is_done told.status) form bytes told may.first outcome
 
 -- ---- groups
--- the text can be read, has no fault, is that of a certificate where the other one is, and writes the bound
-pub record WritesSame (bytes : List ℕ) (bound : Bound) (text : List ℕ) : Type 0 where
-  pub short : length text ≤ MAX_BYTES
-  pub form : is_certificate_text text ≡ is_certificate_text bytes
-  pub right : chain_fault text ≡ None
-  pub written : text_bound text ≡ bound
-
--- the same of a text with a line `== given` and an input problem
-pub record WritesBoth (bytes : List ℕ) (bound : Bound) (input : NamedProblem) (text : List ℕ) : Type 0 where
-  pub short : length text ≤ MAX_BYTES
-  pub form : is_certificate_text text ≡ is_certificate_text bytes
-  pub right : two_fault (codes "given") text ≡ None
-  pub bound_is : front_bound (codes "given") text ≡ bound
-  pub input_is : back_problem (codes "given") text ≡ input
-
 -- the outcome is Done, with such a text
 pub record IsSame (IsText : List ℕ → Type 0) (outcome : Outcome) : Type 0 where
   pub status : outcome.status ≡ Done
@@ -211,11 +200,22 @@ abbrev pub ReportsText : Bool → ReportForm → List ℕ → Outcome → Type 0
 ReportsText true form bytes outcome = ReportsEvidence form bytes outcome
 ReportsText false form bytes outcome = ReportsBy (has_line (codes "graph") bytes) (has_line (codes "given") bytes) form bytes outcome
 
-abbrev pub GroupsBy : Bool → List ℕ → Outcome → Type 0
-GroupsBy true bytes outcome =
+abbrev pub GroupsBy : Bool → Bool → List ℕ → Outcome → Type 0
+GroupsBy true true bytes outcome = OrGraphFault (labelled_input bytes) (IsSame (WritesLabelled bytes) outcome) outcome
+GroupsBy true false bytes outcome = OrGraphFault (graph_input bytes) (IsSame (WritesGraph bytes) outcome) outcome
+GroupsBy false true bytes outcome =
     OrFault (two_fault (codes "given") bytes) (IsSame (WritesBoth bytes (front_bound (codes "given") bytes) (back_problem (codes "given") bytes)) outcome) outcome
-GroupsBy false bytes outcome = OrFault (chain_fault bytes) (IsSame (WritesSame bytes (text_bound bytes)) outcome) outcome
+GroupsBy false false bytes outcome = OrFault (chain_fault bytes) (IsSame (WritesSame bytes (text_bound bytes)) outcome) outcome
+
+-- what is answered to a text of evidence: the fault of its first part that has one, or the same in groups
+abbrev pub OrOutcome : Option Outcome → Type 0 → Outcome → Type 0
+OrOutcome (Some refusal) IsGiven outcome = outcome ≡ refusal
+OrOutcome None IsGiven outcome = IsGiven
+
+abbrev pub GroupsText : Bool → List ℕ → Outcome → Type 0
+GroupsText true bytes outcome = OrOutcome (parts_fault 15 1 bytes) (IsSame (WritesEvidence bytes) outcome) outcome
+GroupsText false bytes outcome = GroupsBy (has_line (codes "graph") bytes) (has_line (codes "given") bytes) bytes outcome
 
 unfoldable pub MayDescribe : DescribeWord → List ℕ → Outcome → Type 0
 MayDescribe (Report form) bytes outcome = ReportsText (is_evidence bytes) form bytes outcome
-MayDescribe Groups bytes outcome = GroupsBy (has_line (codes "given") bytes) bytes outcome
+MayDescribe Groups bytes outcome = GroupsText (is_evidence bytes) bytes outcome

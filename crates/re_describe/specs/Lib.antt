@@ -5,6 +5,7 @@ pub mod GivenHeads
 pub mod GivenReports
 pub mod GraphLines
 pub mod GraphReports
+pub mod GroupTexts
 pub mod Heads
 pub mod InputNames
 pub mod LabelledReports

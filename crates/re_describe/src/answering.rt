@@ -1,8 +1,8 @@
 //! What the words answer.
 ghost use Rattle.re_chains.specs.ChainTexts.{chain_fault, text_bound};
-ghost use Rattle.re_chains.specs.TwoTexts.{back_problem, front_bound, has_line as has_named, two_fault};
+ghost use Rattle.re_chains.specs.TwoTexts.{has_line as has_named};
 ghost use Rattle.re_describe.specs.ClassReports.{is_evidence as has_evidence};
-ghost use Rattle.re_describe.specs.DescribeWords.{GroupsBy, IsReport, IsSame, MayDescribe, OrFault, ReportsBy, ReportsText, WritesBoth, WritesSame, written};
+ghost use Rattle.re_describe.specs.DescribeWords.{IsReport, MayDescribe, OrFault, ReportsBy, ReportsText, written};
 ghost use Rattle.re_describe.specs.Reports.{IsMarkdown};
 ghost use Rattle.re_frame.specs.Outcomes.{outcome_of};
 ghost use Rattle.re_io.specs.declared.read.TheConstants.{MAX_BYTES};
@@ -11,22 +11,21 @@ ghost use Rattle.std.specs.Prelude.{◌≡◌, ◌≤◌, IfOk, codes, length};
 use crate::class_answering::{evidence_output, is_evidence};
 use crate::given_answering::given_output;
 use crate::graph_answering::graph_output;
-use crate::groups::in_groups;
-use crate::groups_given::in_groups_given;
+use crate::group_answering::groups_output;
 use crate::labelled_answering::labelled_output;
 use crate::latex::in_latex;
 use crate::report;
 use crate::words::{DescribeWord, ReportForm};
 use re_cert::Certificate;
-use re_chains::{has_line, read_bound, read_two};
+use re_chains::{has_line, read_bound};
 use re_frame::{Finding, Output, done, fault_output};
 use re_labels::NoMemory;
 use re_problem::TextFault;
 use re_settings::GIVEN;
 use std::alloc::Global;
 
-// The name of the line in front of a graph.
-const GRAPH: &[u8] = b"graph";
+/// The name of the line in front of a graph.
+pub(crate) const GRAPH: &[u8] = b"graph";
 
 /// A text in Markdown, written in this form.
 pub(crate) fn in_form(
@@ -84,43 +83,6 @@ fn any_report(alloc: Global, form: ReportForm, text: &[u8]) -> Result<Output, No
         evidence_output(alloc, form, text)
     } else {
         report_output(alloc, form, text)
-    }
-}
-
-// The certificate or problem of a text in groups.
-fn groups_alone(alloc: Global, text: &[u8]) -> Result<Output, NoMemory>
-    requires { length text.now ≤ MAX_BYTES }
-    ensures { IfOk result (λ output. OrFault (chain_fault text.now) (IsSame (WritesSame text.now (text_bound text.now)) (outcome_of output)) (outcome_of output)) }
-{
-    match read_bound(alloc, text) {
-        Ok(bound) => Ok(done(in_groups(alloc, text, &bound)?)),
-        Err(TextFault::Bad(fault)) => Ok(fault_output(alloc, fault)?),
-        Err(TextFault::NoMemory) => Err(NoMemory),
-    }
-}
-
-// The same with an input problem behind it.
-fn groups_given(alloc: Global, text: &[u8]) -> Result<Output, NoMemory>
-    requires { length text.now ≤ MAX_BYTES }
-    ensures { IfOk result (λ output. OrFault (two_fault (codes "given") text.now)
-        (IsSame (WritesBoth text.now (front_bound (codes "given") text.now) (back_problem (codes "given") text.now)) (outcome_of output)) (outcome_of output)) }
-{
-    match read_two(alloc, GIVEN, text) {
-        Ok(texts) => Ok(done(in_groups_given(alloc, text, &texts)?)),
-        Err(TextFault::Bad(fault)) => Ok(fault_output(alloc, fault)?),
-        Err(TextFault::NoMemory) => Err(NoMemory),
-    }
-}
-
-// What a text writes, in groups.
-fn groups_output(alloc: Global, text: &[u8]) -> Result<Output, NoMemory>
-    requires { length text.now ≤ MAX_BYTES }
-    ensures { IfOk result (λ output. GroupsBy (has_named (codes "given") text.now) text.now (outcome_of output)) }
-{
-    if has_line(GIVEN, text) {
-        groups_given(alloc, text)
-    } else {
-        groups_alone(alloc, text)
     }
 }
 

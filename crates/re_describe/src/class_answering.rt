@@ -1,16 +1,18 @@
 //! What `describe` answers to evidence of several parts, or of one that `judge` alone decides.
 ghost use Rattle.re_describe.specs.ClassReports.{IsClassMarkdown, is_evidence, is_judged_alone};
-ghost use Rattle.re_describe.specs.DescribeWords.{IsReport, ReportsEvidence, ReportsHeld, is_done};
+ghost use Rattle.re_describe.specs.DescribeWords.{IsReport, ReportsEvidence, ReportsHeld};
+ghost use Rattle.re_describe.specs.GivenReports.{is_done};
 ghost use Rattle.re_frame.specs.Outcomes.{outcome_of, status_of};
 ghost use Rattle.re_io.specs.declared.read.TheConstants.{MAX_BYTES};
-ghost use Rattle.std.specs.Prelude.{◌≡◌, ◌≤◌, IfOk, length};
+ghost use Rattle.re_judging.specs.Judging.{IsJudgedFirst};
+ghost use Rattle.std.specs.Prelude.{◌≡◌, ◌≤◌, IfOk, length, true};
 
 use crate::answering::in_form;
 use crate::class_reporting::class_report;
-use crate::graph_answering::withheld;
+use crate::given_reporting::is_done;
 use crate::words::ReportForm;
-use re_frame::{Answer, Output, done};
-use re_judging::{Judged, PartKind, first_part, joint_at, judge, judge_part, kind_of};
+use re_frame::{Output, done};
+use re_judging::{Judged, PartKind, first_part, joint_at, judge_behind, judge_part, kind_of};
 use re_labels::NoMemory;
 use re_problem::Problem;
 use std::alloc::Global;
@@ -37,19 +39,6 @@ pub(crate) fn is_evidence(text: &[u8]) -> bool
     joint_at(text).is_some() || is_judged_alone(kind_of(text))
 }
 
-// Whether the answer is Done.
-fn is_done(answer: Answer) -> bool
-    ensures { result ≡ is_done (status_of answer) }
-{
-    match answer {
-        Answer::Done => true,
-        Answer::No => false,
-        Answer::BadWords => false,
-        Answer::BadInput => false,
-        Answer::Limit => false,
-    }
-}
-
 // The report on evidence on this problem, of which `judge` answers this.
 fn class_output(
     alloc: Global,
@@ -65,20 +54,23 @@ fn class_output(
     Ok(done(in_form(alloc, form, markdown)?))
 }
 
-// What is given where this comes of its first part.
+// The report where this came of its first part.
+#[tactic(auto, using(crate::proofs::Reported::first_holds))]
 fn held_output(
     alloc: Global,
     form: ReportForm,
     text: &[u8],
-    told: Output,
-    judged: Judged,
+    told: &Output,
+    first: &Judged,
 ) -> Result<Output, NoMemory>
-    requires { length text.now ≤ MAX_BYTES }
-    ensures { IfOk result (λ output. ReportsHeld form text.now (outcome_of told) judged (outcome_of output)) }
+    requires few { length text.now ≤ MAX_BYTES }
+    requires answer { IsJudgedFirst text.now first.now (outcome_of told.now) }
+    requires done { is_done (status_of told.now.answer) ≡ true }
+    ensures { IfOk result (λ output. ReportsHeld form text.now (outcome_of told.now) first.now (outcome_of output)) }
 {
-    match judged {
-        Judged::Holds(part) => class_output(alloc, form, text, &part.problem, &told),
-        Judged::Refused(_) => Ok(withheld(told)),
+    match first {
+        Judged::Holds(part) => class_output(alloc, form, text, &part.problem, told),
+        Judged::Refused(_) => unreachable!(),
     }
 }
 
@@ -91,10 +83,10 @@ pub(crate) fn evidence_output(
     requires { length text.now ≤ MAX_BYTES }
     ensures { IfOk result (λ output. ReportsEvidence form text.now (outcome_of output)) }
 {
-    let told = judge(alloc, text)?;
+    let first = judge_part(alloc, first_part(text))?;
+    let told = judge_behind(alloc, text, &first)?;
     if is_done(told.answer) {
-        let judged = judge_part(alloc, first_part(text))?;
-        held_output(alloc, form, text, told, judged)
+        held_output(alloc, form, text, &told, &first)
     } else {
         Ok(told)
     }

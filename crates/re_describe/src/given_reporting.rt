@@ -20,8 +20,8 @@ use re_labels::NoMemory;
 use re_problem::Problem;
 use std::alloc::Global;
 
-// Whether the answer is Done.
-fn is_done(answer: Answer) -> bool
+/// Whether the answer is Done.
+pub(crate) fn is_done(answer: Answer) -> bool
     ensures { result ≡ is_done (status_of answer) }
 {
     match answer {

@@ -32,8 +32,8 @@ pub(crate) fn solved(alloc: Global, text: &[u8]) -> Result<Output, NoMemory>
     GraphWord::Solve.find(alloc, bytes)
 }
 
-// What it answers to a text without an input problem.
-fn solved_alone(alloc: Global, text: &[u8]) -> Result<Output, NoMemory>
+/// What it answers to a text without an input problem.
+pub(crate) fn solved_alone(alloc: Global, text: &[u8]) -> Result<Output, NoMemory>
     requires short { length text.now ≤ MAX_BYTES }
     requires alone { has_line (codes "given") text.now ≡ false }
     ensures answer { IfOk result (λ output. outcome_of output ≡ read_outcome (graph_input text.now)) }

@@ -1,6 +1,6 @@
 //! A certificate or a problem, written with its configurations in groups.
 ghost use Rattle.re_chains.specs.ChainTexts.{chain_fault, is_certificate_text, text_bound};
-ghost use Rattle.re_describe.specs.DescribeWords.{WritesSame};
+ghost use Rattle.re_describe.specs.GroupTexts.{WritesSame};
 ghost use Rattle.re_io.specs.declared.read.TheConstants.{MAX_BYTES};
 ghost use Rattle.re_labels.specs.declared.TheConstants.{MAX_LABELS};
 ghost use Rattle.re_labels.specs.Constraints.{IsConstraint};
@@ -127,8 +127,12 @@ pub(crate) fn grouped(
     Ok(text)
 }
 
-// Whether the two certificates have one text. Then they are one.
-fn is_same(alloc: Global, certificate: &Certificate, other: &Certificate) -> Result<bool, NoMemory>
+/// Whether the two certificates have one text. Then they are one.
+pub(crate) fn is_same(
+    alloc: Global,
+    certificate: &Certificate,
+    other: &Certificate,
+) -> Result<bool, NoMemory>
     ensures { IfOk result (λ same. IsTrue same → certificate.now ≡ other.now) }
 {
     let text = print_certificate(alloc, certificate)?;

@@ -1,6 +1,6 @@
 //! A certificate or a problem with an input problem behind it, written with its configurations in groups.
 ghost use Rattle.re_chains.specs.TwoTexts.{back_problem, front_bound, two_fault};
-ghost use Rattle.re_describe.specs.DescribeWords.{WritesBoth};
+ghost use Rattle.re_describe.specs.GroupTexts.{WritesBoth};
 ghost use Rattle.re_io.specs.declared.read.TheConstants.{MAX_BYTES};
 ghost use Rattle.std.specs.Prelude.{◌≡◌, ◌≤◌, IfOk, IsTrue, None, codes, length};
 
@@ -31,8 +31,8 @@ fn are_same(
     }
 }
 
-// Whether the text can be read, and writes both.
-fn writes_both(
+/// Whether the text can be read, and writes both.
+pub(crate) fn writes_both(
     alloc: Global,
     text: &[u8],
     bound: &Certificate,
@@ -51,8 +51,8 @@ fn writes_both(
     }
 }
 
-// The text of both in groups.
-fn grouped_both(
+/// The text of both in groups.
+pub(crate) fn grouped_both(
     alloc: Global,
     bound: &Certificate,
     input: &Problem,

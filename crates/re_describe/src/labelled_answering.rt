@@ -20,8 +20,8 @@ use re_labels::{NoMemory, PortLabels};
 use re_settings::{InputFault, input_fault};
 use std::alloc::Global;
 
-// What `solve` answers to a text with an input problem.
-fn solved_given(alloc: Global, text: &[u8]) -> Result<Output, NoMemory>
+/// What `solve` answers to a text with an input problem.
+pub(crate) fn solved_given(alloc: Global, text: &[u8]) -> Result<Output, NoMemory>
     requires short { length text.now ≤ MAX_BYTES }
     requires given { has_line (codes "given") text.now ≡ true }
     ensures answer { IfOk result (λ output. outcome_of output ≡ read_labelled_outcome (labelled_input text.now)) }

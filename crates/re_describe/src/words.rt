@@ -11,9 +11,9 @@ pub enum ReportForm {
     Latex,
 }
 
-/// The word `describe`, by the form of the report, and the word `condense`. Each reads its text as a whole: a certificate or a problem, or
-/// one with a line `== given` and an input problem; and for a report a problem with a graph that shows that it isn't solvable. It takes the
-/// time of `crate::report`, of `given` or of `solve`, and that of `crate::condensed` for each constraint.
+/// The word `describe`, by the form of the report, and the word `condense`. Each reads its text as a whole: a certificate or a problem, one with
+/// a line `== given` and an input problem, a problem with a graph, or evidence. It takes the time of `crate::report`, of `given`, of `solve` or
+/// of `judge`, and for groups, which aren't judged, that of `crate::condensed` for each constraint.
 #[derive(Clone, Copy, Debug, PartialEq, Eq)]
 pub enum DescribeWord {
     /// A report in this form.
@@ -53,5 +53,5 @@ pub fn describe_word(words: &[String]) -> Option<DescribeWord>
 pub fn describe_help() -> &'static str
     ensures { result.now ≡ describe_help }
 {
-    "describe, describe latex: reads a certificate or a problem, or one with a line == given and an input problem or == graph and a graph, or evidence, gives a report on it in Markdown, or in LaTeX\ncondense: reads a certificate or a problem, or one with a line == given and an input problem, gives the same with its configurations in groups\n"
+    "describe, describe latex: reads a certificate or a problem, or one with a line == given and an input problem or == graph and a graph, or evidence, gives a report on it in Markdown, or in LaTeX\ncondense: reads what describe reads, gives the same with its configurations in groups\n"
 }

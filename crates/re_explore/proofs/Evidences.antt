@@ -53,7 +53,7 @@ no_nothing problem text outcome (inl (is, long)) done = not_done outcome too_lon
 no_nothing problem text outcome (inr (is, unjudged)) done = not_done outcome (refused nothing_line) is (λ e. cc) done
 
 shown_worth : (problem : NamedProblem) (outcome : Outcome) → IsShowing problem outcome → outcome.status ≡ Done → IsEvidence problem outcome.text
-shown_worth problem outcome (inl (is, evidence)) done = evidence
+shown_worth problem outcome (inl shown) done = shown.evidence
 shown_worth problem outcome (inr unshown) done = absurd (no_nothing problem _ outcome unshown.nothing done)
 
 read_worth : (fault : Option InputFault) (problem : NamedProblem) (outcome : Outcome) → MayShowRead fault problem outcome → outcome.status ≡ Done → IsEvidence problem outcome.text

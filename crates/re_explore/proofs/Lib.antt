@@ -1,3 +1,4 @@
+mod Joining
 mod Pieces
 mod Refusals
 pub mod Said

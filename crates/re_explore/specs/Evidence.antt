@@ -1,5 +1,5 @@
 -- What the word `evidence` may give.
-use Rattle.std.specs.Prelude.{◌≡◌, ◌≢◌, ◌<◌, ◌≤◌, ◌⊎◌, ℕ, List, codes, length, Option, None, Some}
+use Rattle.std.specs.Prelude.{◌≡◌, ◌≢◌, ◌<◌, ◌≤◌, ◌⊎◌, ℕ, List, [], ◌∷◌, ◌++◌, codes, length, Option, None, Some}
 use Rattle.re_flexible.specs.Lengths.{IsFlexibility}
 use Rattle.re_flexible.specs.declared.levels.Flexibility.{Flexibility}
 use Rattle.re_frame.specs.Outcomes.{Outcome, refused, too_long}
@@ -44,6 +44,30 @@ abbrev pub IsUnjudged : NamedProblem → List ℕ → Type 0
 IsUnjudged problem text =
     ((outcome : Outcome) × MayJudge text outcome × (outcome.status ≢ Done)) ⊎ ((judged : Judged) × IsPart (first_part text) judged × (IsOf problem judged → ⊥))
 
+-- ---- its other parts
+-- the text with a line between parts and a part behind it
+abbrev pub with_joint : List ℕ → List ℕ → List ℕ
+with_joint text part = (text ++ codes "=====\n") ++ part
+
+-- a part is left out only where the text with it is longer than an input may be, or no evidence of the problem
+abbrev pub IsLeftOut : NamedProblem → List ℕ → Type 0
+IsLeftOut problem longer = (MAX_BYTES < length longer) ⊎ IsUnjudged problem longer
+
+-- the text goes on by these parts, one behind another in this order: each stands there behind a line between parts, or is left out
+abbrev pub Joins : NamedProblem → List ℕ → List (List ℕ) → List ℕ → Type 0
+Joins problem text [] longer = longer ≡ text
+Joins problem text (part ∷ found) longer =
+    Joins problem (with_joint text part) found longer ⊎ (IsLeftOut problem (with_joint text part) × Joins problem text found longer)
+
+-- by the parts that are found
+abbrev pub GoesOn : NamedProblem → List ℕ → List ℕ → Type 0
+GoesOn problem text longer = (found : List (List ℕ)) × Joins problem text found longer
+
+-- the part that is found, if any
+abbrev pub found_part : Option (List ℕ) → List (List ℕ)
+found_part None = []
+found_part (Some part) = part ∷ []
+
 -- ---- the word
 -- the line where the part of the problem's levels of labels isn't evidence
 abbrev pub nothing_line : List ℕ
@@ -59,9 +83,17 @@ pub record IsUnshown (problem : NamedProblem) (outcome : Outcome) : Type 0 where
   pub decided : IsFlexibility (unnamed problem) levels
   pub nothing : IsNothing problem (levels_part problem levels) outcome
 
+-- evidence of the problem: the part of its levels of labels, and behind it each part more that is found, none left out without a cause
+pub record IsShown (problem : NamedProblem) (outcome : Outcome) : Type 0 where
+  pub status : outcome.status ≡ Done
+  pub evidence : IsEvidence problem outcome.text
+  pub levels : Flexibility
+  pub decided : IsFlexibility (unnamed problem) levels
+  pub goes_on : GoesOn problem (levels_part problem levels) outcome.text
+
 -- what may be given to a problem: evidence of it; and nothing only where not even the part of its levels of labels is
 abbrev pub IsShowing : NamedProblem → Outcome → Type 0
-IsShowing problem outcome = ((outcome.status ≡ Done) × IsEvidence problem outcome.text) ⊎ IsUnshown problem outcome
+IsShowing problem outcome = IsShown problem outcome ⊎ IsUnshown problem outcome
 
 -- the line of the first fault of the text, and else what may be given to its problem
 abbrev pub MayShowRead : Option InputFault → NamedProblem → Outcome → Type 0

@@ -1,9 +1,9 @@
 //! What the word answers: parts of evidence, one behind another as long as `judge` takes all of them.
 ghost use Rattle.re_frame.specs.Outcomes.{outcome_of};
 ghost use Rattle.re_io.specs.declared.read.TheConstants.{MAX_BYTES};
-ghost use Rattle.re_explore.specs.Evidence.{IsEvidence, IsOfFirst, IsShowing, IsUnjudged, MayShow};
+ghost use Rattle.re_explore.specs.Evidence.{GoesOn, IsEvidence, IsOfFirst, IsShowing, IsUnjudged, Joins, MayShow, found_part, with_joint};
 ghost use Rattle.re_explore.specs.EvidenceWords.{IsEvidenceWord};
-ghost use Rattle.std.specs.Prelude.{◌≡◌, ◌≤◌, IfOk, false, length, true};
+ghost use Rattle.std.specs.Prelude.{◌≡◌, ◌≤◌, IfOk, false, length, option_map, true};
 
 use crate::evidence_coloured::coloured_text;
 use crate::evidence_greedy::greedy_text;
@@ -46,7 +46,9 @@ fn is_evidence(alloc: Global, problem: &Problem, text: &[u8]) -> Result<bool, No
 }
 
 // The text with a part more.
-fn joined(alloc: Global, text: &[u8], part: &[u8]) -> Result<Vec<u8>, NoMemory> {
+fn joined(alloc: Global, text: &[u8], part: &[u8]) -> Result<Vec<u8>, NoMemory>
+    ensures { IfOk result (λ longer. longer.items ≡ with_joint text.now part.now) }
+{
     let mut longer = Vec::new(alloc);
     longer.extend_from_slice(text)?;
     push_words(&mut longer, "=====\n")?;
@@ -55,6 +57,7 @@ fn joined(alloc: Global, text: &[u8], part: &[u8]) -> Result<Vec<u8>, NoMemory> 
 }
 
 // The evidence with this part more, where there is one, and that is evidence.
+#[tactic(auto, using(crate::proofs::Joining::joined_part, crate::proofs::Joining::long_part, crate::proofs::Joining::unjudged_part))]
 fn with_part(
     alloc: Global,
     problem: &Problem,
@@ -62,7 +65,8 @@ fn with_part(
     part: Option<Vec<u8>>,
 ) -> Result<Vec<u8>, NoMemory>
     requires { IsEvidence problem.now text.items }
-    ensures { IfOk result (λ longer. IsEvidence problem.now longer.items) }
+    ensures evidence { IfOk result (λ longer. IsEvidence problem.now longer.items) }
+    ensures joins { IfOk result (λ longer. Joins problem.now text.items (found_part (option_map (λ p. p.items) part)) longer.items) }
 {
     let Some(part) = part else {
         return Ok(text);
@@ -79,6 +83,7 @@ fn with_part(
 }
 
 // The evidence with what shows that it takes exactly so many rounds.
+#[tactic(auto, using(crate::proofs::Joining::goes_by, crate::proofs::Joining::goes_further))]
 fn with_exactly(
     alloc: Global,
     problem: &Problem,
@@ -86,7 +91,8 @@ fn with_exactly(
     shown: Shown,
 ) -> Result<Vec<u8>, NoMemory>
     requires { IsEvidence problem.now text.items }
-    ensures { IfOk result (λ longer. IsEvidence problem.now longer.items) }
+    ensures evidence { IfOk result (λ longer. IsEvidence problem.now longer.items) }
+    ensures goes_on { IfOk result (λ longer. GoesOn problem.now text.items longer.items) }
 {
     let most = most_text(alloc, problem, shown.rounds, shown.way)?;
     let text = with_part(alloc, problem, text, most)?;
@@ -98,6 +104,7 @@ fn with_exactly(
 }
 
 // The evidence with two bounds.
+#[tactic(auto, using(crate::proofs::Joining::goes_by, crate::proofs::Joining::goes_further))]
 fn with_bounds(
     alloc: Global,
     problem: &Problem,
@@ -106,7 +113,8 @@ fn with_bounds(
     most: Option<Shown>,
 ) -> Result<Vec<u8>, NoMemory>
     requires { IsEvidence problem.now text.items }
-    ensures { IfOk result (λ longer. IsEvidence problem.now longer.items) }
+    ensures evidence { IfOk result (λ longer. IsEvidence problem.now longer.items) }
+    ensures goes_on { IfOk result (λ longer. GoesOn problem.now text.items longer.items) }
 {
     let lower = more_text(alloc, problem, more.rounds, more.way)?;
     let text = with_part(alloc, problem, text, lower)?;
@@ -118,6 +126,7 @@ fn with_bounds(
 }
 
 // The evidence with what shows the number of rounds.
+#[tactic(auto, using(crate::proofs::Joining::goes_by, crate::proofs::Joining::goes_nowhere))]
 fn with_settled(
     alloc: Global,
     problem: &Problem,
@@ -125,7 +134,8 @@ fn with_settled(
     settled: Settled,
 ) -> Result<Vec<u8>, NoMemory>
     requires { IsEvidence problem.now text.items }
-    ensures { IfOk result (λ longer. IsEvidence problem.now longer.items) }
+    ensures evidence { IfOk result (λ longer. IsEvidence problem.now longer.items) }
+    ensures goes_on { IfOk result (λ longer. GoesOn problem.now text.items longer.items) }
 {
     match settled {
         Settled::Unsolvable => Ok(text),
@@ -139,6 +149,7 @@ fn with_settled(
 }
 
 // The evidence with what shows more of the class.
+#[tactic(auto, using(crate::proofs::Joining::goes_by))]
 fn with_further(
     alloc: Global,
     problem: &Problem,
@@ -146,7 +157,8 @@ fn with_further(
     further: Further,
 ) -> Result<Vec<u8>, NoMemory>
     requires { IsEvidence problem.now text.items }
-    ensures { IfOk result (λ longer. IsEvidence problem.now longer.items) }
+    ensures evidence { IfOk result (λ longer. IsEvidence problem.now longer.items) }
+    ensures goes_on { IfOk result (λ longer. GoesOn problem.now text.items longer.items) }
 {
     let part = match further {
         Further::Nothing | Further::Linear => None,
@@ -158,6 +170,7 @@ fn with_further(
 }
 
 // The evidence with all that is found.
+#[tactic(auto, using(crate::proofs::Joining::goes_further))]
 fn with_found(
     alloc: Global,
     problem: &Problem,
@@ -166,7 +179,8 @@ fn with_found(
 ) -> Result<Vec<u8>, NoMemory>
     requires evidence { IsEvidence problem.now text.items }
     requires times { times ≤ 64 }
-    ensures { IfOk result (λ longer. IsEvidence problem.now longer.items) }
+    ensures evidence { IfOk result (λ longer. IsEvidence problem.now longer.items) }
+    ensures goes_on { IfOk result (λ longer. GoesOn problem.now text.items longer.items) }
 {
     let classified = settle(alloc, problem, times)?;
     let text = with_settled(alloc, problem, text, classified.settled)?;

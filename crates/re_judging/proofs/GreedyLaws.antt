@@ -5,6 +5,7 @@ use Rattle.std.specs.Option.{option_map}
 use Rattle.re_cert.specs.Bounds.{Bound, BoundStep, is_bound, is_lower, last_problem, next_problems, steps_fit}
 use Rattle.re_cert.specs.declared.certificate.Kind.{Kind}
 use Rattle.re_cert.specs.declared.certificate.Kind.TheVariants.{Fixed, Lower, Upper}
+use Rattle.re_chains.proofs.WordsGiven.{none_fails}
 use Rattle.re_chains.specs.Chains.{IsOverProblems}
 use Rattle.re_chains.specs.OverChains.{refusal_of, steps_refusal}
 use Rattle.re_check.proofs.Meaning.{named-last, upper_chain}
@@ -26,10 +27,6 @@ use Rattle.re_problem.specs.ItemSteps.{is_nil}
 use Rattle.re_problem.specs.NamedProblems.{IsNamedProblem, NamedProblem, unnamed}
 use Rattle.re_problem.specs.ProblemTexts.{last_or}
 use Rattle.re_problem.specs.Problems.{IsProblem, Problem}
-
-none_fails : (fault : Option ClauseFault) → option_map refusal_of fault ≡ None → fault ≡ None
-none_fails None e = refl
-none_fails (Some fault) e = absurd cc
 
 -- the steps are upper steps
 steps_to_last : (kind : Kind) (first : NamedProblem) (steps : List BoundStep) → (not (is_lower kind) || is_nil steps) ≡ true → steps_fit kind first steps ≡ true

@@ -29,7 +29,7 @@ not_done ReadFault e = cc
 not_done WriteFault e = cc
 not_done NoMemory e = cc
 
-refusal : (number : ℕ) (given outcome : Outcome) → outcome ≡ in_part number given → outcome.status ≡ Done → ⊥
+pub refusal : (number : ℕ) (given outcome : Outcome) → outcome ≡ in_part number given → outcome.status ≡ Done → ⊥
 refusal number given outcome is done = not_done given.status (sym (ap (λ (o : Outcome). o.status) is) ∙ done)
 
 no_limit : (outcome : Outcome) → outcome ≡ limit_of 16 (codes "parts") → outcome.status ≡ Done → ⊥

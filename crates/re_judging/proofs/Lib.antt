@@ -1,4 +1,5 @@
 pub mod FactLaws
+pub mod FaultLaws
 mod GreedyLaws
 mod JointLines
 pub mod JudgedTexts

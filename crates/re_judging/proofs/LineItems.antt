@@ -13,6 +13,7 @@ use Rattle.re_problem.proofs.KnownLabels.{label_known}
 use Rattle.re_problem.specs.Items.{ItemText}
 use Rattle.re_problem.specs.Pairs.{label_held}
 use Rattle.re_problem.specs.declared.fault.InputFault.{InputFault}
+use Rattle.re_walks.proofs.WalkLemmas.{low-labels}
 
 -- the labels of the items of a line, if it is a line of known labels
 abbrev pub known : List (List ℕ) → Option (List ItemText) → Option (List ℕ)
@@ -107,17 +108,13 @@ labels-below names (item ∷ items) labels e =
     let (x, xs, first, rest, same) = held_parts (label_held names item) (labels_in names items) labels e in
     subst (AllByRecursion (λ x. x < length names)) same (label_known names item x first, labels-below names items xs rest)
 
-below-more : (n m : ℕ) (labels : List ℕ) → n ≤ m → AllByRecursion (λ x. x < n) labels → AllByRecursion (λ x. x < m) labels
-below-more n m [] few below = tt
-below-more n m (x ∷ labels) few (low, below) = (omega (arith, low, few), below-more n m labels few below)
-
 pub labels_low : (names : List (List ℕ)) (items : Option (List ItemText)) (d m : ℕ) (labels : List ℕ) → length names ≤ m → Some labels ≡ option_and_then (image_labels names d) items
     → AllByRecursion (λ x. x < m) labels
 labels_low names items d m labels few some = go items (image_is (known names items) d labels (some ∙ images-known names d items)).0
   where
     go : (items : Option (List ItemText)) → known names items ≡ Some labels → AllByRecursion (λ x. x < m) labels
     go None e = absurd (cc)
-    go (Some items) e = below-more (length names) m labels few (labels-below names items labels e)
+    go (Some items) e = low-labels (length names) m labels few (labels-below names items labels e)
 
 pub labels_count : (names : List (List ℕ)) (items : Option (List ItemText)) (d : ℕ) (labels : List ℕ) → Some labels ≡ option_and_then (image_labels names d) items → length labels ≡ d
 labels_count names items d labels some = (image_is (known names items) d labels (some ∙ images-known names d items)).1

@@ -81,13 +81,13 @@ done_input problem input (Some fault) rest judged done = absurd cc
 
 -- ---- graphs without a solution
 -- the letters of the lines at one place
-apart : (a b : ℕ) → a ≡ b → a ≡ 116 → b ≡ 32 → ⊥
-apart a b e f g = omega (arith, e, f, g)
+letters_apart : ◌≡◌ {A = ℕ} 116 32 → ⊥
+letters_apart e = omega (arith, e)
 
 input_line_apart : (input : NamedProblem) (fault : InputFault) → fault_line input fault ≡ given_none_line → ⊥
-input_line_apart input Degrees e = apart _ _ (ap (λ t. slice_index_or t 6 0) e) refl refl
-input_line_apart input Empty e = apart _ _ (ap (λ t. slice_index_or t 6 0) e) refl refl
-input_line_apart input (OneSide label) e = apart _ _ (ap (λ t. slice_index_or t 6 0) e) refl refl
+input_line_apart input Degrees e = letters_apart (ap (λ t. slice_index_or t 6 0) e)
+input_line_apart input Empty e = letters_apart (ap (λ t. slice_index_or t 6 0) e)
+input_line_apart input (OneSide label) e = letters_apart (ap (λ t. slice_index_or t 6 0) e)
 
 pub plain_never : (wanted : Result GraphText GraphFault) (text : GraphText) (outcome : Outcome) (line : List ℕ) → wanted ≡ Ok text → ReadMeans wanted outcome → outcome ≡ refused line
     → (T : ℕ) → Solvable (unnamed text.problem) T → ⊥

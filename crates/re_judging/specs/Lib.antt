@@ -4,6 +4,7 @@ pub mod Joints
 pub mod Judging
 pub mod LabelLines
 pub mod PartAnswers
+pub mod PartFaults
 pub mod PartVerdicts
 pub mod Turns
 pub mod Words

@@ -31,8 +31,8 @@ const NONE: &str = "no: no solution on this graph, so not solvable in any number
 const GIVEN_NONE: &str =
     "no: no solution on this graph, so not solvable in any number of rounds given that input\n";
 
-// What `solve` answers to the text.
-fn solved(alloc: Global, text: &[u8]) -> Result<Output, NoMemory>
+/// What `solve` answers to the text.
+pub(crate) fn solved(alloc: Global, text: &[u8]) -> Result<Output, NoMemory>
     requires { length text.now ≤ MAX_BYTES }
     ensures { IfOk result (λ output. IsSolved text.now (outcome_of output)) }
 {

@@ -73,8 +73,8 @@ fn refused_answer(answer: Answer) -> Answer
     }
 }
 
-// The output of the part of this number that is refused.
-fn in_part(alloc: Global, number: u8, output: &Output) -> Result<Output, NoMemory>
+/// The output of the part of this number that is refused.
+pub(crate) fn in_part(alloc: Global, number: u8, output: &Output) -> Result<Output, NoMemory>
     ensures { IfOk result (λ given. outcome_of given ≡ in_part number (outcome_of output.now)) }
 {
     let mut text = begun(alloc, "part ")?;
@@ -154,8 +154,8 @@ fn go_on(
     judged_by(alloc, left - 1, number, problem, known, behind, &judged)
 }
 
-// What is answered where this comes of the first part.
-fn judged_first(alloc: Global, text: &[u8], judged: &Judged) -> Result<Output, NoMemory>
+/// What `judge` answers to a text where this comes of its first part.
+pub fn judge_behind(alloc: Global, text: &[u8], judged: &Judged) -> Result<Output, NoMemory>
     requires { length text.now ≤ MAX_BYTES }
     ensures { IfOk result (λ output. IsJudgedFirst text.now judged.now (outcome_of output)) }
 {
@@ -175,7 +175,7 @@ pub fn judge(alloc: Global, text: &[u8]) -> Result<Output, NoMemory>
     ensures { IfOk result (λ output. MayJudge text.now (outcome_of output)) }
 {
     let judged = judge_part(alloc, first_part(text))?;
-    judged_first(alloc, text, &judged)
+    judge_behind(alloc, text, &judged)
 }
 
 /// Where the answer is Done, each line is true of the problem of the first part.

@@ -21,8 +21,8 @@ use std::alloc::Global;
 /// The name of the line in front of the number.
 pub(crate) const LENGTH: &[u8] = b"length";
 
-// The number of the one line.
-fn number_in(text: &[u8]) -> Option<u32>
+/// The number of the one line.
+pub(crate) fn number_in(text: &[u8]) -> Option<u32>
     ensures { result ≡ number_in (lines_of text.now) }
 {
     if text.is_empty() {

@@ -22,6 +22,7 @@ mod joints;
 mod judging;
 mod label_lines;
 mod level_parts;
+mod part_faults;
 mod parts;
 mod same;
 mod types;
@@ -30,7 +31,8 @@ mod words;
 ghost use Rattle.re_judging.specs.Facts.{KnownLaw, TrueLaw};
 
 pub use joints::{behind_joint, first_part, joint_at};
-pub use judging::{judge, judge_law};
+pub use judging::{judge, judge_behind, judge_law};
+pub use part_faults::{part_fault, parts_fault};
 pub use parts::{judge_part, kind_of};
 use re_gap::{above_log_on_views_law, not_flexible_law};
 pub use same::are_same;

@@ -7,4 +7,4 @@ use Rattle.re_describe.proofs.class_answering.held_output.Goals as goal
 
 pub returns-in-Holds : goal.returns-in-Holds
 returns-in-Holds c =
-    subst (λ (j : Judged). IfOk c.class_output.result (λ output. ReportsHeld c.args.form c.args.text.now (outcome_of c.args.told) j (outcome_of output))) (sym c.in-Holds.is) c.class_output.ensures
+    subst (λ (j : Judged). IfOk c.class_output.result (λ output. ReportsHeld c.args.form c.args.text.now (outcome_of c.args.told.now) j (outcome_of output))) (sym c.in-Holds.is) c.class_output.ensures

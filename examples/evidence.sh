@@ -6,7 +6,7 @@
 # The problems are the texts of the FOLDER, or those of examples/literature/table.py. A line has, with tabs between: the name; the claim and the class of
 # `settle`; those of `judge`; how many parts there are; and `same`, `less` where `judge` says something else, or `FAILED` where `judge` refuses the text, or
 # the word of a part that part: `re check` a certificate, `explore given` one with an input problem, `explore solve` a graph. The last line counts. It is run by
-# hand: on each problem `settle` runs twice.
+# hand: on each problem `settle` runs twice. judges.py beside it has the texts judged by a second program, judge.py, too, and texts that are damaged.
 set -eu
 here=$(dirname "$0") explore=$(realpath "$1") re=$(realpath "$2")
 folder=$(mktemp -d)

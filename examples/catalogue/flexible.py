@@ -68,9 +68,8 @@ def is_flexible(sides, part, whole):
     return any(all(part <= table[label] for table in here for label in part) for here in walks(sides, whole))
 
 
-def length_of(problem):
-    """The number of levels, ENDLESS where some set is flexible."""
-    sides, count = numbers(problem)
+def levels_of(sides, count):
+    """The number of levels of a problem of so many labels, ENDLESS where some set is flexible."""
     every = (frozenset(it) for size in range(1, count + 1) for it in itertools.combinations(range(count), size))
     trimmed = [labels for labels in every if is_trimmed(sides, labels)]
     if any(is_flexible(sides, labels, labels) for labels in trimmed):
@@ -81,6 +80,10 @@ def length_of(problem):
         return 1 + max((levels_from(part) for part in trimmed if part < whole and is_flexible(sides, part, whole)), default=0)
 
     return max(map(levels_from, trimmed), default=0)
+
+
+def length_of(problem):
+    return levels_of(*numbers(problem))
 
 
 def title_of(length):

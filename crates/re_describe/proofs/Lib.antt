@@ -6,6 +6,7 @@ pub mod Thinning
 mod Drawn
 mod PartsSaid
 mod Reported
+mod SameLists
 mod SameParts
 mod Saying
 mod Solved

@@ -1,5 +1,5 @@
 -- What the answers of `solve` to a graph mean where it says that there is no solution.
-use Rattle.std.proofs.Common.{◌≡◌, ℕ, true, false, List, Option, Some, None, Result, Ok, refl, ap, ◌∙◌, subst}
+use Rattle.std.proofs.Common.{◌≡◌, ℕ, Bool, true, false, List, Option, Some, None, Result, Ok, refl, sym, ap, ◌∙◌, subst}
 use Rattle.re_cover.specs.Graphs.{PortGraph}
 use Rattle.re_settings.specs.InputProblems.{input_fault}
 use Rattle.re_settings.specs.declared.inputs.InputFault.{InputFault as NoInput}
@@ -20,13 +20,16 @@ use Rattle.re_graph_words.specs.declared.faults.GraphFault.{GraphFault}
 use Rattle.re_graph_words.specs.declared.solving.TheConstants.{MAX_TRIES}
 use Rattle.re_graph_words.specs.declared.texts.GraphText.{GraphText}
 use Rattle.re_judging.proofs.JudgedTexts.{refusal}
+use Rattle.re_judging.specs.Joints.{first_part}
 use Rattle.re_judging.specs.Judging.{IsJudgedFirst, in_part}
+use Rattle.re_judging.specs.PartVerdicts.{IsPart}
 use Rattle.re_judging.specs.declared.types.Judged.{Judged}
 use Rattle.re_judging.specs.declared.types.Judged.TheVariants.{Refused}
 use Rattle.re_laws.specs.Algorithms.{Solvable}
 use Rattle.re_problem.specs.NamedProblems.{NamedProblem, unnamed}
 use Rattle.re_walks.specs.Walking.{Walk, cut, found, nowhere}
-use Rattle.re_describe.specs.DescribeWords.{is_given_no, is_no, told_no}
+use Rattle.re_describe.specs.DescribeWords.{ReportsEvidence, ReportsHeld, ReportsJudgement, is_given_no, is_no, told_no}
+use Rattle.re_describe.specs.declared.words.ReportForm.{ReportForm}
 use Rattle.re_describe.specs.GivenReports.{is_done}
 
 -- ---- a problem and a graph
@@ -82,3 +85,20 @@ pub first_holds : (bytes : List ℕ) (first : Judged) (output : Output) (told : 
 first_holds bytes first output told is answer done =
     let refuses : told ≡ in_part 1 (outcome_of output) = subst (λ judged. IsJudgedFirst bytes judged told) is answer in
     refusal 1 (outcome_of output) told refuses (done_status told.status done)
+
+-- the report where it is Done, and what `judge` answers else
+pub reports_held : (form : ReportForm) (bytes part : List ℕ) (first : Judged) (told outcome : Outcome) (done : Bool) → part ≡ first_part bytes → IsPart part first → IsJudgedFirst bytes first told
+    → done ≡ is_done told.status → done ≡ true → ReportsHeld form bytes told first outcome → ReportsEvidence form bytes outcome
+reports_held form bytes part first told outcome done part_is is answer same is_done_so held = record {
+  told = told;
+  may = record { first = first; judged = subst (λ p. IsPart p first) part_is is; answer = answer };
+  reports = subst (λ b. ReportsJudgement b form bytes told first outcome) (sym is_done_so ∙ same) held;
+}
+
+pub reports_told : (form : ReportForm) (bytes part : List ℕ) (first : Judged) (told : Outcome) (done : Bool) → part ≡ first_part bytes → IsPart part first → IsJudgedFirst bytes first told
+    → done ≡ is_done told.status → done ≡ false → ReportsEvidence form bytes told
+reports_told form bytes part first told done part_is is answer same isnt = record {
+  told = told;
+  may = record { first = first; judged = subst (λ p. IsPart p first) part_is is; answer = answer };
+  reports = subst (λ b. ReportsJudgement b form bytes told first told) (sym isnt ∙ same) refl;
+}

@@ -51,18 +51,21 @@ few_first (Some at) bytes few = let e = length-take at bytes in omega (arith, e,
 few_behind : (at : ℕ) (bytes : List ℕ) → length bytes ≤ MAX_BYTES → length (behind_joint at bytes) ≤ MAX_BYTES
 few_behind at bytes few = let e = length-drop (at + 6) bytes in omega (arith, e, few)
 
+same_behind : (more number : ℕ) (bytes : List ℕ) → length bytes ≤ MAX_BYTES → ((rest : List ℕ) → length rest ≤ MAX_BYTES → parts_fault more number rest ≡ None → WritesParts more rest rest)
+    → (at : Option ℕ) → fault_behind (parts_fault more number) at bytes ≡ None → WritesBehind (WritesParts more) at at bytes bytes
+same_behind more number bytes few same None none = tt
+same_behind more number bytes few same (Some at) none = same (behind_joint at bytes) (few_behind at bytes few) none
+
 same_parts : (more number : ℕ) (bytes : List ℕ) → length bytes ≤ MAX_BYTES → parts_fault more number bytes ≡ None → WritesParts more bytes bytes
 same_parts zero number bytes few right =
     let (here, last) = none_first (option_map (in_part number) (part_fault (first_part bytes))) (too_many (joint_at bytes)) right in
     let none = none_many (joint_at bytes) last in
     (same_part (first_part bytes) (few_first (joint_at bytes) bytes few) (none_in_part number (part_fault (first_part bytes)) here), none, none)
 same_parts (suc more) number bytes few right =
-    let (here, later) = none_first (option_map (in_part number) (part_fault (first_part bytes))) (fault_behind (parts_fault more (suc number)) (joint_at bytes) bytes) right in
-    (same_part (first_part bytes) (few_first (joint_at bytes) bytes few) (none_in_part number (part_fault (first_part bytes)) here), behind (joint_at bytes) later)
-  where
-    behind : (at : Option ℕ) → fault_behind (parts_fault more (suc number)) at bytes ≡ None → WritesBehind (WritesParts more) at at bytes bytes
-    behind None none = tt
-    behind (Some at) none = same_parts more (suc number) (behind_joint at bytes) (few_behind at bytes few) none
+    let (here, later) = none_first (option_map (in_part number) (part_fault (first_part bytes))) (fault_behind (parts_fault more (suc number)) (joint_at bytes) bytes) right in (
+      same_part (first_part bytes) (few_first (joint_at bytes) bytes few) (none_in_part number (part_fault (first_part bytes)) here),
+      same_behind more (suc number) bytes few (λ rest few none. same_parts more (suc number) rest few none) (joint_at bytes) later,
+    )
 
 pub same_evidence : (bytes text : List ℕ) → length bytes ≤ MAX_BYTES → parts_fault 15 1 bytes ≡ None → text ≡ bytes → WritesEvidence bytes text
 same_evidence bytes text few right same = subst (WritesEvidence bytes) (sym same) (record { short = few; parts = same_parts 15 1 bytes few right })

@@ -75,6 +75,7 @@ fn held_output(
 }
 
 /// What is given to evidence.
+#[tactic(auto, using(crate::proofs::Reported::reports_held, crate::proofs::Reported::reports_told))]
 pub(crate) fn evidence_output(
     alloc: Global,
     form: ReportForm,
@@ -86,7 +87,7 @@ pub(crate) fn evidence_output(
     let first = judge_part(alloc, first_part(text))?;
     let told = judge_behind(alloc, text, &first)?;
     if is_done(told.answer) {
-        held_output(alloc, form, text, &told, &first)
+        Ok(held_output(alloc, form, text, &told, &first)?)
     } else {
         Ok(told)
     }

@@ -71,7 +71,7 @@ nothing_says problem text outcome (inl (is, long)) = says_as outcome too_long is
 nothing_says problem text outcome (inr (is, unjudged)) = says_as outcome (refused nothing_line) is refl
 
 showing_says : (problem : NamedProblem) (outcome : Outcome) → IsShowing problem outcome → MaySay outcome.status true
-showing_says problem outcome (inl (is, evidence)) = subst (λ (status : Status). MaySay status true) (sym is) tt
+showing_says problem outcome (inl shown) = subst (λ (status : Status). MaySay status true) (sym shown.status) tt
 showing_says problem outcome (inr unshown) = nothing_says problem _ outcome unshown.nothing
 
 read_says : (fault : Option InputFault) (problem : NamedProblem) (outcome : Outcome) → MayShowRead fault problem outcome → MaySay outcome.status true

@@ -9,8 +9,8 @@ use Rattle.re_settle.proofs.classifying.beside_bound.Goals as goal
 
 pub returns-in-Some : goal.returns-in-Some
 returns-in-Some c =
-    greedy_bounded c.shown_law.ensures c.args.times c.args.problem.now c.args.more c.in-Some.shown c.names-names.ensures.problem.problem c.requires
+    greedy_bounded c.shown_law.ensures c.args.times c.args.problem.now c.args.more c.in-Some.shown c.names-names.ensures.problem.problem c.requires.found
     (subst (λ found. IfSome found (IsGreedyShown (unnamed c.args.problem.now) 2)) c.in-Some.is c.in_ok-shown.ensures)
 
 pub returns-in-None : goal.returns-in-None
-returns-in-None c = nothing_further c.args.times c.args.problem.now (Within c.args.more None) c.requires
+returns-in-None c = nothing_further c.args.times c.args.problem.now (Within c.args.more None) c.requires.found

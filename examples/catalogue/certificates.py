@@ -5,7 +5,8 @@
 
 RE is the program, TABLE one that settle.sh made, as 3-3-2.tsv or 3-3-2.tsv.xz, for the problems of certificates.tar.xz. A text there has the
 name certificates/NUMBER-lower.txt or certificates/NUMBER-upper.txt, and begins with the problem of that number. A bound that `re check`
-accepts, and that says more than the table does, takes the place of the table's, and the name of the text that of its words.
+accepts, and that says more than the table does, takes the place of the table's, and the name of the text that of its words. A line that is exact
+by these texts stays as it is.
 """
 import lzma
 import pathlib
@@ -50,7 +51,9 @@ def with_bounds(line, bounds):
     number, problem, claim, by, known_class, shown = line
     lower, upper = (re.search(words + r" (\d+)", claim) for words in ("more than", "at most"))
     if not lower:
-        sys.exit(f"{number}: nothing is open: {claim}")
+        if any(name not in by for name, _ in bounds.values()):
+            sys.exit(f"{number}: nothing is open: {claim}")
+        return line
     known, words = {"lower": int(lower[1]), "upper": upper and int(upper[1])}, dict(zip(KINDS, by.split("; ")))
     for kind, (name, bound) in bounds.items():
         if known[kind] is None or (bound > known[kind] if kind == "lower" else bound < known[kind]):

@@ -28,13 +28,18 @@ run_words() {
     esac
 }
 
-# What has to be said of the answer of these words where they show this claim, or this class, as `order log N`.
+# What has to be said of the answer of these words where they show this claim, or this class, as `order log N`; behind them stand all words of the
+# line: where others show the upper bound, `explore rounds` says no more than the lower one.
 wanted() {
     case $2 in
     're zero') echo yes;;
     'explore rounds '*' given '*) echo 'exactly, given that input';;
     'explore shortest '*' given '*) echo 'accepted: given that input, solvable';;
-    'explore rounds '*) echo "$1" | sed 's/ ([^)]*)//; s/,.*//';;
+    'explore rounds '*)
+        case "$1 by $3" in
+        exactly*'; '*) echo "more than $(($(echo "$1" | sed 's/^exactly //; s/ .*//') - 1))";;
+        *) echo "$1" | sed 's/ ([^)]*)//; s/,.*//';;
+        esac;;
     're upper '* | 'explore shortest '* | *-upper.txt) echo "accepted: solvable in $(echo "$1" | sed 's/ ([^)]*)//g; s/^exactly //; s/.*at most //') rounds";;
     're lower '* | 'explore longest '* | *-lower.txt)
         case $1 in
@@ -91,7 +96,7 @@ judge_all() {
         case $words in '') continue;; literature:*) told=$words; continue;; esac
         commands=$((commands + 1))
         said=$(judged "$2" "$words" "$told") || true
-        if [ "$said" != "$(wanted "$told" "$words")" ]; then
+        if [ "$said" != "$(wanted "$told" "$words" "$4")" ]; then
             failed=$((failed + 1))
             echo "$1: $3, by $words: $said"
         fi

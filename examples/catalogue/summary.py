@@ -60,12 +60,16 @@ of which 240 drawn ones were asked again.
 
 Bounds that no words find stand in `certificates.tar.xz`, and `certificates.py` puts them into the table. An upper one
 goes from a derived problem to a solved problem that is enough for it (`explore bridge`), or to sets of its labels at
-the ports of few nodes; a lower one to a problem that it solves in 0 hops, and at the last step to sets without a
-choice. Of the 23 `bounds.py` makes three again, each in 3 seconds: the upper bounds of 1782 and 4019, by a problem that
-has fewer configurations, and the lower one of 4829. `hops.py` makes ten, with a SAT solver (cadical) that tells of 1, 2
-or 3 hops of a derived problem, each in at most two minutes: the lower bounds of 1826, 2658, 6138, 7144 and 7145, the
-upper ones of 4828 and 5368, and longer ones as good for 4333, 4621 and 7254. The lower one of 6099 is of the same
-search, in more time. The programs that found the other 9 aren't held.
+the ports of few nodes; a lower one to a problem that it solves in 0 hops, as where labels may stand for others around
+passive nodes, and at the last step to sets without a choice. Of the 31 `bounds.py` makes three again, each in 3 seconds: the upper bounds of 1782
+and 4019, by a problem that has fewer configurations, and the lower one of 4829. `hops.py` makes 15, with a SAT solver (cadical) that tells of 1, 2 or
+3 hops of a derived problem, 5368 in five minutes and each other in half of one: the lower bounds of 1826, 2658, 5368, 6065, 6099, 7074, 7144, 7145
+and 7340, the upper ones of 4828, 5368 and 7217, and longer ones as good for 4333, 4621 and 7254. The lower ones of 3440, 6020 and 7160 are of the
+same search by a faster program, and that of 6138 of `hops.py` as it was before. The programs that found the other 9 aren't held.
+
+The solver says more than certificates show. By it 1692 and 6099 take exactly 8 hops, 7217 takes exactly 7, and 1338, 1647, 3350 and 3901 take more
+than 9; but problems on the way that were found are too large for a certificate: the seventh one of 3901 has 132 labels where 128 may stand, that of
+3350 has 48,559 maximal rows where 1,024 may, and the fourth derived problems of 1692 and 7217 have 4,304 and 4,314.
 
 Given an input problem (`both`, an orientation by which edges lead into each active node and out of it; two `sides`; a
 colouring of the `edges`; a proper `colouring` with 4 colours), `explore settle` answers, or `explore given` of the

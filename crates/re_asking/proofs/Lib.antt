@@ -1,4 +1,3 @@
 pub mod Besides
 mod CutWords
-mod DistanceLemmas
 mod NearLines

@@ -3,7 +3,7 @@ use Rattle.std.proofs.Common.{◌≡◌, ℕ, suc, Bool, true, false, nat_le, Li
 use Rattle.std.specs.Prelude.{codes, filter}
 use Rattle.std.specs.List.{flat_map, list_all}
 use Rattle.re_problem.specs.ProblemTexts.{lines_of}
-use Rattle.re_asking.specs.Distances.{distance}
+use Rattle.re_distances.specs.Distances.{distance}
 use Rattle.re_asking.specs.NearWords.{asked, is_nearest, line_word}
 
 -- a line that passes stays, and another one goes

@@ -1,4 +1,3 @@
 pub mod Beside
 pub mod BesideWords
-pub mod Distances
 pub mod NearWords

@@ -3,7 +3,7 @@ use Rattle.std.specs.Prelude.{◌==◌, nat_le, ◌||◌, ℕ, Bool, List, [], �
 use Rattle.std.specs.List.{before_first, flat_map, list_all, list_any}
 use Rattle.std.specs.Str.{bytes_eq}
 use Rattle.re_problem.specs.ProblemTexts.{ended, lines_of}
-use Rattle.re_asking.specs.Distances.{distance}
+use Rattle.re_distances.specs.Distances.{distance}
 
 -- a blank, a comma and a colon end the word of a line
 abbrev pub ends_word : ℕ → Bool

@@ -3,12 +3,10 @@
 
 mod beside;
 mod beside_words;
-mod distances;
 mod near_words;
 mod wrong_words;
 
 pub use beside::{Beside, FrontText};
 pub use beside_words::{NamedInput, named_input, own_words};
-pub use distances::distance;
 pub use near_words::{has_own_line, push_near_words, push_own_lines};
 pub use wrong_words::wrong_word;

@@ -1,11 +1,11 @@
 //! Lines of help: those of a word, and those whose words another word is near to.
 ghost use Rattle.re_asking.specs.NearWords.{asked, ends_word, has_line_of, is_nearest, is_of, line_word, near_words, own_lines};
-ghost use Rattle.re_asking.specs.Distances.{distance};
+ghost use Rattle.re_distances.specs.Distances.{distance};
 ghost use Rattle.re_problem.specs.ProblemTexts.{lines_of};
 ghost use Rattle.std.specs.List.{flat_map, list_all, position_or_len};
 ghost use Rattle.std.specs.Prelude.{◌≡◌, ◌≤◌, ◌<◌, ◌+◌, ◌^◌, ◌++◌, IfOk, OnOk, filter, length, nat_le, take};
 
-use crate::distances::distance;
+use re_distances::distance;
 use re_labels::NoMemory;
 use re_problem::cut_line;
 use std::alloc::Global;

@@ -1,7 +1,7 @@
 use Rattle.std.proofs.Common.{◌≡◌, ◌≤◌, length, nat_le}
 use Rattle.std.specs.List.{list_all}
 use Rattle.re_problem.specs.ProblemTexts.{lines_of}
-use Rattle.re_asking.specs.Distances.{distance}
+use Rattle.re_distances.specs.Distances.{distance}
 use Rattle.re_asking.specs.NearWords.{line_word}
 use Rattle.re_asking.proofs.near_words.is_least.Given as goal
 

@@ -58,6 +58,11 @@ impl Given {
         Given { inputs: None }
     }
 
+    /// Whether it is nothing.
+    pub(crate) fn is_nothing(&self) -> bool {
+        self.inputs.is_none()
+    }
+
     /// What is given in a setting of a chain's first problem, for a search behind so many steps. What is solvable with it is told by at most
     /// `FEW_TRIES` tries for each problem.
     pub(crate) fn behind(

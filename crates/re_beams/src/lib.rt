@@ -77,8 +77,8 @@
 //! pairs of ports, two steps more are the last: a passive node has the label of the pair of its ports, and an active node takes a pattern
 //! that it has at one port alone. As each pattern is at two ports at most, and d is odd, there is one (after Naor and Stockmeyer 1995, and
 //! Mayer, Naor and Stockmeyer 1995, for weak colourings). Else those of the most choices stay, as many as have few enough labels, and two
-//! steps follow. In degree 5, where derived problems are dear, no beam has more than 8 labels if patterns of 20 labels lead to the end,
-//! however many steps and labels are wanted.
+//! steps follow. In degree 5, where derived problems are dear, no beam has more than 6 labels, or 8 given an input problem, if patterns of
+//! 20 labels lead to the end, however many steps and labels are wanted.
 //!
 //! **Given an input problem.** A path ends also at a problem that is told to be solvable given it. Each derived problem that isn't solvable without
 //! communication is asked first. Where it is told to be solvable, with a set of its labels for each input label, its labels are left out but those

@@ -1,5 +1,6 @@
 //! The search for an upper bound by patterns.
 use crate::closed_sets::good_patterns;
+use crate::given::Given;
 use crate::opposites::{Sides, beside_labels, opposite_pairs, sides_of};
 use crate::patterns::{Pattern, family_of, patterns_of};
 use crate::sizes::next_size;
@@ -16,7 +17,10 @@ const MAX_PATH: usize = 16;
 const FEWEST: u8 = 20;
 
 /// The most labels of a beam in degree 5, where patterns of the fewest labels lead to the end.
-const MAX_BEAM: u8 = 8;
+const MAX_BEAM: u8 = 6;
+
+/// The same given an input problem, where other paths end.
+const MAX_GIVEN_BEAM: u8 = 8;
 
 // A search under way: the most steps, the most labels, and the most labels of passive nodes.
 #[derive(Clone, Copy)]
@@ -407,10 +411,11 @@ pub(crate) fn pattern_path(
     Ok(paired)
 }
 
-/// The most labels of a beam, of so many that are wanted: in degree 5 at most `MAX_BEAM` where patterns of `FEWEST` labels lead to the end,
-/// however many steps and labels are wanted.
+/// The most labels of a beam, of so many that are wanted: in degree 5 at most `MAX_BEAM`, or `MAX_GIVEN_BEAM`, where patterns of `FEWEST` labels
+/// lead to the end, however many steps and labels are wanted.
 pub(crate) fn beam_labels(
     alloc: Global,
+    given: &Given,
     problem: &Problem,
     paired: &Paired,
     labels: u8,
@@ -418,11 +423,16 @@ pub(crate) fn beam_labels(
     if problem.passive().degree() != 2 || problem.active().degree() != 5 {
         return Ok(labels);
     }
+    let most = if given.is_nothing() {
+        MAX_BEAM
+    } else {
+        MAX_GIVEN_BEAM
+    };
     if paired.few {
-        return Ok(labels.min(MAX_BEAM));
+        return Ok(labels.min(most));
     }
     match path_of_size(alloc, problem, MAX_PATH, FEWEST)? {
-        Some(_path) => Ok(labels.min(MAX_BEAM)),
+        Some(_path) => Ok(labels.min(most)),
         None => Ok(labels),
     }
 }

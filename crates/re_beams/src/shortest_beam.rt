@@ -93,7 +93,7 @@ pub(crate) fn shortest_path(
     };
     let mut most = levels;
     let paired = pattern_path(alloc, problem, levels, labels)?;
-    let widest = beam_labels(alloc, problem, &paired, labels)?;
+    let widest = beam_labels(alloc, given, problem, &paired, labels)?;
     let Paired { path, .. } = paired;
     if let Some(path) = path {
         most = path.len().saturating_sub(1);

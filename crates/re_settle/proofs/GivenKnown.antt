@@ -32,7 +32,7 @@ use Rattle.re_settle.specs.declared.types.Way.{Way}
 use Rattle.re_settle.specs.declared.types.Way.TheVariants.{Closure, Cycle, Longest, Rounds, Shortest}
 use Rattle.re_settle.specs.GivenAnswers.{IsUntold}
 use Rattle.re_evidence.specs.Claims.{HoldsGiven}
-use Rattle.re_settle.specs.GivenWays.{HasGivenText, IsKnownGiven}
+use Rattle.re_settle.specs.GivenWays.{HasGivenText, IsKnownGiven, IsTriedGiven}
 use Rattle.re_walks.specs.Walking.{cut}
 
 -- ---- what is counted
@@ -118,7 +118,7 @@ cycle_known times nodes problem input chain bound many start goes both =
     record { shown = record { tried = (refl, refl, many); shows = (refl, (bound, on, both)) }; holds = on.means }
 
 -- ---- bounds that go on from the problem
-pub longest_known : (times : ℕ) (problem input : NamedProblem) (chain bound : Bound) (steps labels rounds : ℕ) → IsTried times problem (Longest steps labels) → chain ≡ problem_chain problem
+pub longest_known : (times : ℕ) (problem input : NamedProblem) (chain bound : Bound) (steps labels rounds : ℕ) → IsTriedGiven times problem (Longest steps labels) → chain ≡ problem_chain problem
     → GoesOnGiven input kind.Lower steps labels chain bound → HasGivenText bound input → rounds ≡ length bound.steps → IsKnownGiven times problem input (MoreThan rounds) (Longest steps labels)
 longest_known times problem input chain bound steps labels rounds tried start goes both count =
     let on : GoesOnGiven input kind.Lower steps labels (problem_chain problem) bound = subst (λ (c : Bound). GoesOnGiven input kind.Lower steps labels c bound) start goes in

@@ -1,5 +1,5 @@
 -- What words show of a problem given an input problem.
-use Rattle.std.specs.Prelude.{◌≡◌, ◌≤◌, ◌+◌, ℕ, List, [], length, None, Some}
+use Rattle.std.specs.Prelude.{◌≡◌, ◌⊎◌, ◌≤◌, ◌+◌, ℕ, List, [], length, None, Some}
 use Rattle.re_cert.specs.Bounds.{Bound}
 use Rattle.re_cert.specs.declared.certificate.Kind.TheVariants.{Fixed, Lower, Upper}
 use Rattle.re_chains.specs.Chains.{chain_with}
@@ -14,6 +14,7 @@ use Rattle.re_graph_words.specs.GivenCovers.{IsGivenCover}
 use Rattle.re_given_bounds.specs.Telling.{TellsPassive}
 use Rattle.re_labels.specs.declared.TheConstants.{MAX_LABELS}
 use Rattle.re_problem.specs.NamedProblems.{NamedProblem, unnamed}
+use Rattle.re_settle.specs.Measures.{doublings, greatest_degree, longest_labels, longest_steps}
 use Rattle.re_settle.specs.Ways.{HasText, IsTried, SaysCounted}
 use Rattle.re_evidence.specs.declared.types.Claim.{Claim}
 use Rattle.re_evidence.specs.declared.types.Claim.TheVariants.{AtMost, Exactly, MoreThan, Never}
@@ -27,14 +28,18 @@ use Rattle.re_settle.specs.declared.given_types.SettledGiven.TheVariants as sett
 use Rattle.re_chains.specs.GivenTexts.{IsGivenText, given_text}
 
 -- ---- which words are tried
+-- `longest` is asked for problems of 4 labels, and of as many as on a problem alone
+abbrev pub IsLabelsGiven : ℕ → NamedProblem → ℕ → Type 0
+IsLabelsGiven times problem labels = (labels ≡ 4) ⊎ (labels ≡ longest_labels (greatest_degree problem) (doublings times))
+
 -- the numbers of the words that are tried on a problem given an input problem, where bounds are taken so many times: at most 8 rounds are counted, the closure is
--- that of the problem itself, and the others have the numbers that they have on a problem alone
+-- that of the problem itself, and the others have the numbers that they have on a problem alone, but for those of labels
 abbrev pub IsTriedGiven : ℕ → NamedProblem → Way → Type 0
 IsTriedGiven times problem (Rounds most) = most ≤ 8
 IsTriedGiven times problem (Closure steps) = steps ≡ 0
 IsTriedGiven times problem (Cover nodes) = IsTried times problem (Cover nodes)
 IsTriedGiven times problem (Cycle steps merges nodes) = IsTried times problem (Cycle steps merges nodes)
-IsTriedGiven times problem (Longest steps labels) = IsTried times problem (Longest steps labels)
+IsTriedGiven times problem (Longest steps labels) = (steps ≡ longest_steps (doublings times)) × IsLabelsGiven times problem labels
 IsTriedGiven times problem (Shortest steps labels) = IsTried times problem (Shortest steps labels)
 IsTriedGiven times problem way = ⊥
 

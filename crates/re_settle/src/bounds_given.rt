@@ -2,7 +2,8 @@
 ghost use Rattle.re_chains.specs.ChainTexts.{problem_chain};
 ghost use Rattle.re_given.specs.Inputs.{IsInput};
 ghost use Rattle.re_problem.specs.NamedProblems.{unnamed};
-ghost use Rattle.re_settle.specs.GivenWays.{IsKnownGiven, IsTriedGiven};
+ghost use Rattle.re_settings.specs.Taken.{IsTaken};
+ghost use Rattle.re_settle.specs.GivenWays.{IsKnownGiven, IsLabelsGiven, IsTriedGiven};
 ghost use Rattle.std.specs.Prelude.{◌≡◌, IfOk, IfSome};
 
 use crate::bounds::{count_of, has_patterns, upper_chain};
@@ -17,6 +18,7 @@ use crate::types::{Shown, Way};
 use re_beams::Shortest;
 use re_chains::LowerChain;
 use re_evidence::Claim;
+use re_graph::find_cover;
 use re_labels::NoMemory;
 use re_problem::Problem;
 use std::alloc::Global;
@@ -27,8 +29,17 @@ const LONGEST_SIZE: usize = 160;
 /// How many these are.
 const LONGEST_STEPS: usize = 2;
 
+/// With how few labels it is looked for first.
+const FEW_LABELS: u8 = 4;
+
+/// How many derived problems pass no limit where it is looked for with more.
+const WIDE_STEPS: usize = 3;
+
 /// Up to how many configurations the input problem has that is then given.
 const LONGEST_INPUT: usize = 12;
+
+/// Up to how many active nodes a graph has that shows that a problem is hard.
+const COVER_NODES: u8 = 4;
 
 /// Up to how many configurations a problem has whose shortest upper bound is looked for.
 const SHORTEST_SIZE: usize = 12;
@@ -39,6 +50,67 @@ fn is_soon(alloc: Global, problem: &Problem, input: &Problem, times: u8) -> Resu
         return Ok(false);
     }
     grows_little(alloc, problem, LONGEST_STEPS, LONGEST_SIZE, times)
+}
+
+// Whether so many derived problems pass no limit that more labels are looked at. Nothing rests on it.
+fn takes_steps(alloc: Global, problem: &Problem) -> Result<bool, NoMemory> {
+    grows_little(alloc, problem, WIDE_STEPS, usize::MAX, 1)
+}
+
+// The longest lower bound that is found with few steps, each to so many labels.
+fn longest_to(
+    alloc: Global,
+    problem: &Problem,
+    input: &Problem,
+    chain: &LowerChain,
+    labels: u8,
+    times: u8,
+) -> Result<Option<Shown>, NoMemory>
+    requires chain { chain.now.certificate ≡ problem_chain problem.now }
+    requires input { IsInput (unnamed problem.now) (unnamed input.now) }
+    requires taken { IsTaken input.now chain.now.certificate }
+    requires labels { IsLabelsGiven times problem.now labels }
+    ensures { IfOk result (λ found. IfSome found (λ shown. IsKnownGiven times problem.now input.now (Claim.MoreThan shown.rounds) shown.way)) }
+{
+    let _problem = problem.names();
+    let steps = longest_steps(doublings(times));
+    let certificate = longest_given(alloc, chain, input, steps, labels)?;
+    let has = has_given_text(alloc, &certificate, input)?;
+    if !has {
+        return Ok(None);
+    }
+    Ok(Some(Shown {
+        rounds: count_of(&certificate),
+        way: Way::Longest(steps, labels),
+    }))
+}
+
+// The same with more labels than `FEW_LABELS`, or the one with as many, where it has as many steps as are wanted or more labels are dear.
+fn longest_from(
+    alloc: Global,
+    problem: &Problem,
+    input: &Problem,
+    chain: &LowerChain,
+    times: u8,
+) -> Result<Option<Shown>, NoMemory>
+    requires chain { chain.now.certificate ≡ problem_chain problem.now }
+    requires input { IsInput (unnamed problem.now) (unnamed input.now) }
+    requires taken { IsTaken input.now chain.now.certificate }
+    ensures { IfOk result (λ found. IfSome found (λ shown. IsKnownGiven times problem.now input.now (Claim.MoreThan shown.rounds) shown.way)) }
+{
+    let doublings = doublings(times);
+    let few = longest_to(alloc, problem, input, chain, FEW_LABELS, times)?;
+    if let Some(shown) = few {
+        if longest_steps(doublings) <= shown.rounds {
+            return Ok(few);
+        }
+    }
+    let takes = takes_steps(alloc, problem)?;
+    if !takes {
+        return Ok(few);
+    }
+    let labels = longest_labels(greatest_degree(problem), doublings);
+    longest_to(alloc, problem, input, chain, labels, times)
 }
 
 /// The longest lower bound that is found with few steps, each to few labels, where `given` accepts the problem as one without steps and both problems
@@ -61,18 +133,7 @@ pub(crate) fn longest_way(
     if !is_accepted(alloc, &chain.certificate, input)? {
         return Ok(None);
     }
-    let doublings = doublings(times);
-    let steps = longest_steps(doublings);
-    let labels = longest_labels(greatest_degree(problem), doublings);
-    let certificate = longest_given(alloc, chain, input, steps, labels)?;
-    let has = has_given_text(alloc, &certificate, input)?;
-    if !has {
-        return Ok(None);
-    }
-    Ok(Some(Shown {
-        rounds: count_of(&certificate),
-        way: Way::Longest(steps, labels),
-    }))
+    longest_from(alloc, problem, input, chain, times)
 }
 
 /// The one of more rounds, and the second of two of as many.
@@ -130,6 +191,11 @@ fn shortest_way(
     }))
 }
 
+// Whether a graph of few nodes shows that no number of rounds solves the problem alone, so that patterns lead nowhere. Nothing rests on it.
+fn is_hard(alloc: Global, problem: &Problem) -> Result<bool, NoMemory> {
+    Ok(find_cover(alloc, problem, COVER_NODES)?.graph.is_some())
+}
+
 /// The shortest upper bound that is found, if any, where the problem is small.
 pub(crate) fn short_way(
     alloc: Global,
@@ -143,7 +209,7 @@ pub(crate) fn short_way(
     if !is_small(problem, SHORTEST_SIZE, times) {
         return Ok(None);
     }
-    if has_patterns(problem, times) {
+    if has_patterns(problem, times) && !is_hard(alloc, problem)? {
         if let Some(shown) = shortest_way(alloc, problem, input, 6, 20, times)? {
             return Ok(Some(shown));
         }

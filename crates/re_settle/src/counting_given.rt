@@ -97,21 +97,33 @@ fn told_way(
     }
 }
 
-// The most rounds, at least those that are known, that are counted to be too few with fewer than `MAX_ROUNDS`.
+// From how many rounds on nothing is told.
+fn untold_from(found: Option<Counted>) -> u8
+    ensures { result ≤ 8 }
+{
+    match found {
+        Some(Counted::Tried(rounds)) => rounds.min(MAX_ROUNDS),
+        _ => MAX_ROUNDS,
+    }
+}
+
+// The most rounds, at least those that are known, that are counted to be too few, of fewer than those from which on nothing is told.
 fn few_way(
     alloc: Global,
     problem: &Problem,
     input: &Problem,
+    untold: u8,
     few: Shown,
     times: u8,
 ) -> Result<Shown, NoMemory>
     requires input { IsInput (unnamed problem.now) (unnamed input.now) }
+    requires untold { untold ≤ 8 }
     requires few { IsKnownGiven times problem.now input.now (Claim.MoreThan few.rounds) few.way }
     ensures { IfOk result (λ shown. IsKnownGiven times problem.now input.now (Claim.MoreThan shown.rounds) shown.way) }
 {
     let _times = times;
     let mut few = few;
-    for most in 1..MAX_ROUNDS {
+    for most in 1..untold {
         let found = counted(alloc, problem, input, most)?;
         match told_way(problem, input, found, most, times) {
             Some(more) => few = more,
@@ -137,6 +149,6 @@ pub(crate) fn most_way(
 {
     match told_way(problem, input, found, MAX_ROUNDS, times) {
         Some(more) => Ok(more),
-        None => few_way(alloc, problem, input, few, times),
+        None => few_way(alloc, problem, input, untold_from(found), few, times),
     }
 }

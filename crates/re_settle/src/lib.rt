@@ -44,17 +44,20 @@
 //! **Order.** Each way has a bound on its work, which is none on its time: so the answer is the same on every machine. What is said of N is
 //! multiplied by N in `settle N`.
 //!
-//! 1. Whether 0 rounds are enough; and where they are too few, the number of rounds, where this is at most `re_settle::MAX_ROUNDS` and no step on
-//!    the way passes a limit or starts from a problem of more than 64 labels. As many rounds as are counted to be too few are known.
+//! 1. Whether 0 rounds are enough.
 //! 2. The fixed point of the closure of the problem, where `given` accepts it; and a graph of at most 4 active nodes on which the problem has no
 //!    solution and the input problem has one.
-//! 3. An upper bound: what `shortest` finds, where the problem has at most 12 N configurations. Its numbers of steps and labels, and those of
-//!    `longest` below, and the problems in degrees 5 and 2 on which `shortest 6 20` comes first, are those of `re_settle`.
-//! 4. Where no upper bound is found, a fixed point of at most 8 steps with at most 1 merge in each, among the first 300 N problems, where the first
+//! 3. Where 0 rounds are too few, the number of rounds, where this is at most `re_settle::MAX_ROUNDS` and no step on the way passes a limit or
+//!    starts from a problem of more than 64 labels. As many rounds as are counted to be too few are known.
+//! 4. An upper bound: what `shortest` finds, where the problem has at most 12 N configurations. Its numbers of steps and labels, and those of
+//!    `longest` below, are those of a problem alone; so are the problems in degrees 5 and 2 on which `shortest 6 20` comes first, but for those of
+//!    which a graph of at most 4 active nodes shows that no number of rounds solves them alone.
+//! 5. Where no upper bound is found, a fixed point of at most 8 steps with at most 1 merge in each, among the first 300 N problems, where the first
 //!    four derived problems have at most 40 N configurations each; and a graph of at most 64 active nodes that gadgets make in 1,000,000 N steps,
-//!    50,000,000 at most.
-//! 5. Where a question is left, the first two derived problems have at most 160 N configurations each, and the input problem has at most 12 N, the
-//!    longer lower bound of the rounds that are too few and of what `longest` finds.
+//!    or 100,000 N where a degree is 5 or more, 50,000,000 at most.
+//! 6. Where a question is left, the first two derived problems have at most 160 N configurations each, and the input problem has at most 12 N, the
+//!    longer lower bound of the rounds that are too few and of what `longest` finds: to problems of 4 labels, and where that has fewer steps than
+//!    it may and three derived problems pass no limit, to problems of as many labels as alone.
 //!
 //! Where r rounds are too few, and the labels of the input problem, with its sides exchanged r times, tell the passive configurations in which they
 //! stand, so are r + 1 (`re_given_bounds`).

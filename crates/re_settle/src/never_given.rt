@@ -8,6 +8,7 @@ ghost use Rattle.re_settle.specs.GivenWays.{HasGivenText, IsKnownGiven};
 ghost use Rattle.std.specs.Prelude.{◌≡◌, ◌≤◌, IfOk, IfSome, true};
 
 use crate::finders::{cycle_given, is_accepted};
+use crate::measures::greatest_degree;
 use crate::never::{CYCLE_NODES, CYCLE_SIZE, CYCLE_STEPS, GADGET_STEPS, grows_little};
 use crate::texts::{has_given_text, has_text};
 use crate::types::{Shown, Way};
@@ -20,6 +21,18 @@ use re_graph::{MAX_STEPS, find_cover_given, find_gadgets_given};
 use re_labels::NoMemory;
 use re_problem::Problem;
 use std::alloc::Global;
+
+/// How many steps gadgets are joined in, where a degree is 5 or more.
+const DEAR_STEPS: usize = 100_000;
+
+// How many steps gadgets are joined in.
+fn gadget_steps(problem: &Problem) -> usize {
+    if greatest_degree(problem) < 5 {
+        GADGET_STEPS
+    } else {
+        DEAR_STEPS
+    }
+}
 
 // Whether `given` accepts the bound, and it has a text, alone and with the input problem.
 fn closes_given(alloc: Global, bound: &Certificate, input: &Problem) -> Result<bool, NoMemory>
@@ -104,7 +117,7 @@ fn gadget_way(
     requires { IsInput (unnamed problem.now) (unnamed input.now) }
     ensures { IfOk result (λ found. IfSome found (IsKnownGiven times problem.now input.now Claim.Never)) }
 {
-    let steps = GADGET_STEPS.saturating_mul(usize::from(times));
+    let steps = gadget_steps(problem).saturating_mul(usize::from(times));
     let steps = steps.min(MAX_STEPS);
     match find_gadgets_given(alloc, problem, input, 64, steps)?.cover {
         Some(cover) => {

@@ -70,7 +70,7 @@ fn bounded(
     Ok(together(problem, input, lower, most, times))
 }
 
-// What is known where so many rounds are too few, and it isn't counted how many are enough.
+// What is known where so many rounds are too few, it isn't counted how many are enough, and nothing shows soon that no number is.
 fn searched(
     alloc: Global,
     problem: &Problem,
@@ -85,9 +85,6 @@ fn searched(
     requires times { times ≤ 64 }
     ensures { IfOk result (IsSettledGiven times problem.now input.now) }
 {
-    if let Some(way) = near_way(alloc, problem, input, chain, times)? {
-        return Ok(SettledGiven::Never(way));
-    }
     let most = short_way(alloc, problem, input, times)?;
     if let Some(way) = far_way(alloc, problem, input, chain, most, times)? {
         return Ok(SettledGiven::Never(way));
@@ -122,6 +119,9 @@ fn behind_zero(
     ensures { IfOk result (IsSettledGiven times problem.now input.now) }
 {
     let _names = problem.names();
+    if let Some(way) = near_way(alloc, problem, input, chain, times)? {
+        return Ok(SettledGiven::Never(way));
+    }
     match counted(alloc, problem, input, MAX_ROUNDS)? {
         Some(Counted::Exactly(rounds)) => {
             Ok(SettledGiven::Exactly(by_rounds(rounds, MAX_ROUNDS)))

@@ -9,8 +9,3 @@ pub returns-in-Some : goal.returns-in-Some
 returns-in-Some c =
     never_settled c.args.times c.args.problem.now c.args.input.now c.in-Some.way
     (subst (λ found. IfSome found (IsKnownGiven c.args.times c.args.problem.now c.args.input.now Never)) c.in-Some.is c.in_ok-way.ensures)
-
-pub returns-in-Some-2 : goal.returns-in-Some-2
-returns-in-Some-2 c =
-    never_settled c.args.times c.args.problem.now c.args.input.now c.in-Some-2.way
-    (subst (λ found. IfSome found (IsKnownGiven c.args.times c.args.problem.now c.args.input.now Never)) c.in-Some-2.is c.in_ok-way-2.ensures)

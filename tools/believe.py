@@ -85,11 +85,11 @@ GROUPS = [
     ),
     (
         "With few rounds, or few colours",
-        "what `re_ordered::gap_law`, `beyond_ports_law`, `re_local::few_colours_local_law` and `re_given_bounds::few_edge_colours_local_law` add: "
+        "what `re_classes::gap_law`, `beyond_ports_law`, `re_local::few_colours_local_law` and `re_given_bounds::few_edge_colours_local_law` add: "
         "towers of twos, and colourings of nodes and edges as input problems.",
         [
-            ("re_ordered", "gap_law", None),
-            ("re_ordered", "beyond_ports_law", None),
+            ("re_classes", "gap_law", None),
+            ("re_classes", "beyond_ports_law", None),
             ("re_local", "few_colours_local_law", None),
             ("re_given_bounds", "few_edge_colours_local_law", None),
         ],

@@ -32,15 +32,6 @@ filter-next_out p n fails =
 pub flat_map-next : {X : Type 0} (f : ℕ → List X) (n : ℕ) → flat_map f (count_from 0 (n + 1)) ≡ flat_map f (count_from 0 n) ++ f n
 flat_map-next f n = ap (flat_map f) (count_from-next n) ∙ flat_map-append f (count_from 0 n) (n ∷ []) ∙ ap (λ l. flat_map f (count_from 0 n) ++ l) (append-nil (f n))
 
--- a number that is more than each of a list goes behind them
-pub with_label-above : (s : List ℕ) (x : ℕ) → AllByRecursion (λ y. y < x) s → with_label s x ≡ s ++ x ∷ []
-with_label-above [] x h = refl
-with_label-above (y ∷ s) x h =
-    let below : y < x = h.0 in
-    let low : ltb x y ≡ false = grind (arith, nat_tests) in
-    let apart : eqb x y ≡ false = grind (arith, nat_tests) in
-    rw (low, apart) (ap (λ l. y ∷ l) (with_label-above s x h.1))
-
 pub filter-below : (p : ℕ → Bool) (i n m : ℕ) → i + n ≤ m → AllByRecursion (λ y. y < m) (filter p (count_from i n))
 filter-below p i zero m h = tt
 filter-below p i (suc n) m h = go (p i) (filter-below p (suc i) n m (omega arith))

@@ -6,10 +6,10 @@ use Rattle.re_classes.specs.Laws.{AboveLogStarLaw, BelowLogStarLaw, ConstantLaw,
 use Rattle.re_local.proofs.FewColours.{few_colours_local, last_hops}
 use Rattle.re_local.specs.LocalAlgorithms.{SolvableLocal}
 use Rattle.re_layers.specs.Towers.{tower}
-use Rattle.re_ordered.proofs.BeyondLocal.{beyond_local}
-use Rattle.re_ordered.proofs.FewIdentifiers.{below_tower}
-use Rattle.re_ordered.proofs.Gap.{beyond_ports}
-use Rattle.re_ordered.proofs.PortNumbered.{Solvable-local, SolvableLocal-unnoticed}
+use Rattle.re_classes.proofs.BeyondLocal.{beyond_local}
+use Rattle.re_classes.proofs.FewIdentifiers.{below_tower}
+use Rattle.re_classes.proofs.Gap.{beyond_ports}
+use Rattle.re_classes.proofs.PortNumbered.{Solvable-local, SolvableLocal-unnoticed}
 
 pub constant : ConstantLaw
 constant problem is = (

@@ -10,7 +10,7 @@ use Rattle.re_labels.proofs.Sorting.{IsConfig-sorted, sorted_again}
 use Rattle.re_labels.specs.Configs.{sorted, support_of}
 use Rattle.re_labels.specs.Orders.{multisets}
 use Rattle.re_labels.specs.Rearranging.{swapped}
-use Rattle.re_families.proofs.Whole.{alike_rise, alike_support}
+use Rattle.re_labels.proofs.Replicated.{alike_rise, alike_support}
 use Rattle.re_given.proofs.Colourings.{colour_there, colours_there, filtered_constraint}
 use Rattle.re_given.proofs.KnownViews.{payloads-known}
 use Rattle.re_given.proofs.Relabelled.{IsTree-relabelled, relabelled}

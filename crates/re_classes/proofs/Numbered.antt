@@ -10,7 +10,7 @@ use Rattle.re_labels.proofs.OrdersAt.{get_or-map}
 use Rattle.re_labels.proofs.Rearranging.{Contains-Rearranged}
 use Rattle.re_labels.proofs.Sorting.{IsConfig-sorted, Rearranged-sorted, length-sorted, sorted_again, sorted_map}
 use Rattle.re_labels.specs.Configs.{IsConfig, sorted}
-use Rattle.re_families.proofs.Whole.{alike_rise}
+use Rattle.re_labels.proofs.Replicated.{alike_rise}
 use Rattle.re_given.proofs.AllInputViews.{AreBelow}
 use Rattle.re_given.proofs.Relabelled.{relabelled}
 use Rattle.re_given.specs.InputViews.{Fits, FitsAround, InputView}

@@ -4,8 +4,8 @@ use Rattle.std.proofs.Math.Nat.{mul-le-mul_right, pow-le-pow_right, pow-succ'}
 use Rattle.std.proofs.lemmas.Nat.{pow-add}
 use Rattle.re_layers.proofs.Towers.{above, below_power, cube_below, power_below, tower-le}
 use Rattle.re_layers.specs.Towers.{tower}
-use Rattle.re_ordered.proofs.Gap.{gap}
-use Rattle.re_ordered.proofs.PortNumbered.{Solvable-local}
+use Rattle.re_classes.proofs.Gap.{gap}
+use Rattle.re_classes.proofs.PortNumbered.{Solvable-local}
 use Rattle.re_classes.proofs.Derandomised.{derandomised, derandomised_identified}
 use Rattle.re_classes.proofs.FewerNames.{fewer_names}
 use Rattle.re_classes.proofs.IdentifiedViews.{fails_identified}

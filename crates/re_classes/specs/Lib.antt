@@ -1,8 +1,10 @@
 pub mod Chances
 pub mod Classes
 pub mod Examples
+pub mod FewRoundsLaws
+pub mod FixedRoundsLaws
 pub mod GapLaws
-pub mod Laws
 pub mod IdentifiedRandom
+pub mod Laws
 pub mod RandomAlgorithms
 pub mod RandomLaws

@@ -5,7 +5,7 @@ use Rattle.std.proofs.lemmas.List.Elements.{filter-append}
 use Rattle.re_labels.proofs.Membership.{AllByRecursion-from_contains, Contains-filter_cases, count_from-last, count_from_range}
 use Rattle.re_labels.specs.Lists.{count_from}
 use Rattle.re_labels.specs.Sets.{with_label}
-use Rattle.re_changes.proofs.Counted.{with_label-above}
+use Rattle.re_labels.proofs.Sets.{with_label-above}
 
 module _ (test : ℕ → Bool) where
   abbrev passing : ℕ → List ℕ

@@ -22,12 +22,11 @@ use Rattle.re_frame.specs.declared.status.Status.TheVariants.{Done}
 use Rattle.re_given.proofs.ChainGiven.{IsInput-lower}
 use Rattle.re_given.proofs.Ungiven.{SolvableGiven-ungiven}
 use Rattle.re_given.specs.Inputs.{IsInput}
-use Rattle.re_given_bounds.specs.GivenBounds.{IsOver, MeansGiven}
 use Rattle.re_given_words.specs.Extensions.{GoesOnGiven, TakenLaw}
 use Rattle.re_settings.specs.Taken.{IsTaken, Refuses}
 use Rattle.re_settings.specs.InputFaults.{or_input_fault}
 use Rattle.re_settings.specs.Meanings.{AnswerLaw}
-use Rattle.re_settings.specs.Settings.{IsTakenIn, TakenAloneLaw, input_of}
+use Rattle.re_settings.specs.Settings.{IsTakenIn, MeansIn, TakenAloneLaw, input_of}
 use Rattle.re_settings.specs.declared.setting.Setting.{Setting}
 use Rattle.re_settings.specs.declared.setting.Setting.TheVariants as settings
 use Rattle.re_settings.specs.Verdicts.{end_outcome, fit_with, given_outcome, lower_with}
@@ -64,7 +63,6 @@ module _ (input : NamedProblem) (chain : Bound) where
       let none : fit_with input chain w ≡ refused (codes "no\n") = no_sets w (subst (λ (k : Kind). (end_outcome k input chain).status ≡ Done) sound.lower ended) in
       let told : given_outcome Fit input chain ≡ refused (codes "no\n")
       = ap (λ f. or_input_fault input f (or_refusal (steps_refusal chain) (fit_with input chain w))) two.0 ∙ ap (λ f. or_refusal (option_map refusal_of f) (fit_with input chain w)) sound.sound ∙ none in
-      let over : IsOver chain = record { fits = fits; first = problems.first; next = problems.next } in
       let parts = and-true (nat_le (length chain.steps) MAX_STEPS && steps_fit chain.kind chain.first chain.steps && one_form chain.steps) (renaming_fits chain) fits in
       let few = and-true (nat_le (length chain.steps) MAX_STEPS && steps_fit chain.kind chain.first chain.steps) (one_form chain.steps) parts.0 in
       let fit : steps_fit chain.kind chain.first chain.steps ≡ true = (and-true (nat_le (length chain.steps) MAX_STEPS) (steps_fit chain.kind chain.first chain.steps) few.0).1 in
@@ -72,7 +70,7 @@ module _ (input : NamedProblem) (chain : Bound) where
       let is : IsInput (unnamed last) (input_at input (length chain.steps)) = IsInput-lower steps (judged-none chain.first input names two.0) in
       let last_is = (named-last chain.first (next_problems chain.steps) problems.first problems.next).problem in
       let solvable : Solvable (unnamed last) 0 = (Solvable-zero (unnamed last) last_is).1 ((some-place (unnamed last) (Some place) (sym there)).0 refl) in
-      (law Fit input chain names over).no told (SolvableGiven-ungiven (unnamed last) (input_at input (length chain.steps)) 0 is solvable)
+      (law Fit input chain names (record { fits = fits; first = problems.first; next = problems.next })).no told (SolvableGiven-ungiven (unnamed last) (input_at input (length chain.steps)) 0 is solvable)
 
 -- the same in a setting
 pub taken_open : (setting : Setting) (chain : Bound) → AnswerLaw → TakenAloneLaw → IfSome (input_of setting) IsNamedProblem → is_bound chain ≡ true → IsOverProblems chain → IsSoundLower chain → IsTakenIn setting chain → (place : ℕ)
@@ -92,8 +90,8 @@ closed_goes_on input chain bound law names closed taken = record {
   few = closed.goes_on.few;
   small = closed.goes_on.small;
   accepted = taken;
-  means = subst (λ (k : Kind). MeansGiven k (length bound.steps) (unnamed chain.first) (unnamed input)) closed.goes_on.of_kind
-      (subst (λ (p : NamedProblem). MeansGiven bound.kind (length bound.steps) (unnamed p) (unnamed input)) closed.goes_on.first
+  means = subst (λ (k : Kind). MeansIn (settings.Given input) k (length bound.steps) (unnamed chain.first)) closed.goes_on.of_kind
+      (subst (λ (p : NamedProblem). MeansIn (settings.Given input) bound.kind (length bound.steps) (unnamed p)) closed.goes_on.first
       (law input bound 0 0 names closed.goes_on.fits closed.goes_on.problems taken).means);
 }
 

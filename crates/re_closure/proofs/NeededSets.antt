@@ -16,7 +16,7 @@ use Rattle.re_closure_laws.proofs.Generated.{active_first, passive_first}
 use Rattle.re_problem.specs.NamedProblems.{NamedProblem, unnamed}
 use Rattle.re_problem.specs.Problems.{IsProblem}
 use Rattle.re_labels.specs.Strength.{up_set}
-use Rattle.re_changes.proofs.Counted.{with_label-above}
+use Rattle.re_labels.proofs.Sets.{with_label-above}
 use Rattle.re_closure.specs.Kept.{AreOfLength, HasManyCombinations, HasManyLines}
 use Rattle.re_labels.specs.Sets.{has, number, with_label}
 use Rattle.re_labels.proofs.Lists.{Contains-last, Contains-more, Contains-more_cases}

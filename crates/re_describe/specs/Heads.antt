@@ -64,7 +64,7 @@ identifiers_claim active (Accepted Lower steps) =
     ++ (if steps == 0 then [] else fewer_claim active steps)))
 identifiers_claim active (Accepted Upper steps) =
     codes "\nWith unique identifiers a deterministic algorithm solves problem 0 on these trees in " ++ ((in_all steps
-    ++ codes " too, however many there are (`re_ordered::any_identifiers_law`), and on finite forests in ") ++ (in_all (steps + 1)
+    ++ codes " too, however many there are (`re_classes::any_identifiers_law`), and on finite forests in ") ++ (in_all (steps + 1)
     ++ codes " (`re_forests::ports_on_forests_law`).\n"))
 identifiers_claim active (Accepted Fixed steps) =
     codes "\nWith unique identifiers at the active nodes of these trees, one of $N$ at each and different ones wherever a node sees two, no deterministic algorithm of $T$ rounds solves problem 0, for each $T$ and each $N$ from $C^{T + 1}$ on, where $C$ depends on the degrees and the greatest number of labels of a problem alone (`re_given_bounds::logarithmic_bound_law`): it takes more than $\\log_C N - 1$ rounds. So on finite forests of $N$ nodes, whose identifiers are the numbers below $N$, it takes at least the order of $\\log N$ rounds (`re_given_bounds::above_log_law`, `re_forests::above_law`).\n\nRandomised algorithms, in which each active node of these trees also draws a private random string: for each $T$, each $N$ from $C^{T + 1}$ on and each $q$ from $2^{D^{T + 1}}$ on, each such algorithm of $T$ rounds has port numbers and different identifiers with which it fails at some node with a probability of at least $1/q$. The number $D$ depends on the degrees and the greatest number of labels of a problem alone (`re_given_bounds::identified_bound_law`). So with $n$ identifiers and a probability of failure below $1/n$ at each node, problem 0 takes at least the order of $\\log \\log n$ rounds.\n"

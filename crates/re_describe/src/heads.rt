@@ -216,7 +216,7 @@ fn push_upper_identifiers(text: &mut Vec<u8>, active: u8, steps: u8) -> Result<(
         text,
         "\nWith unique identifiers a deterministic algorithm solves problem 0 on these trees in ",
         steps as usize,
-        " too, however many there are (`re_ordered::any_identifiers_law`), and on finite forests in ",
+        " too, however many there are (`re_classes::any_identifiers_law`), and on finite forests in ",
     )?;
     push_in_all(text, steps as usize + 1)?;
     push_words(text, " (`re_forests::ports_on_forests_law`).\n")

@@ -16,8 +16,8 @@ use Rattle.re_labels.specs.declared.sides.Side.{Side}
 use Rattle.re_labels.specs.declared.sides.Side.TheVariants.{Active, Passive}
 use Rattle.re_laws.specs.Algorithms.{Solvable}
 use Rattle.re_local.specs.SeparatingLaws.{IsBeyondLocal}
-use Rattle.re_ordered.proofs.BeyondLocal.{beyond_local}
-use Rattle.re_ordered.proofs.PortNumbered.{SolvableLocal-unnoticed}
+use Rattle.re_classes.proofs.BeyondLocal.{beyond_local}
+use Rattle.re_classes.proofs.PortNumbered.{SolvableLocal-unnoticed}
 use Rattle.re_problem.specs.NamedProblems.{NamedProblem, unnamed}
 use Rattle.re_problem.specs.Problems.{IsProblem, Problem}
 

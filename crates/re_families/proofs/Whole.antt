@@ -24,6 +24,7 @@ use Rattle.re_families.specs.declared.types.Family.{Family}
 use Rattle.re_families.specs.declared.types.Family.TheVariants.{Colouring, Matching, Mis, Orientation}
 use Rattle.re_labels.proofs.NextMultisets.{below-replicate}
 use Rattle.re_labels.proofs.LabelPlaces.{each_degree}
+use Rattle.re_labels.proofs.Replicated.{alike_rise, alike_support}
 
 -- ---- constraints
 made_constraint : (rules : Rules) (side : Side) (degree : ℕ) → 2 ≤ degree → degree ≤ 6 → IsConstraint (length rules.names) (constraint_of rules side degree)
@@ -39,20 +40,6 @@ made_constraint rules side degree two six =
     }
 
 -- ---- each label stands around some active node
-pub alike_rise : (d x : ℕ) → IsRising (λ x y. x ≤ y) (replicate d x)
-alike_rise zero x = tt
-alike_rise (suc zero) x = tt
-alike_rise (suc (suc d)) x = (omega arith, alike_rise (suc d) x)
-
-pub twice : (x : ℕ) → with_label (x ∷ []) x ≡ x ∷ []
-twice x =
-    let below : ltb x x ≡ false = le-ltb x x (omega arith) in
-    λ i. cond (below i) (x ∷ x ∷ []) (cond (eqb-same x i) (x ∷ []) (x ∷ x ∷ []))
-
-pub alike_support : (d x : ℕ) → support_of (replicate (suc d) x) ≡ x ∷ []
-alike_support zero x = refl
-alike_support (suc d) x = ap (λ s. with_label s x) (alike_support d x) ∙ twice x
-
 alike_equal : (d x : ℕ) → 2 ≤ d → are_equal (replicate d x) ≡ true
 alike_equal zero x l = absurd (omega arith)
 alike_equal (suc d) x l = ap (λ (s : List ℕ). eqb (length s) 1) (alike_support d x)

@@ -5,7 +5,7 @@ use Rattle.re_labels.proofs.Rearranging.{Contains-Rearranged, Rearranged-sym}
 use Rattle.re_labels.proofs.Sorting.{AllByRecursion-Rearranged, Rearranged-sorted, length-sorted, sorted_again, sorted_rises}
 use Rattle.re_labels.specs.Configs.{sorted}
 use Rattle.re_labels.specs.Rearranging.{Rearranged, chained, kept, swapped, unmoved}
-use Rattle.re_families.proofs.Whole.{alike_rise}
+use Rattle.re_labels.proofs.Replicated.{alike_rise}
 use Rattle.re_given.proofs.Colourings.{colour_there, colours_there}
 use Rattle.re_given.specs.Unavoidable.{colouring}
 use Rattle.re_labels.specs.Lists.{count_from}

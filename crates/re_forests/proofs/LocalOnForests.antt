@@ -6,7 +6,7 @@ use Rattle.std.proofs.lemmas.List.Elements.{Contains-get_or}
 use Rattle.re_labels.proofs.LawsOfRows.{multisets_law}
 use Rattle.re_labels.proofs.Sorting.{IsConfig-sorted, sorted_again}
 use Rattle.re_labels.specs.Configs.{sorted}
-use Rattle.re_families.proofs.Whole.{alike_rise}
+use Rattle.re_labels.proofs.Replicated.{alike_rise}
 use Rattle.re_forests.specs.OnForests.{SolvableOnForests, SolvesOn}
 use Rattle.re_forests.proofs.ColourLists.{map-one}
 use Rattle.re_forests.proofs.FittingViews.{view_fits}

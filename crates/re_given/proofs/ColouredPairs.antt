@@ -8,7 +8,7 @@ use Rattle.std.proofs.lemmas.Nat.{pow_pos}
 use Rattle.re_labels.proofs.Sorting.{sorted_again}
 use Rattle.re_given.proofs.AvoidedInputs.{lower_bound_unavoidable}
 use Rattle.re_given.proofs.ChainGiven.{exchanged_by-twice}
-use Rattle.re_families.proofs.Whole.{alike_rise}
+use Rattle.re_labels.proofs.Replicated.{alike_rise}
 use Rattle.re_given.proofs.Colourings.{IsInput-colouring, colour_there, colours_there, pigeonhole}
 use Rattle.re_given.specs.Given.{SolvableGiven}
 use Rattle.re_given.specs.Inputs.{IsInput, exchanged}

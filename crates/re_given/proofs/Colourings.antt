@@ -14,7 +14,7 @@ use Rattle.re_labels.proofs.Sorting.{Rearranged-sorted, length-sorted, sorted_ag
 use Rattle.re_labels.specs.Configs.{IsConfig, sorted, support_of}
 use Rattle.re_labels.specs.Orders.{multisets}
 use Rattle.re_labels.specs.Rearranging.{Rearranged, chained, kept, swapped, unmoved}
-use Rattle.re_families.proofs.Whole.{alike_rise, alike_support}
+use Rattle.re_labels.proofs.Replicated.{alike_rise, alike_support}
 use Rattle.re_given.proofs.AvoidedInputs.{fixed_point_unavoidable, lower_bound_unavoidable, shorter_bound_unavoidable}
 use Rattle.re_given.proofs.ChainGiven.{exchanged_by-twice}
 use Rattle.re_given.specs.Given.{SolvableGiven}

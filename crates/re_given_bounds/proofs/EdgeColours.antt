@@ -11,7 +11,7 @@ use Rattle.re_labels.proofs.Sorting.{AllByRecursion-Rearranged, Rearranged-sorte
 use Rattle.re_labels.specs.Configs.{IsConfig, sorted}
 use Rattle.re_labels.specs.Rearranging.{Rearranged, kept}
 use Rattle.re_labels.specs.Rows.{IsChoice, choices}
-use Rattle.re_families.proofs.Whole.{alike_rise}
+use Rattle.re_labels.proofs.Replicated.{alike_rise}
 use Rattle.re_given.proofs.Colourings.{colour_there, colours_there}
 use Rattle.re_given.proofs.Fitting.{Has-around, Rearranged-front}
 use Rattle.re_given.proofs.KnownViews.{payloads-known}

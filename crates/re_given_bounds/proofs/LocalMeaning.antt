@@ -15,7 +15,7 @@ use Rattle.re_local.proofs.UnavoidableIdentifiers.{identifiers_unavoidable}
 use Rattle.re_local.specs.Identifiers.{identifiers}
 use Rattle.re_local.specs.LocalAlgorithms.{SolvableLabelled}
 use Rattle.re_given_bounds.specs.LocalBounds.{LocalBoundLaw, LogarithmicBoundLaw, MeansLocal, MeansLogarithmic, MeansUnique, UniqueIdentifiersLaw}
-use Rattle.re_ordered.proofs.BeyondLocal.{IsBeyondLocal-unsolvable}
+use Rattle.re_classes.proofs.BeyondLocal.{IsBeyondLocal-unsolvable}
 use Rattle.re_problem.specs.NamedProblems.{unnamed}
 use Rattle.re_problem.specs.Problems.{IsProblem, Problem}
 use Rattle.re_local.proofs.Separated.{IsBeyondPower-labelled, separating}

@@ -13,12 +13,11 @@ use Rattle.re_shaping.proofs.Continued.{behind, built-bound, whole}
 use Rattle.re_shaping.specs.Extensions.{AreSmall, continued}
 use Rattle.re_shaping.specs.declared.extending.Extension.{Extension}
 use Rattle.re_frame.specs.Outcomes.{Outcome}
-use Rattle.re_given_bounds.specs.GivenBounds.{IsOver, MeansGiven}
 use Rattle.re_settings.proofs.GivenMeans.{answer_law}
 use Rattle.re_given_words.specs.Extensions.{GoesOnGiven, TakenLaw}
 use Rattle.re_settings.specs.Taken.{IsTaken}
 use Rattle.re_given_words.specs.Extensions.{GoesOnIn}
-use Rattle.re_settings.specs.Settings.{IsTakenIn, input_of}
+use Rattle.re_settings.specs.Settings.{IsTakenIn, MeansIn, input_of}
 use Rattle.re_settings.specs.declared.setting.Setting.{Setting}
 use Rattle.re_settings.specs.declared.setting.Setting.TheVariants as settings
 use Rattle.re_settings.specs.declared.verdicts.GivenVerdict.TheVariants as verdicts
@@ -27,10 +26,9 @@ use Rattle.re_settings.specs.declared.bound_words.BoundWord.TheVariants.{Given}
 -- ---- what goes on from a chain
 -- what is accepted means what its line says
 taken_means : (input : NamedProblem) (bound : Bound) → IsNamedProblem input → is_bound bound ≡ true → IsOverProblems bound → IsTaken input bound
-    → MeansGiven bound.kind (length bound.steps) (unnamed bound.first) (unnamed input)
+    → MeansIn (settings.Given input) bound.kind (length bound.steps) (unnamed bound.first)
 taken_means input bound names fits problems taken =
-    let over : IsOver bound = record { fits = fits; first = problems.first; next = problems.next } in
-    (answer_law Given input bound names over).holds (ap (λ (o : Outcome). o.status) taken)
+    (answer_law Given input bound names (record { fits = fits; first = problems.first; next = problems.next })).holds (ap (λ (o : Outcome). o.status) taken)
 
 pub taken_law : TakenLaw
 taken_law input bound most labels names fits problems taken = record {
@@ -83,8 +81,8 @@ goes_on input kind most labels back chain bound more renaming names made problem
       few = few;
       small = small;
       accepted = taken;
-      means = subst (λ k. MeansGiven k (length bound.steps) (unnamed chain.first) (unnamed input)) (ap (λ (b : Bound). b.kind) same)
-          (subst (λ (p : NamedProblem). MeansGiven bound.kind (length bound.steps) (unnamed p) (unnamed input)) (ap (λ (b : Bound). b.first) same) (taken_means input bound names fits problems taken));
+      means = subst (λ (k : Kind). MeansIn (settings.Given input) k (length bound.steps) (unnamed chain.first)) (ap (λ (b : Bound). b.kind) same)
+          (subst (λ (p : NamedProblem). MeansIn (settings.Given input) bound.kind (length bound.steps) (unnamed p)) (ap (λ (b : Bound). b.first) same) (taken_means input bound names fits problems taken));
     }
 
 -- what doesn't: a step to a problem of too many labels

@@ -22,7 +22,7 @@ use Rattle.re_labels.specs.Constraints.{Has}
 use Rattle.re_labels.specs.GoodRows.{IsAllowed, IsGood, allowed, is_good}
 use Rattle.re_problem.specs.Problems.{Problem}
 use Rattle.re_problem.specs.Steps.{IsUpper}
-use Rattle.re_families.proofs.Whole.{alike_rise}
+use Rattle.re_labels.proofs.Replicated.{alike_rise}
 use Rattle.re_given_words.proofs.OneRound.{HasDegrees, allowed-labels}
 use Rattle.re_given_words.specs.Ahead.{HaveChoices, ShowsOne, ShowsTwo, SolvableByRows, StandsAt}
 use Rattle.re_given_words.specs.declared.standing.Standing.{Standing}

@@ -4,8 +4,8 @@ use Rattle.re_cert.specs.Bounds.{Bound, BoundStep, is_bound}
 use Rattle.re_cert.specs.declared.certificate.Kind.{Kind}
 use Rattle.re_chains.specs.Chains.{IsOverProblems}
 use Rattle.re_shaping.specs.Extensions.{AreSmall, GoesOn}
-use Rattle.re_given_bounds.specs.GivenBounds.{MeansGiven}
 use Rattle.re_problem.specs.NamedProblems.{IsNamedProblem, NamedProblem, unnamed}
+use Rattle.re_settings.specs.Settings.{MeansIn}
 use Rattle.re_settings.specs.Taken.{IsTaken}
 use Rattle.re_settings.specs.declared.setting.Setting.{Setting}
 use Rattle.re_settings.specs.declared.setting.Setting.TheVariants.{Alone, Given}
@@ -23,7 +23,7 @@ pub record GoesOnGiven (input : NamedProblem) (kind : Kind) (most labels : ℕ) 
   pub few : length more ≤ most
   pub small : AreSmall labels more
   pub accepted : IsTaken input bound
-  pub means : MeansGiven kind (length bound.steps) (unnamed chain.first) (unnamed input)
+  pub means : MeansIn (Given input) kind (length bound.steps) (unnamed chain.first)
 
 -- a bound over problems that `given` accepts goes on from itself
 abbrev pub TakenLaw : Type 0

@@ -9,7 +9,7 @@ use Rattle.re_labels.proofs.Rearranging.{Contains-Rearranged, length-AllZip}
 use Rattle.re_labels.proofs.Sorting.{AllByRecursion-Rearranged, Rearranged-sorted, length-sorted, sorted_again, sorted_rises}
 use Rattle.re_labels.specs.Configs.{IsConfig, sorted}
 use Rattle.re_labels.specs.Rows.{IsChoice}
-use Rattle.re_families.proofs.Whole.{alike_rise}
+use Rattle.re_labels.proofs.Replicated.{alike_rise}
 use Rattle.re_local.proofs.ColouredHops.{IsProblem-colouring, chosen_in, one_chosen}
 use Rattle.re_local.proofs.DifferentLabels.{Distinct-Rearranged, rising_strictly}
 use Rattle.re_given.proofs.Colourings.{IsInput-colouring, colour_there, colours_there}

@@ -10,7 +10,7 @@ use Rattle.re_labels.proofs.Sorting.{IsConfig-sorted, Rearranged-sorted, sorted_
 use Rattle.re_labels.specs.Configs.{IsConfig, sorted}
 use Rattle.re_labels.specs.Orders.{multisets}
 use Rattle.re_labels.specs.Rearranging.{Rearranged}
-use Rattle.re_families.proofs.Whole.{alike_rise}
+use Rattle.re_labels.proofs.Replicated.{alike_rise}
 use Rattle.re_local.proofs.DifferentLabels.{Distinct-Rearranged}
 use Rattle.re_given.proofs.Colourings.{filtered_constraint}
 use Rattle.re_greedy.proofs.Parts.{Distinct-is_distinct, Rearranged-filter, is_distinct, is_distinct-Distinct, put_out, waiting}

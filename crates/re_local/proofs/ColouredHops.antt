@@ -11,7 +11,7 @@ use Rattle.re_labels.proofs.Sorting.{AllByRecursion-Rearranged, Rearranged-sorte
 use Rattle.re_labels.specs.Configs.{IsConfig, sorted, support_of}
 use Rattle.re_labels.specs.Orders.{multisets}
 use Rattle.re_labels.specs.Rows.{IsChoice, choices}
-use Rattle.re_families.proofs.Whole.{alike_rise}
+use Rattle.re_labels.proofs.Replicated.{alike_rise}
 use Rattle.re_local.proofs.DifferentLabels.{Distinct-Rearranged, left, left_cases, left_held, left_less, rising_strictly}
 use Rattle.re_local.proofs.OneHop.{SolvableGiven-hop}
 use Rattle.re_given.proofs.Colourings.{IsInput-colouring, colour_there, colours_there, filtered_constraint}

@@ -11,7 +11,7 @@ use Rattle.re_labels.proofs.Rearranging.{Contains-Rearranged}
 use Rattle.re_labels.proofs.Sorting.{IsConfig-sorted, Rearranged-sorted, length-sorted, sorted_again, sorted_map}
 use Rattle.re_labels.specs.Configs.{IsConfig, sorted}
 use Rattle.re_labels.specs.Orders.{multisets}
-use Rattle.re_families.proofs.Whole.{alike_rise}
+use Rattle.re_labels.proofs.Replicated.{alike_rise}
 use Rattle.re_given.proofs.Colourings.{filtered_constraint}
 use Rattle.re_given.proofs.GivenTables.{SolvableGiven-by}
 use Rattle.re_given.proofs.Relabelled.{relabelled}

@@ -1,7 +1,7 @@
 -- The set of the labels below a number.
 use Rattle.std.proofs.Common.{◌≡◌, ℕ, ◌<◌, ◌+◌, List, sym, ◌∙◌, subst, arith}
 use Rattle.std.specs.List.{AllByRecursion}
-use Rattle.re_changes.proofs.Counted.{with_label-above}
+use Rattle.re_labels.proofs.Sets.{with_label-above}
 use Rattle.re_labels.proofs.OrdersAt.{count_push}
 use Rattle.re_labels.proofs.Membership.{AllByRecursion-from_contains, count_from_range}
 use Rattle.re_labels.specs.Lists.{count_from}

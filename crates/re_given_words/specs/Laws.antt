@@ -3,7 +3,7 @@ use Rattle.std.specs.Prelude.{◌↔◌}
 use Rattle.re_problem.specs.Problems.{IsProblem, Problem}
 use Rattle.re_laws.specs.Algorithms.{Solvable}
 use Rattle.re_given_words.specs.Ahead.{SolvableByRow, SolvableByRows}
-use Rattle.re_given_words.specs.Three.{HasThree}
+use Rattle.re_given_words.specs.Three.{ShownByMeetings}
 
 -- solvable in one round exactly where some row shows it
 abbrev pub OneRoundLaw : Type 0
@@ -15,4 +15,4 @@ TwoRoundsLaw = (problem : Problem) → IsProblem problem → Solvable problem 2 
 
 -- solvable in three rounds only where some rows at the meetings show it
 abbrev pub ThreeRoundsLaw : Type 0
-ThreeRoundsLaw = (problem : Problem) → IsProblem problem → Solvable problem 3 → HasThree problem
+ThreeRoundsLaw = (problem : Problem) → IsProblem problem → Solvable problem 3 → ShownByMeetings problem

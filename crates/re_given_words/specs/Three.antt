@@ -7,11 +7,9 @@ use Rattle.std.specs.List.{AllByRecursion, AllZip, flat_map}
 use Rattle.re_labels.specs.Lists.{count_from}
 use Rattle.re_labels.specs.Orders.{multisets}
 use Rattle.re_labels.specs.Rows.{IsChoice, set_at}
-use Rattle.re_labels.specs.Sets.{IsIn}
-use Rattle.re_labels.specs.Constraints.{Constraint}
 use Rattle.re_labels.specs.GoodRows.{IsAllowed, IsGood}
-use Rattle.re_labels.specs.Strength.{IsAtLeastAsStrong}
 use Rattle.re_problem.specs.Problems.{Problem}
+use Rattle.re_given.specs.UpSets.{IsUpSet}
 
 -- ---- spots and meetings
 -- the types: all multisets of ports of a passive node, one port for each port of an active node
@@ -39,22 +37,17 @@ abbrev pub IsMeeting : Problem → List ℕ → Type 0
 IsMeeting problem meeting = IsChoice meeting (map (spots_of problem) (count_from 0 problem.passive.degree))
 
 -- ---- three rounds
--- the set has, with each label, all labels below n that are at least as strong
-abbrev pub IsUpClosed : Constraint → ℕ → List ℕ → Type 0
-IsUpClosed constraint n set = (x y : ℕ) → IsIn x set → y < n → IsAtLeastAsStrong constraint y x → IsIn y set
-
 -- the set is the one that is made for some meeting at this spot
 abbrev pub IsMadeAt : Problem → (List ℕ → List (List ℕ)) → ℕ → List ℕ → Type 0
 IsMadeAt problem made spot set =
     (meeting : List ℕ) × IsMeeting problem meeting × (slice_index_or meeting (port_of problem spot) 0 ≡ spot) × (set_at (made meeting) (port_of problem spot) ≡ set)
 
--- a row of sets for each meeting, good for passive nodes, of sets with all stronger labels: each choice of a set at each spot of a type, each from any meeting
--- there, has an active choice
+-- for each meeting a row of up-sets that is good for passive nodes: each choice of a set at each spot of a type, from any meetings there, has an active choice
 pub record ShowsThree (problem : Problem) (made : List ℕ → List (List ℕ)) : Type 0 where
   pub good : (meeting : List ℕ) → IsMeeting problem meeting → IsGood problem.passive (made meeting)
-  pub up : (meeting : List ℕ) → IsMeeting problem meeting → AllByRecursion (IsUpClosed problem.passive problem.labels) (made meeting)
+  pub up_sets : (meeting : List ℕ) → IsMeeting problem meeting → AllByRecursion (IsUpSet problem.passive problem.labels) (made meeting)
   pub choice : (t : ℕ) → t < length (types_of problem) → (sets : List (List ℕ)) → AllZip (IsMadeAt problem made) (spots_in problem t) sets → IsAllowed problem.active sets
 
 -- some rows show it
-abbrev pub HasThree : Problem → Type 0
-HasThree problem = (made : List ℕ → List (List ℕ)) × ShowsThree problem made
+abbrev pub ShownByMeetings : Problem → Type 0
+ShownByMeetings problem = (made : List ℕ → List (List ℕ)) × ShowsThree problem made

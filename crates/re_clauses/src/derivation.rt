@@ -14,6 +14,7 @@ pub(crate) struct Derivation<'a> {
     given: &'a Clauses,
     learned: Clauses,
     refuted: Vec<bool>,
+    marks: Vec<bool>,
 }
 
 impl<'a> Model for Derivation<'a> {
@@ -44,12 +45,16 @@ fn clause_at<'a>(given: &'a Clauses, learned: &'a Clauses, place: u32) -> Option
 }
 
 // Whether the clause is implied, as is shown by the clauses of these places, the last first: with the literals of the clause false, each of
-// them makes one more literal true, and one has none left.
-fn is_implied(given: &Clauses, learned: &Clauses, marks: &mut [bool], clause: &[u32], places: &[u32]) -> bool
+// them makes one more literal true, and one has none left. The marks of what is refuted go on in as many other marks.
+fn is_implied(given: &Clauses, learned: &Clauses, refuted: &[bool], marks: &mut [bool], clause: &[u32], places: &[u32]) -> bool
     requires learned { ImplyAll given.now learned.now }
-    requires refuted { Refute given.now marks.old }
+    requires refuted { Refute given.now refuted.now }
     ensures { result ≡ true → Implies given.now clause.now }
 {
+    if marks.len() != refuted.len() {
+        return false;
+    }
+    marks.copy_from_slice(refuted);
     mark_all(marks, clause);
     for place in places.iter().rev() {
         if let Some(reason) = clause_at(given, learned, *place) {
@@ -70,6 +75,7 @@ impl<'a> Derivation<'a> {
             given,
             learned: Clauses::new(alloc),
             refuted: vec![in alloc; false; literals]?,
+            marks: vec![in alloc; false; literals]?,
         })
     }
 
@@ -90,8 +96,7 @@ impl<'a> Derivation<'a> {
         ensures kept { self.new ≡ self.old }
         ensures implied { IfOk result (λ learned. learned ≡ true → Implies self.old clause.now) }
     {
-        let mut marks = self.refuted.clone()?;
-        if !is_implied(self.given, &self.learned, marks.as_mut_slice(), clause, places) {
+        if !is_implied(self.given, &self.learned, &self.refuted, self.marks.as_mut_slice(), clause, places) {
             return Ok(false);
         }
         self.learned.push(clause)?;

@@ -26,9 +26,8 @@ fn settle_all(derivation: &mut Derivation, search: &Search, from: usize) -> usiz
 {
     let end = search.trail().settled();
     for at in from..end {
-        if let Some(literal) = search.trail().literals().get(at) {
-            let _ = derivation.settle(search.trail().reason_of(*literal));
-        }
+        let literal = search.trail().literal(at);
+        let _ = derivation.settle(search.trail().reason_of(literal));
     }
     end
 }

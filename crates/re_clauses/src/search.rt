@@ -115,12 +115,12 @@ impl Search {
     // Follows what is true. The place of a clause that clashes, or none.
     fn propagate(&mut self) -> Result<u32, AllocError> {
         for _ in 0..u32::MAX {
-            let Some(literal) = self.trail.literals().get(self.done) else {
+            let literal = self.trail.literal(self.done);
+            if literal == NONE {
                 break;
-            };
-            let falsified = negated(*literal);
+            }
             self.done = self.done.saturating_add(1);
-            let clash = self.follow(falsified)?;
+            let clash = self.follow(negated(literal))?;
             if clash != NONE {
                 return Ok(clash);
             }
@@ -204,15 +204,15 @@ impl Search {
         self.places.clear();
         self.clause.push(NONE)?;
         let mut open = self.resolve(clash)?;
-        for at in (0..self.trail.literals().len()).rev() {
-            let literal = number_at(self.trail.literals(), number_of(at));
+        for at in (0..self.trail.count()).rev() {
+            let literal = self.trail.literal(at);
             if is_marked(&self.seen, literal / 2) {
                 if open <= 1 {
                     put(&mut self.clause, 0, negated(literal));
                     break;
                 }
-                let more = self.resolve(self.trail.reason_of(literal))?;
-                open = (open - 1).saturating_add(more);
+                let reason = self.trail.reason_of(literal);
+                open = self.resolve(reason)?.saturating_add(open - 1);
             }
         }
         for variable in &self.touched {

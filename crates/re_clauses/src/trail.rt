@@ -33,9 +33,17 @@ impl Trail {
         self.truths.as_slice()
     }
 
-    /// The true literals in order.
-    pub(crate) fn literals(&self) -> &[u32] {
-        self.literals.as_slice()
+    /// How many literals are true.
+    pub(crate) fn count(&self) -> usize {
+        self.literals.len()
+    }
+
+    /// The literal that became true at this place, or none.
+    pub(crate) fn literal(&self, place: usize) -> u32 {
+        match self.literals.get(place) {
+            Some(literal) => *literal,
+            None => NONE,
+        }
     }
 
     /// Whether the variable has a value.

@@ -1,12 +1,11 @@
 -- Marks of literals that are false, and clauses by their literals.
-use Rattle.std.proofs.Common.{◌≡◌, ◌<◌, ◌≤◌, ◌+◌, ◌-◌, ◌%◌, ◌/◌, ◌*◌, ℕ, zero, suc, Bool, true, false, not, ◌||◌, List, [], ◌∷◌, ◌++◌, cond, get_or, length, set, take, Option, None, Some, refl, sym, ap, ◌∙◌, subst, arith, inl, inr, ⊎_elim}
-use Rattle.std.specs.Prelude.{◌==◌, if◌then◌else◌}
-use Rattle.std.specs.List.{AllByRecursion, list_any}
-use Rattle.std.proofs.lemmas.Bool.{cases_Bool, cases_eq, eqb-true, false≢true, not_from_true}
-use Rattle.std.proofs.lemmas.List.{get_or-set_other, get_or-set_same, take_more}
-use Rattle.std.proofs.lemmas.List.Folds.{list_any_at, list_any_more}
+use Rattle.std.proofs.Common.{◌≡◌, ◌<◌, ◌+◌, ℕ, zero, suc, Bool, true, false, List, [], ◌∷◌, ◌++◌, get_or, length, set, take, Option, None, Some, sym, ◌∙◌, subst, arith, ⊎_elim}
+use Rattle.std.specs.List.{list_any}
+use Rattle.std.proofs.lemmas.Bool.{cases_Bool, cases_eq, false≢true}
+use Rattle.std.proofs.lemmas.List.{get_or-set_other, take_more}
+use Rattle.std.proofs.lemmas.List.Folds.{list_any_at}
 use Rattle.re_clauses.specs.Clauses.{Satisfies, holds, satisfies}
-use Rattle.re_clauses.specs.Implied.{AreFalse, ImplyAll, Implies, negation}
+use Rattle.re_clauses.specs.Implied.{AreFalse}
 
 -- a clause of which no literal is true
 pub none_at : (p : ℕ → Bool) (xs : List ℕ) (i : ℕ) → i < length xs → list_any p xs ≡ false → p (get_or xs i 0) ≡ false
@@ -15,9 +14,6 @@ none_at p xs i some none = ⊎_elim (λ is. absurd (false≢true (sym none ∙ l
 -- one more mark
 pub marked : (values : ℕ → Bool) (marks : List Bool) (literal : ℕ) → AreFalse values marks → holds values literal ≡ false → AreFalse values (set marks literal true)
 marked values marks literal are none other is = ⊎_elim (λ same. subst (λ n. holds values n ≡ false) (sym same) none) (λ differs. are other (sym (get_or-set_other marks literal other true false differs) ∙ is)) (cases_eq other literal)
-
-pub marked_negation : (values : ℕ → Bool) (literal : ℕ) → holds values literal ≡ true → holds values (negation literal) ≡ false
-marked_negation values literal is = ?
 
 -- whether the literal is true that is left, if any is
 abbrev pub left_holds : (ℕ → Bool) → Option ℕ → Bool

@@ -46,7 +46,14 @@ fn clause_at<'a>(given: &'a Clauses, learned: &'a Clauses, place: u32) -> Option
 
 // Whether the clause is implied, as is shown by the clauses of these places, the last first: with the literals of the clause false, each of
 // them makes one more literal true, and one has none left. The marks of what is refuted go on in as many other marks.
-fn is_implied(given: &Clauses, learned: &Clauses, refuted: &[bool], marks: &mut [bool], clause: &[u32], places: &[u32]) -> bool
+fn is_implied(
+    given: &Clauses,
+    learned: &Clauses,
+    refuted: &[bool],
+    marks: &mut [bool],
+    clause: &[u32],
+    places: &[u32],
+) -> bool
     requires learned { ImplyAll given.now learned.now }
     requires refuted { Refute given.now refuted.now }
     ensures { result ≡ true → Implies given.now clause.now }
@@ -68,7 +75,11 @@ fn is_implied(given: &Clauses, learned: &Clauses, refuted: &[bool], marks: &mut 
 
 impl<'a> Derivation<'a> {
     /// Nothing is derived yet. There are so many literals.
-    pub(crate) fn new(alloc: Global, given: &'a Clauses, literals: usize) -> Result<Derivation<'a>, AllocError>
+    pub(crate) fn new(
+        alloc: Global,
+        given: &'a Clauses,
+        literals: usize,
+    ) -> Result<Derivation<'a>, AllocError>
         ensures { IfOk result (λ derivation. derivation ≡ given.now) }
     {
         Ok(Derivation {
@@ -96,7 +107,14 @@ impl<'a> Derivation<'a> {
         ensures kept { self.new ≡ self.old }
         ensures implied { IfOk result (λ learned. learned ≡ true → Implies self.old clause.now) }
     {
-        if !is_implied(self.given, &self.learned, &self.refuted, self.marks.as_mut_slice(), clause, places) {
+        if !is_implied(
+            self.given,
+            &self.learned,
+            &self.refuted,
+            self.marks.as_mut_slice(),
+            clause,
+            places,
+        ) {
             return Ok(false);
         }
         self.learned.push(clause)?;

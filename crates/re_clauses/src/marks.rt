@@ -29,7 +29,11 @@ pub(crate) fn mark(marks: &mut [bool], literal: u32)
 pub(crate) fn negated(literal: u32) -> u32
     ensures { result ≡ negation literal }
 {
-    if literal % 2 == 0 { literal + 1 } else { literal - 1 }
+    if literal % 2 == 0 {
+        literal + 1
+    } else {
+        literal - 1
+    }
 }
 
 /// Marks each literal of the clause.

@@ -17,7 +17,10 @@ fn pigeons(alloc: Global, count: u8, holes: u8) -> Result<Clauses, AllocError> {
     for hole in 0..holes {
         for pigeon in 0..count {
             for other in 0..pigeon {
-                clauses.push(&[(holes * pigeon + hole) * 2 + 1, (holes * other + hole) * 2 + 1])?;
+                clauses.push(&[
+                    (holes * pigeon + hole) * 2 + 1,
+                    (holes * other + hole) * 2 + 1,
+                ])?;
             }
         }
     }
@@ -28,7 +31,11 @@ fn pigeons(alloc: Global, count: u8, holes: u8) -> Result<Clauses, AllocError> {
 fn ring(alloc: Global, count: u8) -> Result<Clauses, AllocError> {
     let mut clauses = Clauses::new(alloc);
     for place in 0..u32::from(count) {
-        let next = if place + 1 < u32::from(count) { place + 1 } else { 0 };
+        let next = if place + 1 < u32::from(count) {
+            place + 1
+        } else {
+            0
+        };
         clauses.push(&[place * 2, next * 2])?;
         clauses.push(&[place * 2 + 1, next * 2 + 1])?;
     }
@@ -52,18 +59,45 @@ fn parity(alloc: Global, count: u8) -> Result<Clauses, AllocError> {
 }
 
 // Whether the answer to the clauses is this one, by decisions on the first so many variables and on all.
-fn is_answer(alloc: Global, clauses: Result<Clauses, AllocError>, conflicts: u32, want: Answer) -> bool {
+fn is_answer(
+    alloc: Global,
+    clauses: Result<Clauses, AllocError>,
+    conflicts: u32,
+    want: Answer,
+) -> bool {
     let Ok(clauses) = clauses else {
         return false;
     };
-    satisfy(alloc, &clauses, 3, conflicts) == Ok(want) && satisfy(alloc, &clauses, u32::MAX, conflicts) == Ok(want)
+    satisfy(alloc, &clauses, 3, conflicts) == Ok(want)
+        && satisfy(alloc, &clauses, u32::MAX, conflicts) == Ok(want)
 }
 
 #[test]
 fn pigeons_in_holes(rt: HostRuntime) {
-    assert!(rt; is_answer(rt.alloc(), pigeons(rt.alloc(), 4, 3), 100, Answer::Unsatisfiable));
-    assert!(rt; is_answer(rt.alloc(), pigeons(rt.alloc(), 6, 5), 2000, Answer::Unsatisfiable));
-    assert!(rt; is_answer(rt.alloc(), pigeons(rt.alloc(), 4, 4), 100, Answer::Satisfiable));
+    assert!(rt;
+        is_answer(
+            rt.alloc(),
+            pigeons(rt.alloc(), 4, 3),
+            100,
+            Answer::Unsatisfiable
+        )
+    );
+    assert!(rt;
+        is_answer(
+            rt.alloc(),
+            pigeons(rt.alloc(), 6, 5),
+            2000,
+            Answer::Unsatisfiable
+        )
+    );
+    assert!(rt;
+        is_answer(
+            rt.alloc(),
+            pigeons(rt.alloc(), 4, 4),
+            100,
+            Answer::Satisfiable
+        )
+    );
     assert!(rt; is_answer(rt.alloc(), pigeons(rt.alloc(), 6, 5), 2, Answer::Untold));
 }
 
@@ -75,7 +109,14 @@ fn rings(rt: HostRuntime) {
 
 #[test]
 fn parities(rt: HostRuntime) {
-    assert!(rt; is_answer(rt.alloc(), parity(rt.alloc(), 7), 100, Answer::Unsatisfiable));
+    assert!(rt;
+        is_answer(
+            rt.alloc(),
+            parity(rt.alloc(), 7),
+            100,
+            Answer::Unsatisfiable
+        )
+    );
     assert!(rt; is_answer(rt.alloc(), parity(rt.alloc(), 8), 100, Answer::Satisfiable));
 }
 
@@ -91,8 +132,36 @@ fn listed(alloc: Global, all: &[&[u32]]) -> Result<Clauses, AllocError> {
 #[test]
 fn short_ones(rt: HostRuntime) {
     assert!(rt; is_answer(rt.alloc(), listed(rt.alloc(), &[]), 1, Answer::Satisfiable));
-    assert!(rt; is_answer(rt.alloc(), listed(rt.alloc(), &[&[]]), 1, Answer::Unsatisfiable));
-    assert!(rt; is_answer(rt.alloc(), listed(rt.alloc(), &[&[0], &[1]]), 1, Answer::Unsatisfiable));
-    assert!(rt; is_answer(rt.alloc(), listed(rt.alloc(), &[&[4, 5]]), 1, Answer::Satisfiable));
-    assert!(rt; is_answer(rt.alloc(), listed(rt.alloc(), &[&[0], &[1]]), 0, Answer::Untold));
+    assert!(rt;
+        is_answer(
+            rt.alloc(),
+            listed(rt.alloc(), &[&[]]),
+            1,
+            Answer::Unsatisfiable
+        )
+    );
+    assert!(rt;
+        is_answer(
+            rt.alloc(),
+            listed(rt.alloc(), &[&[0], &[1]]),
+            1,
+            Answer::Unsatisfiable
+        )
+    );
+    assert!(rt;
+        is_answer(
+            rt.alloc(),
+            listed(rt.alloc(), &[&[4, 5]]),
+            1,
+            Answer::Satisfiable
+        )
+    );
+    assert!(rt;
+        is_answer(
+            rt.alloc(),
+            listed(rt.alloc(), &[&[0], &[1]]),
+            0,
+            Answer::Untold
+        )
+    );
 }

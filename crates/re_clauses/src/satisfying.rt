@@ -34,7 +34,12 @@ fn settle_all(derivation: &mut Derivation, search: &Search, from: usize) -> usiz
 
 /// Whether all of the clauses can be satisfied. The search decides on the first so many variables, the most active one first, and on others
 /// only when these are told. It learns a clause from each conflict, of which it takes so many before it gives up.
-pub fn satisfy(alloc: Global, clauses: &Clauses, first: u32, conflicts: u32) -> Result<Answer, AllocError>
+pub fn satisfy(
+    alloc: Global,
+    clauses: &Clauses,
+    first: u32,
+    conflicts: u32,
+) -> Result<Answer, AllocError>
     ensures no { IfOk result (λ answer. answer ≡ Answer.Unsatisfiable → IsSatisfiable clauses.now → ⊥) }
     ensures yes { IfOk result (λ answer. answer ≡ Answer.Satisfiable → IsSatisfiable clauses.now) }
 {

@@ -177,7 +177,11 @@ impl Search {
         put_mark(&mut self.seen, variable, true);
         self.touched.push(variable)?;
         let activity = number_at(&self.activities, variable);
-        put(&mut self.activities, variable, activity.saturating_add(self.step));
+        put(
+            &mut self.activities,
+            variable,
+            activity.saturating_add(self.step),
+        );
         if level == self.trail.level() {
             return Ok(true);
         }

@@ -1,4 +1,4 @@
-use Rattle.std.proofs.Common.{◌≡◌, ◌<◌, ◌∙◌, ap, length, arith}
+use Rattle.std.proofs.Common.{◌∙◌, ap, arith}
 use Rattle.re_clauses.specs.Clauses.{satisfies}
 use Rattle.re_clauses.proofs.Marking.{satisfied_at}
 use Rattle.re_clauses.proofs.derivation.clause_at.Goals as goal

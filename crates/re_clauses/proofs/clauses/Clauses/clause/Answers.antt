@@ -1,4 +1,4 @@
-use Rattle.std.proofs.Common.{◌≡◌, ◌<◌, ◌≤◌, ◌∷◌, [], ◌∙◌, ℕ, List, ap, arith, get_or, length, slice_range, subst, sym}
+use Rattle.std.proofs.Common.{◌≡◌, ◌<◌, ◌∷◌, [], ◌∙◌, ℕ, List, ap, arith, get_or, length, slice_range, sym}
 use Rattle.std.proofs.lemmas.List.{get_or_default}
 use Rattle.re_clauses.specs.Tables.{pieces}
 use Rattle.re_clauses.proofs.Pieces.{length-pieces, piece_at, piece_inside}

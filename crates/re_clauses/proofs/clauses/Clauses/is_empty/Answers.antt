@@ -1,4 +1,4 @@
-use Rattle.std.proofs.Common.{◌≡◌, ◌==◌, ◌∙◌, ap, length, sym}
+use Rattle.std.proofs.Common.{◌==◌, ◌∙◌, ap, length, sym}
 use Rattle.re_clauses.proofs.Pieces.{length-pieces}
 use Rattle.re_clauses.proofs.clauses.Clauses.is_empty.Goals as goal
 

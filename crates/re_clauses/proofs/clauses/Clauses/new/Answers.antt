@@ -1,5 +1,5 @@
-use Rattle.std.proofs.Common.{◌≡◌, [], ◌∙◌, ap, length, subst, sym}
-use Rattle.re_clauses.specs.Tables.{AreEnds, pieces}
+use Rattle.std.proofs.Common.{◌∙◌, ap}
+use Rattle.re_clauses.specs.Tables.{pieces}
 use Rattle.re_clauses.proofs.Pieces.{no_ends, no_pieces}
 use Rattle.re_clauses.proofs.clauses.Clauses.new.Goals as goal
 

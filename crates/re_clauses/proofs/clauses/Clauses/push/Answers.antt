@@ -1,4 +1,4 @@
-use Rattle.std.proofs.Common.{◌≡◌, ◌≤◌, ◌+◌, ◌++◌, ◌∷◌, [], ◌∙◌, ℕ, List, ap, arith, length, subst, sym}
+use Rattle.std.proofs.Common.{◌≡◌, ◌≤◌, ◌++◌, ◌∷◌, [], ◌∙◌, ℕ, List, ap, arith, length}
 use Rattle.std.proofs.lemmas.List.{length-append}
 use Rattle.re_clauses.specs.Tables.{AreEnds, pieces}
 use Rattle.re_clauses.proofs.Pieces.{more_ends, more_pieces}

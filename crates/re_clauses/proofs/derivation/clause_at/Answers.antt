@@ -1,6 +1,6 @@
 use Rattle.std.proofs.Common.{◌∙◌, ap, arith}
 use Rattle.re_clauses.specs.Clauses.{satisfies}
-use Rattle.re_clauses.proofs.Marking.{satisfied_at}
+use Rattle.re_clauses.proofs.Satisfied.{satisfied_at}
 use Rattle.re_clauses.proofs.derivation.clause_at.Goals as goal
 
 pub returns-then-place-len-2 : goal.returns-then-place-len-2

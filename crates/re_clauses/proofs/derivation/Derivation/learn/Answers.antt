@@ -1,6 +1,6 @@
 use Rattle.std.proofs.Common.{List, ℕ, subst, sym}
 use Rattle.re_clauses.specs.Clauses.{Satisfies}
-use Rattle.re_clauses.proofs.Marking.{satisfied_behind}
+use Rattle.re_clauses.proofs.Satisfied.{satisfied_behind}
 use Rattle.re_clauses.proofs.derivation.Derivation.learn.Goals as goal
 
 pub invariant_of-self-in_err-push : goal.invariant_of-self-in_err-push

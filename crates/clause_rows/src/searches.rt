@@ -1,5 +1,5 @@
 //! Small sets of clauses whose answers are known.
-use crate::{Answer, Clauses, satisfy};
+use re_clauses::{Answer, Clauses, satisfy};
 use std::alloc::{AllocError, Global};
 
 // Each pigeon has a hole, and no two the same one: the variable `holes * pigeon + hole` says that the pigeon is in the hole.

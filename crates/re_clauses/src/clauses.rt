@@ -1,5 +1,5 @@
 //! A table of clauses.
-ghost use Rattle.std.specs.Prelude.{◌≡◌, ◌==◌, ◌<◌, ◌++◌, ◌∷◌, [], OnErr, OnOk, length, slice_index_or};
+ghost use Rattle.std.specs.Prelude.{◌≡◌, ◌==◌, ◌<◌, ◌≤◌, ◌++◌, ◌∷◌, [], OnErr, OnOk, length, slice_index_or, slice_range};
 
 use std::alloc::{AllocError, Global};
 use std::marker::Model;
@@ -23,6 +23,23 @@ impl Model for Clauses {
     ghost invariant = { λ c. AreEnds 0 c.ends.items (length c.literals.items) };
 }
 
+// Where the piece begins that ends at this place of the ends: where the one before it ends.
+fn start_of(ends: &[usize], place: usize) -> usize
+    requires { place < length ends.now }
+    ensures { result ≡ slice_index_or (0 ∷ ends.now) place 0 }
+{
+    if place == 0 { 0 } else { ends[place - 1] }
+}
+
+// A part of the literals.
+fn piece(all: &[u32], start: usize, end: usize) -> &[u32]
+    requires order { start ≤ end }
+    requires inside { end ≤ length all.now }
+    ensures { result.now ≡ slice_range all.now start end }
+{
+    &all[start..end]
+}
+
 impl Clauses {
     /// No clause.
     pub fn new(alloc: Global) -> Clauses
@@ -38,14 +55,14 @@ impl Clauses {
     pub fn len(&self) -> usize
         ensures { result ≡ length self.now }
     {
-        self.ends.len()
+        self.ends.as_slice().len()
     }
 
     /// Whether there is no clause.
     pub fn is_empty(&self) -> bool
         ensures { result ≡ (length self.now == 0) }
     {
-        self.ends.is_empty()
+        self.ends.as_slice().is_empty()
     }
 
     /// The literals of the clause at this place.
@@ -53,8 +70,9 @@ impl Clauses {
         requires { place < length self.now }
         ensures { result.now ≡ slice_index_or self.now place [] }
     {
-        let start = if place == 0 { 0 } else { self.ends[place - 1] };
-        &self.literals[start..self.ends[place]]
+        let start = start_of(self.ends.as_slice(), place);
+        let end = self.ends[place];
+        piece(self.literals.as_slice(), start, end)
     }
 
     /// One more clause, behind the others. Without memory for it the clauses stay as they are.
@@ -64,11 +82,13 @@ impl Clauses {
     {
         let before = self.literals.len();
         self.literals.extend_from_slice(clause)?;
-        let end = self.literals.len();
-        if self.ends.push(end).is_err() {
-            self.literals.truncate(before);
-            return Err(AllocError);
+        let end = self.literals.as_slice().len();
+        match self.ends.push(end) {
+            Ok(()) => Ok(()),
+            Err(_) => {
+                self.literals.truncate(before);
+                Err(AllocError)
+            }
         }
-        Ok(())
     }
 }

@@ -1,6 +1,9 @@
 mod AheadCounts
+pub mod Asked
 pub mod CountingMeans
 pub mod GoingOn
+pub mod LabelOrders
+pub mod MeetingSets
 pub mod OneRound
 pub mod ProductMeaning
 mod RoundsAnswers
@@ -12,3 +15,4 @@ pub mod Serving
 pub mod SetsAdded
 pub mod ThreeRounds
 pub mod TwoRounds
+pub mod Values

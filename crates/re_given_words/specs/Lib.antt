@@ -1,5 +1,6 @@
 pub mod Ahead
 pub mod Answers
+pub mod Asking
 pub mod Counting
 pub mod Extensions
 pub mod Laws

@@ -5,11 +5,13 @@
 
 mod ahead_laws;
 mod answering;
+mod asking;
 mod counting;
 mod drawing;
 mod going_on;
 mod listing;
 mod looking;
+mod meetings;
 mod multiplying;
 mod one;
 mod ordering;
@@ -17,6 +19,8 @@ mod rounds;
 mod searching;
 mod standing;
 mod stopping;
+mod three;
+mod tuples;
 mod two;
 mod words;
 

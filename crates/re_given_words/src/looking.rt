@@ -6,6 +6,7 @@ ghost use Rattle.re_labels.specs.GoodRows.{max_rows};
 ghost use Rattle.std.specs.Prelude.{◌≡◌, ◌≤◌, IfOk, length, ℕ};
 
 use crate::one::find_row;
+use crate::three::find_meetings;
 use crate::two::{Told, find_rows};
 use re_labels::{NoMemory, Row};
 use re_problem::Problem;
@@ -21,16 +22,32 @@ pub enum Ahead {
     MoreThan(u8),
 }
 
-// What is told by two rounds, where one is too few.
-fn look_on(alloc: Global, problem: &Problem, rows: &[Row]) -> Result<Ahead, NoMemory>
+// What is told by three rounds, where so many and fewer are too few.
+fn look_further(alloc: Global, problem: &Problem, most: u8, few: u8) -> Result<Ahead, NoMemory>
+    requires most { few ≤ most }
+    requires few { (T : ℕ) → 1 ≤ T → T ≤ few → Solvable (unnamed problem.now) T → ⊥ }
+    ensures { IfOk result (IsTold (unnamed problem.now) most) }
+{
+    if most < 3 {
+        return Ok(Ahead::MoreThan(few));
+    }
+    match find_meetings(alloc, problem)? {
+        Told::TooFew => Ok(Ahead::MoreThan(3)),
+        Told::Enough | Told::Untold => Ok(Ahead::MoreThan(few)),
+    }
+}
+
+// What is told by two rounds and three, where one is too few.
+fn look_on(alloc: Global, problem: &Problem, rows: &[Row], most: u8) -> Result<Ahead, NoMemory>
     requires rows { rows.now ≡ max_rows problem.now.passive (length problem.now.names) }
+    requires most { 2 ≤ most }
     requires few { Solvable (unnamed problem.now) 1 → ⊥ }
-    ensures { (most : ℕ) → 2 ≤ most → IfOk result (IsTold (unnamed problem.now) most) }
+    ensures { IfOk result (IsTold (unnamed problem.now) most) }
 {
     match find_rows(alloc, problem, rows)? {
         Told::Enough => Ok(Ahead::Exactly(2)),
-        Told::TooFew => Ok(Ahead::MoreThan(2)),
-        Told::Untold => Ok(Ahead::MoreThan(1)),
+        Told::TooFew => look_further(alloc, problem, most, 2),
+        Told::Untold => look_further(alloc, problem, most, 1),
     }
 }
 
@@ -46,14 +63,16 @@ fn look_with(alloc: Global, problem: &Problem, rows: &[Row], most: u8) -> Result
             if most == 1 {
                 return Ok(Ahead::MoreThan(1));
             }
-            look_on(alloc, problem, rows)
+            look_on(alloc, problem, rows, most)
         }
     }
 }
 
-/// What is told of the rounds from 1 to the most without a derived problem: one round and two, by the maximal rows of the passive side.
-/// Nothing is told where there are more than `re_labels::MAX_ROWS`, and nothing of two rounds where `find_rows` tells nothing. It costs
-/// what `re_step::maximal_rows`, `find_row` and `find_rows` cost.
+/// What is told of the rounds from 1 to the most without a derived problem: one round and two, by the maximal rows of the passive side,
+/// and whether three are too few, where two aren't told to be enough, by clauses that no sets satisfy. Nothing is told of one and two where
+/// there are more than `re_labels::MAX_ROWS` rows, and nothing of two where `find_rows` tells nothing, but that three are too few may be told
+/// there, too. That three are enough is never told. It costs what `re_step::maximal_rows`, `find_row`, `find_rows` and the search for sets that
+/// satisfy the clauses cost.
 pub fn look_ahead(alloc: Global, problem: &Problem, most: u8) -> Result<Ahead, NoMemory>
     ensures { IfOk result (IsTold (unnamed problem.now) most) }
 {
@@ -63,7 +82,7 @@ pub fn look_ahead(alloc: Global, problem: &Problem, most: u8) -> Result<Ahead, N
     let labels = problem.names().len() as u8;
     match maximal_rows(alloc, problem.passive(), labels) {
         Ok(rows) => look_with(alloc, problem, rows.as_slice(), most),
-        Err(RowsFault::TooManyRows) => Ok(Ahead::MoreThan(0)),
+        Err(RowsFault::TooManyRows) => look_further(alloc, problem, most, 0),
         Err(RowsFault::NoMemory) => Err(NoMemory),
     }
 }

@@ -45,8 +45,8 @@
 //! multiplied by N in `settle N`.
 //!
 //! 1. Whether 0 rounds are enough.
-//! 2. The fixed point of the closure of the problem, where `given` accepts it; and a graph of at most 4 active nodes on which the problem has no
-//!    solution and the input problem has one.
+//! 2. The fixed point of the closure of the problem, where `given` accepts it; and a graph of at most 4 active nodes, or 3 where a degree
+//!    is 6, on which the problem has no solution and the input problem has one.
 //! 3. Where 0 rounds are too few, the number of rounds, where this is at most `re_settle::MAX_ROUNDS` and no step on the way passes a limit or
 //!    starts from a problem of more than 64 labels. As many rounds as are counted to be too few are known.
 //! 4. An upper bound: what `shortest` finds, where the problem has at most 12 N configurations. Its numbers of steps and labels, and those of
@@ -92,17 +92,15 @@ mod types;
 mod words;
 
 pub use answering_given::SettleText;
-pub use bounds::{count_of, has_patterns, upper_chain};
+pub use bounds::{count_of, upper_chain};
 pub use claimed::{Claimed, Telling};
 pub use classifying::settle;
 pub use counting::{MAX_ROUNDS, few_of};
 pub use given_types::SettledGiven;
 pub use lines::push_way;
 pub use measures::{
-    doublings, greatest_degree, is_small, longest_labels, longest_steps, shortest_labels,
-    shortest_steps,
+    doublings, greatest_degree, longest_labels, longest_steps, shortest_labels, shortest_steps,
 };
-pub use never::{CYCLE_NODES, CYCLE_SIZE, CYCLE_STEPS, GADGET_STEPS, grows_little};
 pub use settling_given::settle_given;
 pub use telling::tell;
 pub use texts::{has_given_text, has_text};

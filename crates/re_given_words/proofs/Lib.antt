@@ -10,4 +10,5 @@ pub mod RowsOrdered
 pub mod Saying
 pub mod Serving
 pub mod SetsAdded
+pub mod ThreeRounds
 pub mod TwoRounds

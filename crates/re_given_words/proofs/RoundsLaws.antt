@@ -1,4 +1,4 @@
--- One and two rounds are told by rows.
+-- One, two and three rounds are told by rows.
 use Rattle.std.proofs.Common.{ℕ, List, map, ◌↔◌}
 use Rattle.re_labels.specs.Rows.{set_at}
 use Rattle.re_labels.specs.GoodRows.{max_sets}
@@ -11,9 +11,11 @@ use Rattle.re_laws.proofs.FastRounds.{Solvable-derived}
 use Rattle.re_laws.proofs.ZeroRounds.{Solvable-zero}
 use Rattle.re_laws.specs.Algorithms.{Solvable}
 use Rattle.re_given_words.proofs.OneRound.{HasDegrees, degrees_of, is_problem, is_upper, is_zero, one-from_zero, places_problem}
+use Rattle.re_given_words.proofs.ThreeRounds.{made, shows_three}
 use Rattle.re_given_words.proofs.TwoRounds.{next_upper, served-two, sets_problem, sets_rows, shows_next, swapped_degrees}
 use Rattle.re_given_words.specs.declared.standing.Standing.{Standing}
 use Rattle.re_given_words.specs.Ahead.{ShowsOne, ShowsTwo, SolvableByRow, SolvableByRows}
+use Rattle.re_given_words.specs.Three.{ShownByMeetings}
 
 -- ---- one round
 pub Solvable-row : (problem : Problem) → HasDegrees problem → (row : List (List ℕ)) → ShowsOne problem row → Solvable problem 1
@@ -45,3 +47,9 @@ Solvable-rows problem degrees standing shows =
 
 pub two_rounds : (problem : Problem) → IsProblem problem → Solvable problem 2 ↔ SolvableByRows problem
 two_rounds problem is = (rows-from_solvable problem is, λ shown. Solvable-rows problem (degrees_of problem is) shown.0 shown.1)
+
+-- ---- three rounds
+pub three_rounds : (problem : Problem) → IsProblem problem → Solvable problem 3 → ShownByMeetings problem
+three_rounds problem is solvable =
+    let (standing, shows) = rows-from_solvable (derived problem) (IsProblem-derived problem is) (Solvable-derived problem 2 is solvable) in
+    (made problem standing shows, shows_three problem standing shows)

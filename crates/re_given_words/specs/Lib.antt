@@ -7,4 +7,5 @@ pub mod ProductTexts
 pub mod RoundsTexts
 pub mod RowTests
 pub mod Searching
+pub mod Three
 pub mod Words

@@ -1,6 +1,6 @@
 //! The words `fit`, `given`, `rounds` and `product`: problems and bounds where a solution of an input problem is given; bounds that go on from a chain.
 //!
-//! Whether a problem is solvable in one or two rounds, told from its own labels, without its derived problem.
+//! Whether a problem is solvable in one, two or three rounds, told from its own labels, without its derived problem.
 #![tactic(auto)]
 
 mod ahead_laws;
@@ -20,7 +20,7 @@ mod stopping;
 mod two;
 mod words;
 
-pub use ahead_laws::{one_round_law, two_rounds_law};
+pub use ahead_laws::{one_round_law, three_rounds_law, two_rounds_law};
 pub use counting::{Counted, RoundsTexts, count, count_within};
 pub use going_on::{extended_in, repeated_in, taken_law};
 pub use looking::{Ahead, look_ahead};

@@ -6,7 +6,7 @@ ghost use Rattle.std.specs.Prelude.{◌≡◌, ◌≤◌, ◌⊎◌, IfOk, IfSom
 
 use crate::types::{Shown, Way};
 use re_evidence::Claim;
-use re_given_words::{Counted, RoundsTexts, count};
+use re_given_words::{Counted, MAX_AHEAD, RoundsTexts, count};
 use re_labels::NoMemory;
 use re_problem::Problem;
 use std::alloc::Global;
@@ -18,12 +18,7 @@ pub const MAX_ROUNDS: u8 = 8;
 pub const MORE_ROUNDS: u8 = 9;
 
 // How many rounds the problem takes, up to so many, where problems before a step that passes a limit tell of so many rounds more.
-fn counted_to(
-    alloc: Global,
-    problem: &Problem,
-    most: u8,
-    ahead: u8,
-) -> Result<Counted, NoMemory>
+fn counted_to(alloc: Global, problem: &Problem, most: u8, ahead: u8) -> Result<Counted, NoMemory>
     requires { most ≤ 9 }
     ensures { IfOk result (MayTell (unnamed problem.now) None most) }
 {
@@ -97,6 +92,6 @@ pub(crate) fn further_way(
 ) -> Result<Option<Shown>, NoMemory>
     ensures { IfOk result (λ found. IfSome found (λ shown. IsKnown times problem.now (Claim.MoreThan shown.rounds) shown.way)) }
 {
-    let counted = counted_to(alloc, problem, MORE_ROUNDS, 3)?;
+    let counted = counted_to(alloc, problem, MORE_ROUNDS, MAX_AHEAD)?;
     Ok(few_way(problem, counted, MORE_ROUNDS, times))
 }

@@ -1,5 +1,5 @@
 -- Lists over the numbers below a bound, one number more at a time.
-use Rattle.std.proofs.Common.{◌≡◌, ℕ, zero, suc, ◌+◌, ◌<◌, ◌≤◌, Bool, true, false, cond, eqb, ltb, List, [], ◌∷◌, ◌++◌, length, map, flat_map, None, Some, refl, sym, ap, ◌∙◌, arith, ◌⊎◌, inl, inr, append-nil, append_assoc}
+use Rattle.std.proofs.Common.{◌≡◌, ℕ, zero, suc, ◌+◌, ◌<◌, ◌≤◌, Bool, true, false, cond, List, [], ◌∷◌, ◌++◌, length, map, flat_map, None, Some, refl, sym, ap, ◌∙◌, arith, ◌⊎◌, inl, inr, append-nil, append_assoc}
 use Rattle.std.specs.Prelude.{filter, find}
 use Rattle.std.specs.List.{AllByRecursion, list_any}
 use Rattle.std.proofs.lemmas.Bool.{false≢true}
@@ -9,6 +9,7 @@ use Rattle.std.proofs.lemmas.List.{map-append}
 use Rattle.std.proofs.lemmas.List.Elements.{filter-append}
 use Rattle.re_labels.proofs.Membership.{Contains-count_from, any_found, any_true, count_from_range, length-count_from, length-map', count_from-last}
 use Rattle.re_labels.specs.Lists.{count_from}
+use Rattle.re_labels.proofs.Sets.{with_label-above}
 use Rattle.re_labels.specs.Sets.{with_label}
 
 pub count_from-next : (n : ℕ) → count_from 0 (n + 1) ≡ count_from 0 n ++ n ∷ []

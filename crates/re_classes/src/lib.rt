@@ -9,7 +9,10 @@ ghost use Rattle.re_classes.specs.Laws.{AboveLogStarLaw, BelowLogStarLaw, Consta
 ghost use Rattle.re_classes.specs.Laws.{ApartLaw, NothingBetweenLaw, WeakerLaw};
 
 pub use few_rounds::{
-    any_identifiers_law, beyond_local_law, beyond_ports_law, coloured_gap_law, coloured_pairs_gap_law, few_labels_law, gap_law, graph_gap_law, identifiers_no_use_law, no_solution_local_law, one_number_law, ports_are_enough_law, tower_law, unavoidable_gap_law, unavoidable_rounds_law,
+    any_identifiers_law, beyond_local_law, beyond_ports_law, coloured_gap_law,
+    coloured_pairs_gap_law, few_labels_law, gap_law, graph_gap_law, identifiers_no_use_law,
+    no_solution_local_law, one_number_law, ports_are_enough_law, tower_law, unavoidable_gap_law,
+    unavoidable_rounds_law,
 };
 pub use random::{
     certain_identified_law, certain_law, derandomised_identified_law, derandomised_law,

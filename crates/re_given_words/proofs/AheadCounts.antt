@@ -8,6 +8,7 @@ use Rattle.re_problem.specs.Problems.{IsProblem, Problem}
 use Rattle.re_problem.specs.Zero.{Zero}
 use Rattle.re_step.specs.declared.derivation.StepLimit.{StepLimit}
 use Rattle.re_given_words.specs.Ahead.{IsTold}
+use Rattle.re_given_words.specs.declared.looking.Ahead.{Ahead}
 use Rattle.re_given_words.specs.declared.looking.Ahead.TheVariants as ahead
 use Rattle.re_given_words.specs.Counting.{AllFew, IsCounted, MayTell}
 use Rattle.re_given_words.specs.declared.counting.Counted.TheVariants.{Exactly, MoreThan, Passed, Stopped}
@@ -19,6 +20,11 @@ derived-more problem k zero = let same : k ≡ k + 0 = omega arith in ap (λ n. 
 derived-more problem k (suc h) =
     let same : suc (k + h) ≡ k + suc h = omega arith in
     ap derived (derived-more problem k h) ∙ ap (λ n. derived_by n problem) same
+
+-- what is told of few rounds is told of more
+pub told-wider : (problem : Problem) (few most : ℕ) (told : Ahead) → few ≤ most → IsTold problem few told → IsTold problem most told
+told-wider problem few most (ahead.Exactly rounds) l is = (is.0, omega (arith, l, is.1), is.2, is.3)
+told-wider problem few most (ahead.MoreThan rounds) l is = (omega (arith, l, is.0), is.1)
 
 module _ (problem : Problem) (is : IsProblem problem) (current : Problem) (steps rounds most : ℕ) (limit : StepLimit) (behind : steps ≤ rounds) (here : current ≡ derived_by steps problem) (counts : IsCounted problem None most (Passed rounds limit)) where
   zero-there : (more : ℕ) → Solvable current more → Zero (derived_by (steps + more) problem)

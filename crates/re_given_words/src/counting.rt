@@ -52,6 +52,9 @@ pub enum Counted {
     Stopped(u8, u8, StepLimit),
 }
 
+/// Of how many rounds ahead of a step that passes a limit the word `rounds` asks.
+pub const MAX_AHEAD: u8 = 3;
+
 // What is told of so many rounds by the problem that is derived as often, given the input problem.
 fn tell_given(
     alloc: Global,
@@ -178,7 +181,8 @@ fn derived_after(alloc: Global, problem: &Problem, steps: u8) -> Result<Problem,
     Ok(current)
 }
 
-// What the problem behind so many steps tells ahead of a step that passes a limit, behind as many steps as there are rounds that are too few.
+// What the problem behind so many steps tells of so many rounds ahead of a step that passes a limit, behind as many steps as there are rounds that are
+// too few.
 fn count_ahead(
     alloc: Global,
     current: &Problem,
@@ -186,6 +190,7 @@ fn count_ahead(
     rounds: u8,
     limit: StepLimit,
     most: u8,
+    ahead: u8,
 ) -> Result<Counted, NoMemory>
     requires behind { steps ≤ rounds }
     requires below { rounds < most }
@@ -193,7 +198,7 @@ fn count_ahead(
     ensures told { (problem : Plain) → IsPlain problem → unnamed current.now ≡ derived_by steps problem → IsCounted problem None most (Counted.Passed rounds limit) → IfOk result (MayTell problem None most) }
     ensures low { IfOk result IsLow }
 {
-    let left = most - steps;
+    let left = (most - steps).min(ahead);
     match look_ahead(alloc, current, left)? {
         Ahead::Exactly(more) => {
             let enough = steps + more;
@@ -217,6 +222,7 @@ fn count_before(
     rounds: u8,
     limit: StepLimit,
     most: u8,
+    ahead: u8,
 ) -> Result<Counted, NoMemory>
     requires problem { IsPlain (unnamed problem.now) }
     requires most { most ≤ 64 }
@@ -230,7 +236,36 @@ fn count_before(
     }
     let steps = rounds - 1;
     let before = derived_after(alloc, problem, steps)?;
-    count_ahead(alloc, &before, steps, rounds, limit, most)
+    count_ahead(alloc, &before, steps, rounds, limit, most, ahead)
+}
+
+// The same where the problem behind as many steps as there are rounds has too many rows: it tells of three rounds alone, and where these aren't asked
+// or nothing is told, the one before it tells.
+fn count_beyond_rows(
+    alloc: Global,
+    problem: &Problem,
+    current: &Problem,
+    rounds: u8,
+    limit: StepLimit,
+    most: u8,
+    ahead: u8,
+) -> Result<Counted, NoMemory>
+    requires problem { IsPlain (unnamed problem.now) }
+    requires most { most ≤ 64 }
+    requires below { rounds < most }
+    requires here { unnamed current.now ≡ derived_by rounds (unnamed problem.now) }
+    requires counted { IsCounted (unnamed problem.now) None most (Counted.Passed rounds limit) }
+    ensures told { IfOk result (MayTell (unnamed problem.now) None most) }
+    ensures low { IfOk result IsLow }
+{
+    if ahead < 3 {
+        return count_before(alloc, problem, rounds, limit, most, ahead);
+    }
+    let counted = count_ahead(alloc, current, rounds, rounds, limit, most, ahead)?;
+    if counted == Counted::Stopped(rounds, rounds, limit) {
+        return count_before(alloc, problem, rounds, limit, most, ahead);
+    }
+    Ok(counted)
 }
 
 // How many rounds the problem takes alone, where the step behind so many passes a limit.
@@ -241,6 +276,7 @@ fn count_alone(
     rounds: u8,
     limit: StepLimit,
     most: u8,
+    ahead: u8,
 ) -> Result<Counted, NoMemory>
     requires problem { IsPlain (unnamed problem.now) }
     requires most { most ≤ 64 }
@@ -251,9 +287,9 @@ fn count_alone(
     ensures low { IfOk result IsLow }
 {
     match limit {
-        StepLimit::Rows => count_before(alloc, problem, rounds, limit, most),
+        StepLimit::Rows => count_beyond_rows(alloc, problem, current, rounds, limit, most, ahead),
         StepLimit::Labels(_) | StepLimit::Configurations => {
-            count_ahead(alloc, current, rounds, rounds, limit, most)
+            count_ahead(alloc, current, rounds, rounds, limit, most, ahead)
         }
     }
 }
@@ -266,6 +302,7 @@ fn count_passed(
     rounds: u8,
     limit: StepLimit,
     most: u8,
+    ahead: u8,
 ) -> Result<Counted, NoMemory>
     requires problem { IsPlain (unnamed texts.now.problem) }
     requires most { most ≤ 64 }
@@ -277,7 +314,7 @@ fn count_passed(
 {
     match &texts.input {
         Some(_) => Ok(Counted::Passed(rounds, limit)),
-        None => count_alone(alloc, &texts.problem, current, rounds, limit, most),
+        None => count_alone(alloc, &texts.problem, current, rounds, limit, most, ahead),
     }
 }
 
@@ -288,6 +325,7 @@ fn count_behind(
     current: &Problem,
     counted: Counted,
     most: u8,
+    ahead: u8,
 ) -> Result<Counted, NoMemory>
     requires problem { IsPlain (unnamed texts.now.problem) }
     requires most { most ≤ 64 }
@@ -299,15 +337,16 @@ fn count_behind(
 {
     match counted {
         Counted::Passed(rounds, limit) => {
-            count_passed(alloc, texts, current, rounds, limit, most)
+            count_passed(alloc, texts, current, rounds, limit, most, ahead)
         }
         _ => Ok(counted),
     }
 }
 
 /// The same, however many labels the problems have. Alone, where a step passes a limit, `re_given_words::look_ahead` goes on from the problem
-/// before it; and where that one has too many rows, from the one before that, which is derived anew: two are held then.
-pub fn count(alloc: Global, texts: &RoundsTexts, most: u8) -> Result<Counted, NoMemory>
+/// before it, by so many rounds at most; and where that one has too many rows, from the one before that, which is derived anew: two are held then.
+/// Of three rounds a problem of too many rows may tell, too; it is asked first.
+pub fn count(alloc: Global, texts: &RoundsTexts, most: u8, ahead: u8) -> Result<Counted, NoMemory>
     requires beside { IsBeside (unnamed texts.now.problem) (option_map unnamed texts.now.input) }
     requires most { most ≤ 64 }
     ensures told { IfOk result (MayTell (unnamed texts.now.problem) (option_map unnamed texts.now.input) most) }
@@ -316,7 +355,7 @@ pub fn count(alloc: Global, texts: &RoundsTexts, most: u8) -> Result<Counted, No
     let _names = texts.problem.names();
     let mut current = texts.problem.copy()?;
     match count_on(alloc, texts, &mut current, most, MAX_LABELS)? {
-        Some(counted) => count_behind(alloc, texts, &current, counted, most),
+        Some(counted) => count_behind(alloc, texts, &current, counted, most, ahead),
         None => unreachable!(),
     }
 }

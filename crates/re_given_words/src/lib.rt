@@ -25,7 +25,7 @@ mod two;
 mod words;
 
 pub use ahead_laws::{one_round_law, three_rounds_law, two_rounds_law};
-pub use counting::{Counted, RoundsTexts, count, count_within};
+pub use counting::{Counted, MAX_AHEAD, RoundsTexts, count, count_within};
 pub use going_on::{extended_in, repeated_in, taken_law};
 pub use looking::{Ahead, look_ahead};
 pub use one::find_row;

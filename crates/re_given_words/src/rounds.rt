@@ -8,7 +8,7 @@ ghost use Rattle.re_io.specs.declared.read.TheConstants.{MAX_BYTES};
 ghost use Rattle.re_problem.specs.NamedProblems.{unnamed};
 ghost use Rattle.std.specs.Prelude.{◌≡◌, ◌≤◌, IfOk, IfSome, None, Some, length, option_map};
 
-use crate::counting::{RoundsTexts, count, counted_output};
+use crate::counting::{MAX_AHEAD, RoundsTexts, count, counted_output};
 use re_chains::{has_line, read_problem_at};
 use re_frame::{Output, fault_output};
 use re_labels::NoMemory;
@@ -46,7 +46,7 @@ fn count_output(alloc: Global, texts: &RoundsTexts, most: u8) -> Result<Output, 
     ensures { IfOk result (λ output. IsCountedLine texts.now.problem texts.now.input most (outcome_of output)) }
 {
     let _names = texts.problem.names();
-    let counted = count(alloc, texts, most)?;
+    let counted = count(alloc, texts, most, MAX_AHEAD)?;
     counted_output(alloc, counted)
 }
 

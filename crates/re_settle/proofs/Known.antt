@@ -1,5 +1,5 @@
 -- What each of the words shows where it finds something.
-use Rattle.std.proofs.Common.{◌≡◌, ℕ, zero, suc, ◌*◌, ◌≤◌, ◌<◌, true, List, [], ◌∷◌, length, refl, subst, sym, ap, ◌∙◌, arith, Ok, None, Option, Some}
+use Rattle.std.proofs.Common.{◌≡◌, ℕ, zero, suc, ◌*◌, ◌≤◌, ◌<◌, ◌⊎◌, true, List, [], ◌∷◌, length, refl, subst, sym, ◌∙◌, arith, Ok, None}
 use Rattle.re_cert.specs.Bounds.{Bound, is_bound, last_problem}
 use Rattle.re_cert.specs.declared.certificate.Kind.TheVariants as kind
 use Rattle.re_cert.specs.declared.certificate.TheConstants.{MAX_STEPS}
@@ -24,7 +24,7 @@ use Rattle.re_laws.proofs.ZeroRounds.{Solvable-zero}
 use Rattle.re_laws.specs.Algorithms.{Solvable}
 use Rattle.re_problem.proofs.ZeroPlaces.{no-place}
 use Rattle.re_problem.specs.NamedProblems.{NamedProblem, unnamed}
-use Rattle.re_problem.specs.Problems.{IsProblem, Problem}
+use Rattle.re_problem.specs.Problems.{IsProblem}
 use Rattle.re_problem.specs.Zero.{zero_place}
 use Rattle.re_search_words.specs.Answers as relaxed
 use Rattle.re_search_words.specs.declared.types.Relaxed.TheVariants as relaxed_answer
@@ -88,11 +88,11 @@ count-holds problem (counted.Passed rounds limit) claim means says = subst (λ c
 count-holds problem (counted.Stopped rounds steps limit) claim means says = subst (λ c. Holds c (unnamed problem)) (sym says) means
 count-holds problem (counted.Tried rounds) claim means says = absurd says
 
-pub count_known : (times : ℕ) (problem : NamedProblem) (counts : Counted) (claim : Claim) → IsProblem (unnamed problem) → MayTell (unnamed problem) None 8 counts → SaysCounted counts claim
-    → IsKnown times problem claim (Rounds 8)
-count_known times problem counts claim is told says = record {
-  shown = record { tried = refl; shows = (counts, told, says) };
-  holds = count-holds problem counts claim (told_means (unnamed problem) is None 8 counts tt told) says;
+pub count_known : (times : ℕ) (problem : NamedProblem) (most : ℕ) (counts : Counted) (claim : Claim) → IsProblem (unnamed problem) → most ≡ 8 ⊎ most ≡ 9 → MayTell (unnamed problem) None most counts
+    → SaysCounted counts claim → IsKnown times problem claim (Rounds most)
+count_known times problem most counts claim is tried told says = record {
+  shown = record { tried = tried; shows = (counts, told, says) };
+  holds = count-holds problem counts claim (told_means (unnamed problem) is None most counts tt told) says;
 }
 
 -- ---- searches of `re` for fixed points

@@ -72,7 +72,7 @@ IsTried times problem (Merge from to) = Unit {0}
 IsTried times problem (Cover nodes) = nodes ≡ 4 ⊎ (nodes ≡ 8 ⊎ nodes ≡ 64)
 IsTried times problem (Cycle steps merges nodes) = (steps ≡ 8) × (merges ≡ 1) × (nodes ≡ 300 * times)
 IsTried times problem (Relaxed nodes) = (nodes ≡ 16 * times) ⊎ (nodes ≡ 200 * times)
-IsTried times problem (Rounds most) = most ≡ 8
+IsTried times problem (Rounds most) = most ≡ 8 ⊎ most ≡ 9
 IsTried times problem (Longest steps labels) =
     (steps ≡ longest_steps (doublings times)) × (labels ≡ longest_labels (greatest_degree problem) (doublings times))
 IsTried times problem (Shortest steps labels) =

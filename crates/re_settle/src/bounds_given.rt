@@ -85,7 +85,7 @@ fn longest_to(
     }))
 }
 
-// The same with more labels than `FEW_LABELS`, or the one with as many, where it has as many steps as are wanted or more labels are dear.
+// The longer one of this and of what is found with more labels, or this alone where it has as many steps as are wanted or more labels are dear.
 fn longest_from(
     alloc: Global,
     problem: &Problem,
@@ -110,7 +110,11 @@ fn longest_from(
         return Ok(few);
     }
     let labels = longest_labels(greatest_degree(problem), doublings);
-    longest_to(alloc, problem, input, chain, labels, times)
+    let more = longest_to(alloc, problem, input, chain, labels, times)?;
+    match few {
+        Some(few) => Ok(Some(longer(problem, input, few, more, times))),
+        None => Ok(more),
+    }
 }
 
 /// The longest lower bound that is found with few steps, each to few labels, where `given` accepts the problem as one without steps and both problems

@@ -37,7 +37,7 @@ pub(crate) fn counted_at_once(
     ensures { IfOk result (IsCounted (unnamed problem.now) (Some (unnamed input.now)) 0) }
 {
     let texts = texts_of(problem, input)?;
-    count(alloc, &texts, 0)
+    count(alloc, &texts, 0, 0)
 }
 
 /// How many rounds the problem takes given the input problem, up to `most`, as far as steps from problems of at most `MAX_COUNTED` labels go.

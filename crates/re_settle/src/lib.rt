@@ -25,7 +25,8 @@
 //! 6. Two bounds. The longest one of the rounds that were counted, of the steps behind it and of what `longest` finds, with 8 steps and 8 more for
 //!    each doubling of N, to problems of 12 labels in degrees up to 3, 8 in degree 4, 6 in degree 5 and 5 in degree 6, and 4, 2, 1 and 1 more for
 //!    each doubling. In degrees 5 and 2, of at most 8 N configurations, what `shortest 6 20` finds. Else what `shortest` finds, with 12 steps and 8
-//!    more for each doubling, to 8, 6, 4 and 4 labels, and 4, 2, 1 and 1 more for each doubling.
+//!    more for each doubling, to 8, 6, 4 and 4 labels, and 4, 2, 1 and 1 more for each doubling. Where the two don't meet, rounds are counted up to
+//!    `MORE_ROUNDS`, and where a step passes a limit, the problem before it, or the one before that, tells of up to three rounds more.
 //!
 //! Where a graph settles it, or no upper bound is found, and the degrees aren't both 2, more is found of the class by the first of these: whether the
 //! problem, or one of the two derived ones behind it, is greedy, as `explore greedy` finds; and then, behind a graph alone, whether some number of
@@ -45,8 +46,8 @@
 //! multiplied by N in `settle N`.
 //!
 //! 1. Whether 0 rounds are enough.
-//! 2. The fixed point of the closure of the problem, where `given` accepts it; and a graph of at most 4 active nodes on which the problem has no
-//!    solution and the input problem has one.
+//! 2. The fixed point of the closure of the problem, where `given` accepts it; and a graph of at most 4 active nodes, or 3 where a degree
+//!    is 6, on which the problem has no solution and the input problem has one.
 //! 3. Where 0 rounds are too few, the number of rounds, where this is at most `re_settle::MAX_ROUNDS` and no step on the way passes a limit or
 //!    starts from a problem of more than 64 labels. As many rounds as are counted to be too few are known.
 //! 4. An upper bound: what `shortest` finds, where the problem has at most 12 N configurations. Its numbers of steps and labels, and those of
@@ -92,17 +93,15 @@ mod types;
 mod words;
 
 pub use answering_given::SettleText;
-pub use bounds::{count_of, has_patterns, upper_chain};
+pub use bounds::{count_of, upper_chain};
 pub use claimed::{Claimed, Telling};
 pub use classifying::settle;
-pub use counting::{MAX_ROUNDS, few_of};
+pub use counting::{MAX_ROUNDS, MORE_ROUNDS, few_of};
 pub use given_types::SettledGiven;
 pub use lines::push_way;
 pub use measures::{
-    doublings, greatest_degree, is_small, longest_labels, longest_steps, shortest_labels,
-    shortest_steps,
+    doublings, greatest_degree, longest_labels, longest_steps, shortest_labels, shortest_steps,
 };
-pub use never::{CYCLE_NODES, CYCLE_SIZE, CYCLE_STEPS, GADGET_STEPS, grows_little};
 pub use settling_given::settle_given;
 pub use telling::tell;
 pub use texts::{has_given_text, has_text};

@@ -131,7 +131,14 @@ fn gadget_way(
     }
 }
 
-// A graph on which the problem has no solution and the input problem has one, of at most 4 active nodes.
+// How many active nodes a graph has at most.
+fn cover_nodes(problem: &Problem) -> u8
+    ensures { result ≤ 4 }
+{
+    if greatest_degree(problem) < 6 { 4 } else { 3 }
+}
+
+// A graph on which the problem has no solution and the input problem has one, of so many active nodes at most.
 fn cover_way(
     alloc: Global,
     problem: &Problem,
@@ -142,7 +149,8 @@ fn cover_way(
     ensures { IfOk result (λ found. IfSome found (IsKnownGiven times problem.now input.now Claim.Never)) }
 {
     let _times = times;
-    match find_cover_given(alloc, problem, input, 4)?.cover {
+    let most = cover_nodes(problem);
+    match find_cover_given(alloc, problem, input, most)?.cover {
         Some(_) => Ok(Some(Way::Cover(4))),
         None => Ok(None),
     }

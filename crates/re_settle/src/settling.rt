@@ -3,14 +3,15 @@ ghost use Rattle.re_given_words.specs.Counting.{MayTell};
 ghost use Rattle.re_chains.specs.ChainTexts.{problem_chain};
 ghost use Rattle.re_problem.specs.NamedProblems.{unnamed};
 ghost use Rattle.re_problem.specs.Zero.{zero_place};
-ghost use Rattle.re_settle.specs.Ways.{IsFixedPoint, IsFound, IsNever, IsUnclosed, IsUncounted, IsUnfixed};
+ghost use Rattle.re_settle.specs.Ways.{IsFixedPoint, IsFound, IsKnown, IsNever, IsUnclosed, IsUncounted, IsUnfixed};
 ghost use Rattle.std.specs.Prelude.{◌≡◌, ◌≤◌, IfOk, IfSome, None};
 
 use crate::bounds::{enough, long_way, longer, lower_way, short_way};
-use crate::counting::{MAX_ROUNDS, counted, more_way, steps_of};
+use crate::counting::{MAX_ROUNDS, counted, further_way, more_way, steps_of};
 use crate::never::{far_way, gadget_way, soon_way};
 use crate::types::{Settled, Shown, Way};
 use re_chains::{LowerChain, problem_chain};
+use re_evidence::Claim;
 use re_given_words::Counted;
 use re_labels::NoMemory;
 use re_problem::{Problem, zero_round};
@@ -80,6 +81,34 @@ fn exact(alloc: Global, problem: &Problem, rounds: u8, times: u8) -> Result<Sett
     }
 }
 
+// The bound below, or a longer one that is counted, where the bound above doesn't meet it.
+fn further(
+    alloc: Global,
+    problem: &Problem,
+    lower: Shown,
+    upper: Option<Shown>,
+    times: u8,
+) -> Result<Shown, NoMemory>
+    requires { IsKnown times problem.now (Claim.MoreThan lower.rounds) lower.way }
+    ensures { IfOk result (λ shown. IsKnown times problem.now (Claim.MoreThan shown.rounds) shown.way) }
+{
+    if let Some(upper) = upper {
+        if upper.rounds <= lower.rounds.saturating_add(1) {
+            return Ok(lower);
+        }
+    }
+    match further_way(alloc, problem, times)? {
+        Some(shown) => {
+            if lower.rounds < shown.rounds {
+                Ok(shown)
+            } else {
+                Ok(lower)
+            }
+        }
+        None => Ok(lower),
+    }
+}
+
 // Two bounds.
 fn bounded(
     alloc: Global,
@@ -101,6 +130,7 @@ fn bounded(
     let long = long_way(alloc, problem, chain, steps_of(counted), times)?;
     let lower = longer(problem, more, Some(long), times);
     let upper = short_way(alloc, problem, times)?;
+    let lower = further(alloc, problem, lower, upper, times)?;
     Ok(Settled::Within(lower, upper))
 }
 

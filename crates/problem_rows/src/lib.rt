@@ -1,4 +1,4 @@
-//! Worked rows of labels, configurations, constraints and maximal rows; of inputs, items, problems built by hand, maps as they are read, merged labels and
+//! Worked rows of clauses, labels, configurations, constraints and maximal rows; of inputs, items, problems built by hand, maps as they are read, merged labels and
 //! derived problems by their definition.
 #![tactic(auto)]
 
@@ -28,6 +28,8 @@ mod problems;
 mod reference;
 #[cfg(test)]
 mod rests;
+#[cfg(test)]
+mod satisfied_clauses;
 #[cfg(test)]
 mod set_rows;
 #[cfg(test)]

@@ -1,4 +1,4 @@
-//! The question of three rounds as clauses.
+//! The question of three rounds as clauses: each says something of sets that rows at the meetings have, or of active labels in them.
 ghost use Rattle.re_clauses.specs.Clauses.{IsSatisfiable, holds, satisfies};
 ghost use Rattle.re_labels.specs.Constraints.{Has};
 ghost use Rattle.re_labels.specs.Lists.{count_from};
@@ -18,13 +18,13 @@ use re_labels::{Config, Constraint, LabelSet, MAX_LABELS};
 use re_problem::Problem;
 use std::alloc::Global;
 
-/// How many clauses are made.
+/// How many clauses are made at most.
 const MAX_CLAUSES: usize = 2_000_000;
 
-/// How many variables they have.
+/// How many variables they have at most.
 const MAX_VARIABLES: u32 = 400_000;
 
-/// How many orders of labels are listed for either side.
+/// How many lists of labels, configurations in each order, are held for either side at most.
 const MAX_ORDERS: usize = 1_000_000;
 
 // The literal that the variable holds.

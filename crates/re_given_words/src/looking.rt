@@ -70,9 +70,9 @@ fn look_with(alloc: Global, problem: &Problem, rows: &[Row], most: u8) -> Result
 
 /// What is told of the rounds from 1 to the most without a derived problem: one round and two, by the maximal rows of the passive side,
 /// and whether three are too few, where two aren't told to be enough, by clauses that no sets satisfy. Nothing is told of one and two where
-/// there are more than `re_labels::MAX_ROWS` rows, and nothing of two where `find_rows` tells nothing, but that three are too few may be told
-/// there, too. That three are enough is never told. It costs what `re_step::maximal_rows`, `find_row`, `find_rows` and the search for sets that
-/// satisfy the clauses cost.
+/// there are more than `re_labels::MAX_ROWS` rows, and nothing of two where `find_rows` tells nothing; that three are too few may be told
+/// all the same. That three are enough is never told. It costs what `re_step::maximal_rows`, `find_row` and `find_rows` cost, and what the
+/// search for sets that satisfy the clauses does: up to 20,000 conflicts among up to 2,000,000 clauses.
 pub fn look_ahead(alloc: Global, problem: &Problem, most: u8) -> Result<Ahead, NoMemory>
     ensures { IfOk result (IsTold (unnamed problem.now) most) }
 {

@@ -10,10 +10,10 @@ use crate::tuples::{Tuple, push_with};
 use re_labels::{Config, NoMemory};
 use std::alloc::Global;
 
-/// How many meetings are listed.
+/// How many meetings are listed at most.
 const MAX_MEETINGS: usize = 100;
 
-/// How many choices of sets are listed.
+/// How many choices of sets are listed at most, with those of fewer spots on the way.
 const MAX_CHOICES: usize = 10_000;
 
 /// The ports of all spots: those of the types, one type behind the other.

@@ -15,7 +15,7 @@ use re_labels::NoMemory;
 use re_problem::Problem;
 use std::alloc::Global;
 
-/// How many conflicts the search for sets that satisfy the clauses may come to.
+/// How many conflicts the search for sets that satisfy the clauses comes to at most.
 const MAX_CONFLICTS: u32 = 20_000;
 
 // Whether no sets at the meetings show three rounds, as far as the search tells.
@@ -43,9 +43,9 @@ fn are_refuted(alloc: Global, problem: &Problem) -> Result<bool, TryFault>
 }
 
 /// What is told of three rounds, without the maximal rows. Sets at all meetings of spots that would show them are asked for as clauses, and
-/// a search that learns says whether these can be satisfied. Where they can't, three rounds are too few. Where they can, nothing is told;
-/// nor where there are more than 100 meetings, 10,000 choices of sets, 400,000 variables or 2,000,000 clauses, as with degrees above 3
-/// mostly, or after 20,000 conflicts.
+/// a search that learns says whether these can be satisfied. Where they can't, three rounds are too few. Where they can, nothing is told: so
+/// it is never told that three are enough. Nor is anything told where there are more than 100 meetings or 10,000 choices of sets, which is so
+/// with all degrees but 2 and 2, 3 and 2, and 2 and 3; nor past 400,000 variables, 2,000,000 clauses or 20,000 conflicts.
 pub(crate) fn find_meetings(alloc: Global, problem: &Problem) -> Result<Told, NoMemory>
     ensures few { IfOk result (λ told. told ≡ TooFew → Solvable (unnamed problem.now) 3 → ⊥) }
     ensures never { IfOk result (λ told. told ≡ Enough → ⊥) }

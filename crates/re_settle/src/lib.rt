@@ -25,8 +25,9 @@
 //! 6. Two bounds. The longest one of the rounds that were counted, of the steps behind it and of what `longest` finds, with 8 steps and 8 more for
 //!    each doubling of N, to problems of 12 labels in degrees up to 3, 8 in degree 4, 6 in degree 5 and 5 in degree 6, and 4, 2, 1 and 1 more for
 //!    each doubling. In degrees 5 and 2, of at most 8 N configurations, what `shortest 6 20` finds. Else what `shortest` finds, with 12 steps and 8
-//!    more for each doubling, to 8, 6, 4 and 4 labels, and 4, 2, 1 and 1 more for each doubling. Where the two don't meet, rounds are counted up to
-//!    `MORE_ROUNDS`, and where a step passes a limit, the problem before it, or the one before that, tells of up to three rounds more.
+//!    more for each doubling, to 8, 6, 4 and 4 labels, and 4, 2, 1 and 1 more for each doubling. Where the two don't meet, and `MAX_ROUNDS` are too few,
+//!    rounds are counted up to `MORE_ROUNDS`, and where a step passes a limit, the problem before it, or the one before that, tells of up to three
+//!    rounds more.
 //!
 //! Where a graph settles it, or no upper bound is found, and the degrees aren't both 2, more is found of the class by the first of these: whether the
 //! problem, or one of the two derived ones behind it, is greedy, as `explore greedy` finds; and then, behind a graph alone, whether some number of

@@ -81,7 +81,7 @@ fn exact(alloc: Global, problem: &Problem, rounds: u8, times: u8) -> Result<Sett
     }
 }
 
-// The bound below, or a longer one that is counted, where the bound above doesn't meet it.
+// The bound below, or a longer one that is counted, where it is `MAX_ROUNDS` or more, and the bound above doesn't meet it.
 fn further(
     alloc: Global,
     problem: &Problem,
@@ -92,6 +92,9 @@ fn further(
     requires { IsKnown times problem.now (Claim.MoreThan lower.rounds) lower.way }
     ensures { IfOk result (λ shown. IsKnown times problem.now (Claim.MoreThan shown.rounds) shown.way) }
 {
+    if lower.rounds < MAX_ROUNDS {
+        return Ok(lower);
+    }
     if let Some(upper) = upper {
         if upper.rounds <= lower.rounds.saturating_add(1) {
             return Ok(lower);

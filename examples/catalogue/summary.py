@@ -33,7 +33,7 @@ certificates that say more; `summary.py` wrote this page from the tables:
 
     examples/catalogue/problems.py 3 3 2 > LIST
     examples/catalogue/settle.sh EXPLORE LIST examples/catalogue/3-3-2.tsv
-    examples/catalogue/certificates.py RE examples/catalogue/3-3-2.tsv > TABLE
+    examples/catalogue/certificates.py RE EXPLORE examples/catalogue/3-3-2.tsv > TABLE
     examples/catalogue/given.sh RE EXPLORE examples/catalogue/3-3-2.tsv examples/catalogue/3-3-2.given
     examples/catalogue/check.sh RE EXPLORE
     examples/catalogue/summary.py > examples/catalogue/README.md

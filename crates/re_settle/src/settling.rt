@@ -133,8 +133,8 @@ fn bounded(
     let long = long_way(alloc, problem, chain, steps_of(counted), times)?;
     let lower = longer(problem, more, Some(long), times);
     let upper = short_way(alloc, problem, times)?;
-    let lower = further(alloc, problem, lower, upper, times)?;
-    Ok(Settled::Within(lower, upper))
+    let best = further(alloc, problem, lower, upper, times)?;
+    Ok(Settled::Within(best, upper))
 }
 
 // What is known where the closures that are tried show nothing.

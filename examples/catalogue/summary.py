@@ -67,10 +67,10 @@ and 4019, by a problem that has fewer configurations, and the lower one of 4829.
 and 7340, the upper ones of 4828, 5368 and 7217, and longer ones as good for 4333, 4621 and 7254. The lower ones of 3440, 6020 and 7160 are of the
 same search by a faster program, and that of 6138 of `hops.py` as it was before. The programs that found the other 9 aren't held.
 
-Where 8 hops are too few and two bounds don't meet, `settle` counts up to 9, three hops ahead of a step that passes a limit, by clauses that can't be
-satisfied; lines that are open still were asked `explore rounds 12`, which costs up to a minute (`certificates.py`). Certificates of as many steps
-weren't found: on the way of 3901 the seventh problem has 132 labels where 128 may stand, on that of 3350 48,559 maximal rows where 1,024 may. The
-solver says more: by it 1692 and 6099 take exactly 8 hops, 7217 takes exactly 7.
+Where 8 hops are too few and two bounds don't meet, `settle` counts up to 9, three hops ahead of a step that passes a limit: clauses that follow from
+so many being enough can't be satisfied. Lines that stay open were asked `explore rounds 12`, too, which costs up to two minutes
+(`certificates.py`). Certificates of as many steps weren't found: on the way of 3901 the seventh problem has 132 labels where 128 may stand, on that
+of 3350 it has 48,559 maximal rows where 1,024 may. The solver says more: by it 1692 and 6099 take exactly 8 hops.
 
 Given an input problem (`both`, an orientation by which edges lead into each active node and out of it; two `sides`; a
 colouring of the `edges`; a proper `colouring` with 4 colours), `explore settle` answers, or `explore given` of the

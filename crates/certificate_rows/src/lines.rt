@@ -5,8 +5,7 @@ ghost use Rattle.std.specs.Prelude.{◌≡◌, length};
 
 use re_cert::{Kind, SetEntry};
 use re_labels::{LabelSet, Name, Names, Row};
-use re_printing::push_row;
-use re_texts::{push_entry, push_header, push_pair};
+use re_texts::{push_entry, push_header, push_pair, push_row};
 use std::alloc::Global;
 use std::test::Fail;
 

@@ -3,7 +3,7 @@ use Rattle.std.proofs.Common.{◌≡◌, ℕ, suc, ◌+◌, ◌≤◌, ◌<◌, 
 use Rattle.std.specs.Prelude.{find, unwrap_or, nat_le}
 use Rattle.std.specs.List.{AllByRecursion, list_any, position_or_len}
 use Rattle.std.proofs.lemmas.Bool.Decides.{nat_tests}
-use Rattle.std.proofs.lemmas.List.{drop_all, get_or_default, length-map}
+use Rattle.std.proofs.lemmas.List.{get_or_default, length-map}
 use Rattle.std.proofs.lemmas.List.Elements.{Contains-get_or}
 use Rattle.re_labels.proofs.Placing.{Dominates-dominates, covers_step, dominates-Dominates, get_or-placed, length-placed}
 use Rattle.re_labels.proofs.Rearranging.{AllZip-Rearranged, Rearranged-sym, length-Rearranged}
@@ -47,12 +47,6 @@ holds_more sets others order i place set other even below place_is set_is other_
     covers_step (placed sets order) others i (omega (arith, length-placed sets order)) (omega arith)
     ∙ (ap (λ s. within s (get_or (placed sets order) i []) && covers (drop (i + 1) (placed sets order)) (drop (i + 1) others)) (sym other_is)
     ∙ ap (λ s. within other s && covers (drop (i + 1) (placed sets order)) (drop (i + 1) others)) set_at)
-
-pub holds_all : (sets others : List (List ℕ)) (order : List ℕ) (i : ℕ) → length order ≡ length others → length order ≤ i → covers (drop i (placed sets order)) (drop i others) ≡ true
-holds_all sets others order i even past =
-    let first : drop i (placed sets order) ≡ [] = drop_all i (placed sets order) (omega (arith, length-placed sets order)) in
-    let second : drop i others ≡ [] = drop_all i others (omega arith) in
-    rw (first, second) refl
 
 -- where two tests agree, they pass first at one place
 pub position-same : {A : Type 0} (p q : A → Bool) (xs : List A) → ((x : A) → p x ≡ q x) → position_or_len p xs ≡ position_or_len q xs

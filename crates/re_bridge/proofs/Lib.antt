@@ -1,10 +1,12 @@
 pub mod Beginnings
 pub mod Bridging
 pub mod FewestImages
+pub mod Fitting
 pub mod LeastLabels
 pub mod MapTests
 pub mod MapWalks
 pub mod Meeting
+pub mod MoreSteps
 pub mod RowBeginnings
 pub mod RowTests
 pub mod SetTests

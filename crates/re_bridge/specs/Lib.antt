@@ -1,3 +1,4 @@
+pub mod Bridged
 pub mod Bridges
 pub mod Laws
 pub mod Reductions

@@ -1,7 +1,9 @@
 //! What walks over lists of labels find: bridges, the map of a lower step from one problem to another, and reductions, the map of a problem
-//! into itself with the fewest images.
+//! into itself with the fewest images. And a chain of kind lower led on over a bridge.
 #![tactic(auto)]
 
+mod appending;
+mod bridging;
 mod by_row;
 mod by_set;
 mod finding;
@@ -13,6 +15,8 @@ mod within;
 ghost use Rattle.re_bridge.specs.Laws.{BridgeLaw};
 ghost use Rattle.re_bridge.specs.Reductions.{LeastLabelsLaw, ReducedRoundsLaw, ReductionLaw};
 
+pub use appending::appended;
+pub use bridging::bridge;
 pub use finding::{BridgeFault, find_bridge};
 pub use reducing::{ReduceFault, reduce};
 

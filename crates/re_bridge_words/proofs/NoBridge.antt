@@ -1,6 +1,5 @@
 -- What the answer `no` means.
-use Rattle.std.proofs.Common.{◌≡◌, ℕ, suc, Bool, true, false, eqb, List, ◌++◌, length, slice_index_or, Option, Some, None, refl, sym, ap, ◌∙◌, codes, subst, arith}
-use Rattle.std.specs.Fmt.{decimal}
+use Rattle.std.proofs.Common.{◌≡◌, ℕ, suc, Bool, true, false, eqb, List, length, Option, Some, None, refl, sym, ap, ◌∙◌, codes, subst}
 use Rattle.std.specs.Prelude.{if◌then◌else◌, nat_lt}
 use Rattle.re_problem.specs.declared.fault.InputFault.{InputFault}
 use Rattle.re_problem.specs.NamedProblems.{IsNamedProblem, NamedProblem, unnamed}
@@ -9,19 +8,17 @@ use Rattle.re_cert.specs.Bounds.{Bound, last_problem}
 use Rattle.re_cert.specs.declared.certificate.Kind.{Kind}
 use Rattle.re_cert.specs.declared.certificate.Kind.TheVariants.{Fixed, Lower, Upper}
 use Rattle.re_cert.specs.declared.certificate.TheConstants.{MAX_STEPS}
-use Rattle.re_check.specs.declared.clause.Clause.{Clause}
 use Rattle.re_check.specs.declared.verdict.Verdict.{Verdict}
-use Rattle.re_check.specs.declared.verdict.Verdict.TheVariants.{Accepted, Refused}
 use Rattle.re_frame.proofs.Said.{fault_says}
-use Rattle.re_frame.specs.Check.{clause_name, is_final, verdict_outcome}
 use Rattle.re_frame.specs.Outcomes.{Outcome, limit, limit_of, refused}
 use Rattle.re_frame.specs.Runs.{MaySay}
 use Rattle.re_limits.specs.StepLimits.{limit_line}
 use Rattle.re_frame.specs.TextFaults.{fault_outcome}
-use Rattle.re_frame.specs.declared.status.Status.TheVariants.{Done, Limit, No}
+use Rattle.re_frame.specs.declared.status.Status.TheVariants.{Limit, No}
 use Rattle.re_step.specs.declared.derivation.StepLimit.TheVariants.{Rows}
 use Rattle.re_labels.proofs.Tests.{eqb-same, true-and}
 use Rattle.re_check.specs.Clauses.{are_exchanged}
+use Rattle.re_settings.proofs.GivenMeans.{verdict_isnt}
 use Rattle.re_settings.specs.Fits.{fit_walk}
 use Rattle.re_settings.specs.Laws.{TellsUpper, UpperWalkLaw}
 use Rattle.re_given.specs.Inputs.{exchanged}
@@ -31,7 +28,8 @@ use Rattle.re_bridge.specs.Laws.{BridgeLaw, IsBridge, Meets}
 use Rattle.std.proofs.lemmas.Bool.{false≢true}
 use Rattle.re_chains.proofs.WordsGiven.{certificate_says}
 use Rattle.re_chains.specs.OverChains.{certificate_outcome, or_refusal, steps_refusal}
-use Rattle.re_bridge_words.specs.Bridged.{bridged, sets_by, upper_bridged, upper_walk}
+use Rattle.re_bridge.specs.Bridged.{bridged}
+use Rattle.re_bridge_words.specs.UpperBridged.{sets_by, upper_bridged, upper_walk}
 use Rattle.re_bridge_words.specs.BridgeWords.{kind_outcome, over_bridge, over_walk, sound_outcome}
 use Rattle.re_bridge_words.specs.Laws.{NoLaw, NoLonger, NoStep, NoUpperLaw}
 use Rattle.re_bridge_words.specs.declared.answering.TheConstants.{MAX_TRIES}
@@ -78,21 +76,9 @@ no_upper law next chain last to e =
     no_sets next chain (nat_lt (length chain.steps) MAX_STEPS) (upper_walk (last_problem chain) next MAX_TRIES) (walk_none law (last_problem chain) next MAX_TRIES last to) e
 
 -- ---- what stands before
--- a fault isn't `no`, nor is a verdict
+-- a fault isn't `no`
 pub fault_isnt : (fault : InputFault) → fault_outcome fault ≡ refused (codes "no\n") → ⊥
 fault_isnt fault e = false≢true (subst (λ s. MaySay s false) (ap (λ (o : Outcome). o.status) e) (fault_says fault false))
-
-apart : (a b : ℕ) → a ≡ b → a ≡ 114 → b ≡ 110 → ⊥
-apart a b e f g = omega (arith, e, f, g)
-
-line_isnt : (final : Bool) (step : ℕ) (clause : Clause)
-    → (if final then codes "refused: clause " ++ clause_name clause ++ codes "\n" else codes "refused: step " ++ decimal step ++ codes ", clause " ++ clause_name clause ++ codes "\n") ≡ codes "no\n" → ⊥
-line_isnt true step clause e = apart _ _ (ap (λ t. slice_index_or t 0 0) e) refl refl
-line_isnt false step clause e = apart _ _ (ap (λ t. slice_index_or t 0 0) e) refl refl
-
-verdict_isnt : (verdict : Verdict) → verdict_outcome verdict ≡ refused (codes "no\n") → ⊥
-verdict_isnt (Accepted kind steps) e = let differ : Done ≡ No = ap (λ (o : Outcome). o.status) e in cc
-verdict_isnt (Refused step clause) e = line_isnt (is_final clause) step clause (ap (λ (o : Outcome). o.text) e)
 
 -- ---- over a chain
 module _ (lower : NoLaw) (upper : NoUpperLaw) (next : NamedProblem) (chain : Bound) (last : IsNamedProblem (last_problem chain)) (to : IsNamedProblem next) where

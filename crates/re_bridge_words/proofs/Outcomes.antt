@@ -29,7 +29,8 @@ use Rattle.re_inputs.specs.NamedProducts.{named_product, product_fault}
 use Rattle.re_inputs.specs.declared.products.ProductFault.{ProductFault}
 use Rattle.re_inputs.specs.declared.products.ProductFault.TheVariants.{Nameless, NoMemory, TooManyConfigurations, TooManyLabels}
 use Rattle.re_chains.specs.TwoTexts.{back_problem, front_bound, has_line, two_fault}
-use Rattle.re_bridge_words.specs.Bridged.{bridged, sets_by, upper_bridged, upper_walk}
+use Rattle.re_bridge.specs.Bridged.{bridged}
+use Rattle.re_bridge_words.specs.UpperBridged.{sets_by, upper_bridged, upper_walk}
 use Rattle.re_bridge_words.specs.BridgeWords.{bridge_outcome, kind_outcome, over_bridge, over_walk, sound_outcome, text_outcome, upper_outcome}
 use Rattle.re_bridge_words.specs.Answers.{word_outcome}
 use Rattle.re_bridge_words.specs.ReduceWords.{given_outcome, outcome_by, plain_outcome, reduce_outcome, reduced_given, reduced_outcome, reduced_product}

@@ -20,7 +20,7 @@ use Rattle.re_check.specs.Clauses.{step_fault}
 use Rattle.re_check.specs.ClauseLaws.{UpperStepLaw}
 use Rattle.re_changes.proofs.Counted.{pushed}
 use Rattle.re_settings.specs.Fits.{entries_of}
-use Rattle.re_bridge_words.specs.Bridged.{upper_bridged, upper_step}
+use Rattle.re_bridge_words.specs.UpperBridged.{upper_bridged, upper_step}
 
 rising-sets : (n : ℕ) (sets : List (List ℕ)) → AllByRecursion (λ s. IsLabelSet n s × (0 < length s)) sets → AllByRecursion (IsRising (λ x y. x < y)) sets
 rising-sets n [] all = tt

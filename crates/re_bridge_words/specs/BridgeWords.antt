@@ -12,7 +12,8 @@ use Rattle.re_limits.specs.StepLimits.{limit_line}
 use Rattle.re_step.specs.declared.derivation.StepLimit.TheVariants.{Rows}
 use Rattle.re_walks.specs.Walking.{Walk, cut, found, nowhere}
 use Rattle.re_bridge.specs.Bridges.{Bridge, bridge_of, cut_off, has_many_rows, missing, over}
-use Rattle.re_bridge_words.specs.Bridged.{IsBridged, IsUpperBridged, bridged, sets_by, upper_bridged, upper_walk}
+use Rattle.re_bridge.specs.Bridged.{IsBridged, bridged}
+use Rattle.re_bridge_words.specs.UpperBridged.{IsUpperBridged, sets_by, upper_bridged, upper_walk}
 use Rattle.re_chains.specs.TwoTexts.{back_problem, front_bound, two_fault}
 use Rattle.re_bridge_words.specs.declared.answering.TheConstants.{MAX_TRIES}
 

@@ -1,5 +1,5 @@
 pub mod Answers
 pub mod BridgeWords
-pub mod Bridged
 pub mod Laws
 pub mod ReduceWords
+pub mod UpperBridged

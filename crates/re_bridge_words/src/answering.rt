@@ -12,8 +12,8 @@ ghost use Rattle.re_frame.specs.declared.status.Status.TheVariants.{Done};
 ghost use Rattle.re_io.specs.declared.read.TheConstants.{MAX_BYTES};
 ghost use Rattle.std.specs.Prelude.{◌≡◌, ◌<◌, ◌≤◌, IfOk, codes, length};
 
-use crate::{bridge, bridge_upper, no_law, no_upper_law};
-use re_bridge::BridgeFault;
+use crate::{bridge_upper, no_law, no_upper_law};
+use re_bridge::{BridgeFault, bridge};
 use re_cert::{Certificate, Kind, MAX_STEPS};
 use re_chains::{
     Chain, LowerChain, UpperChain, certificate_output, chain, judged_chain, next_number, read_two,

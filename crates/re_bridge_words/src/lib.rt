@@ -2,8 +2,6 @@
 #![tactic(auto)]
 
 mod answering;
-mod appending;
-mod bridging;
 mod reducing;
 mod upper;
 mod words;
@@ -12,7 +10,6 @@ ghost use Rattle.re_bridge_words.specs.Laws.{NoLaw, NoUpperLaw};
 ghost use Rattle.re_bridge_words.specs.ReduceWords.{ReducedGivenLaw};
 
 pub use answering::MAX_TRIES;
-pub use bridging::bridge;
 use re_bridge::bridge_law;
 use re_settings::upper_walk_law;
 pub use upper::bridge_upper;

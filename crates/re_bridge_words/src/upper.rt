@@ -1,5 +1,5 @@
 //! A chain of kind upper led on to a given problem.
-ghost use Rattle.re_bridge_words.specs.Bridged.{IsUpperBridged, upper_bridged, upper_walk};
+ghost use Rattle.re_bridge_words.specs.UpperBridged.{IsUpperBridged, upper_bridged, upper_walk};
 ghost use Rattle.re_cert.specs.Bounds.{last_problem, one_form, step_fits, step_with};
 ghost use Rattle.re_chains.specs.Chains.{IsSoundChain, chain_with};
 ghost use Rattle.re_check.specs.Clauses.{step_fault};
@@ -10,7 +10,7 @@ ghost use Rattle.re_problem.specs.Steps.{IsUpperStep};
 ghost use Rattle.re_walks.specs.Walking.{cut};
 ghost use Rattle.std.specs.Prelude.{◌≡◌, ◌<◌, ◌≤◌, ◌++◌, ◌∷◌, [], Err, IfOk, None, length, true};
 
-use crate::appending::appended;
+use re_bridge::appended;
 use re_cert::{Certificate, Kind, MAX_STEPS, SetEntry, Step, StepParts};
 use re_chains::{UpperChain, over_problems};
 use re_check::{are_exchanged, upper_step_law};

@@ -146,10 +146,6 @@ sound_given bound made chain outcome same is sound gives finished = record {
   sound = subst IsSoundChain is sound;
 }
 
--- an outcome that isn't Done gives no text
-pub none_given : (chain : Bound) (outcome given : Outcome) → outcome ≡ given → (given.status ≡ status.Done → ⊥) → GivesSound chain outcome
-none_given chain outcome given is other finished = absurd (other (sym (ap (λ (o : Outcome). o.status) is) ∙ finished))
-
 -- ---- what is known of a call
 pub both_ok : {A E : Type 0} (P Q R : A → Type 0) (r : Result A E) → IfOk r P → IfOk r Q → ((x : A) → P x → Q x → R x) → IfOk r R
 both_ok P Q R (Ok x) p q make = make x p q

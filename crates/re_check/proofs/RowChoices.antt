@@ -157,15 +157,8 @@ over-one done e x = split ∙ by_test (has e.set x)
 abbrev pub OverMore : ℕ → List ℕ → List ℕ → List SetEntry → Type 0
 OverMore x over new more = (done : List SetEntry) → over ≡ labels_over done x → new ≡ labels_over (done ++ more) x
 
-pub over-same : (x : ℕ) (over : List ℕ) → OverMore x over over []
-over-same x over done e = e ∙ ap (λ fs. labels_over fs x) (sym (append-nil done))
-
 over-then : (x : ℕ) (over middle new : List ℕ) (more behind : List SetEntry) → OverMore x over middle more → OverMore x middle new behind → OverMore x over new (more ++ behind)
 over-then x over middle new more behind first second done e = second (done ++ more) (first done e) ∙ ap (λ fs. labels_over fs x) (append_assoc done more behind)
-
-pub row-none : (x : ℕ) (over : List ℕ) (sets : List (List ℕ)) (labels : List ℕ) → length sets < 1 → OverMore x over over (row_entries sets labels)
-row-none x over [] labels none = over-same x over
-row-none x over (s ∷ sets) labels none = absurd (omega arith)
 
 pub row-more : (x : ℕ) (over new result set : List ℕ) (others sets : List (List ℕ)) (label : ℕ) (more labels : List ℕ) → set ∷ others ≡ sets → label ∷ more ≡ labels → new ≡ cond (has set x) (with_label over label) over
     → OverMore x new result (row_entries others more) → OverMore x over result (row_entries sets labels)

@@ -75,11 +75,6 @@ module _ (passes : List ℕ → Bool) (drawn next first : List ℕ) (others : Li
       go None e h = subst (λ o. IsDrawn (first_some (option_map (λ labels. label ∷ labels) o) (first_passing passes drawn (without_label first label ∷ others))) drawn r' new) e later'
       go (Some labels) e h = absurd (true≢false (sym h.0 ∙ is))
 
--- where no choice is found, the drawn labels are what they were
-pub unchanged : (o : Option (List ℕ)) (drawn new : List ℕ) (r : Bool) → r ≡ false → IsDrawn o drawn r new → new ≡ drawn
-unchanged None drawn new r is h = h.1
-unchanged (Some labels) drawn new r is h = absurd (true≢false (sym h.0 ∙ is))
-
 -- what the whole walk leaves
 pub chosen_some : (o : Option (List ℕ)) (new : List ℕ) (r : Bool) → r ≡ true → IsDrawn o [] r new → Some new ≡ o
 chosen_some None new r is h = absurd (true≢false (sym is ∙ h.0))

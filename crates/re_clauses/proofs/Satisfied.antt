@@ -12,7 +12,3 @@ satisfied_at values (clause ∷ clauses) (suc i) some are = satisfied_at values 
 pub satisfied_behind : (values : ℕ → Bool) (clauses : List (List ℕ)) (clause : List ℕ) → Satisfies values clauses → satisfies values clause ≡ true → Satisfies values (clauses ++ clause ∷ [])
 satisfied_behind values [] clause are is = (is, tt)
 satisfied_behind values (first ∷ clauses) clause are is = (are.0, satisfied_behind values clauses clause are.1 is)
-
-pub satisfied_parts : (values : ℕ → Bool) (clauses : List (List ℕ)) (clause : List ℕ) → Satisfies values (clauses ++ clause ∷ []) → Satisfies values clauses × (satisfies values clause ≡ true)
-satisfied_parts values [] clause are = (tt, are.0)
-satisfied_parts values (first ∷ clauses) clause are = let parts = satisfied_parts values clauses clause are.1 in ((are.0, parts.0), parts.1)

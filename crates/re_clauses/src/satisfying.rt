@@ -34,6 +34,9 @@ fn settle_all(derivation: &mut Derivation, search: &Search, from: usize) -> usiz
 
 /// Whether all of the clauses can be satisfied. The search decides on the first so many variables, the most active one first, and on others
 /// only when these are told. It learns a clause from each conflict, of which it takes so many before it gives up.
+///
+/// It keeps some numbers for each variable up to the greatest one, each literal of the clauses once more, and each learned clause: so its memory
+/// grows with the greatest variable, too.
 pub fn satisfy(
     alloc: Global,
     clauses: &Clauses,

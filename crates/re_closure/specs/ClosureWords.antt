@@ -43,7 +43,7 @@ use Rattle.re_labels.specs.declared.TheConstants.{MAX_LABELS}
 use Rattle.re_frame.specs.SearchLines.{not_lower_line, solvable_line}
 use Rattle.re_limits.specs.StepLimits.{limit_line as step_line}
 use Rattle.re_frame.specs.TextFaults.{fault_outcome}
-use Rattle.re_printing.specs.SetTexts.{row_text}
+use Rattle.re_texts.specs.SetTexts.{row_text}
 
 -- the number of steps, if it is one of at most eight
 abbrev pub closure_with : Option ℕ → Option ClosureWord

@@ -1,12 +1,12 @@
 //! Sets, one behind the other.
 ghost use Rattle.re_labels.specs.Sets.{IsLabelSet, number};
-ghost use Rattle.re_printing.specs.SetTexts.{PushesSetRun, row_text};
+ghost use Rattle.re_texts.specs.SetTexts.{PushesSetRun, row_text};
 ghost use Rattle.std.specs.List.{AllByRecursion};
 ghost use Rattle.std.specs.Prelude.{◌≡◌, ◌≤◌, ◌<◌, ◌+◌, ◌++◌, IfOk, OnOk, length, map};
 
 use re_labels::{LabelSet, Names, NoMemory};
-use re_printing::{push_set, run_length};
 use re_problem::push_power;
+use re_texts::{push_set, run_length};
 use std::alloc::Global;
 
 // The numbers of the sets.

@@ -27,10 +27,6 @@ max_spells constraint n is =
     let closed = (closure_law constraint n (max_rows constraint n) is).1 refl in
     record { good = λ row held. (closed.good row held).1; whole = closed.configs }
 
-pub labels_below : (d n : ℕ) (configs : List (List ℕ)) → AllByRecursion (IsConfig d n) configs → AllByRecursion (AllByRecursion (λ label. label < n)) configs
-labels_below d n [] h = tt
-labels_below d n (c ∷ configs) h = (h.0.below, labels_below d n configs h.1)
-
 -- ---- each configuration alone
 filled_alone : (config : List ℕ) → AllByRecursion (λ s. 0 < length s) (singles config)
 filled_alone [] = tt

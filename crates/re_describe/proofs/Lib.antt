@@ -1,7 +1,6 @@
 pub mod Covering
 pub mod Grouping
 pub mod Growing
-pub mod Lines
 pub mod Thinning
 mod Drawn
 mod PartsSaid

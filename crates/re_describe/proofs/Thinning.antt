@@ -12,8 +12,6 @@ use Rattle.re_labels.specs.declared.TheConstants.{MAX_LABELS}
 use Rattle.re_describe.specs.Meanings.{AreWeakest, IsAbove}
 
 -- ---- tests
-pub absent : (set : List ℕ) (x : ℕ) → has set x ≡ false → IsIn x set → ⊥
-absent set x lacks held = let both : false ≡ true = sym lacks ∙ IsIn-has set x held in cc
 
 pub has_told : (set : List ℕ) (x : ℕ) (r : Bool) → r ≡ has set x → IsTrue r ↔ IsIn x set
 has_told set x r is = ((λ t. has-IsIn set x (sym is ∙ t)), (λ i. is ∙ IsIn-has set x i))

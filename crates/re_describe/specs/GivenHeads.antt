@@ -3,7 +3,7 @@ use Rattle.std.specs.Prelude.{ℕ, ◌==◌, ◌-◌, Bool, true, false, List, [
 use Rattle.std.specs.Fmt.{decimal}
 use Rattle.re_cert.specs.declared.certificate.Kind.{Kind}
 use Rattle.re_cert.specs.declared.certificate.Kind.TheVariants.{Fixed, Lower, Upper}
-use Rattle.re_evidence.specs.GraphRounds.{rounds_above, rounds_below}
+use Rattle.re_laws.specs.Rounds.{rounds_above, rounds_below}
 use Rattle.re_describe.specs.Heads.{at_most, in_all}
 
 -- ---- lines that stand as they are

@@ -4,7 +4,7 @@ use Rattle.std.specs.Fmt.{decimal}
 use Rattle.re_cert.specs.declared.certificate.Kind.TheVariants.{Fixed, Lower, Upper}
 use Rattle.re_check.specs.declared.verdict.Verdict.{Verdict}
 use Rattle.re_check.specs.declared.verdict.Verdict.TheVariants.{Accepted, Refused}
-use Rattle.re_evidence.specs.GraphRounds.{rounds_above, rounds_below}
+use Rattle.re_laws.specs.Rounds.{rounds_above, rounds_below}
 use Rattle.re_problem.specs.NamedProblems.{NamedProblem}
 use Rattle.re_labels.specs.Constraints.{Constraint}
 

@@ -8,8 +8,8 @@ use crate::pieces::push_item;
 use arrayvec::ArrayVec;
 use re_frame::push_words;
 use re_labels::{LabelSet, Names, NoMemory};
-use re_printing::run_length;
 use re_problem::push_power;
+use re_texts::run_length;
 
 // The numbers of the sets.
 fn numbers_of(sets: &[LabelSet]) -> ArrayVec<u128, 6>

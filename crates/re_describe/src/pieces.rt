@@ -2,7 +2,7 @@
 ghost use Rattle.re_describe.specs.Pieces.{gap, group_text, image_text, index_of, item_text, listed, places_text, shown};
 ghost use Rattle.re_labels.specs.Sets.{IsLabelSet};
 ghost use Rattle.re_labels.specs.declared.TheConstants.{MAX_LABELS};
-ghost use Rattle.re_printing.specs.SetTexts.{named_text};
+ghost use Rattle.re_texts.specs.SetTexts.{named_text};
 ghost use Rattle.std.specs.Fmt.{decimal};
 ghost use Rattle.std.specs.Prelude.{◌≡◌, ◌++◌, IfOk, OnOk, codes, flat_map};
 

@@ -1,7 +1,7 @@
 -- Two hops are one round of the graph.
 use Rattle.std.proofs.Common.{ℕ, ◌*◌, ◌<◌, ◌≤◌, arith}
 use Rattle.re_evidence.proofs.VerdictRounds.{solvable_above, twice_below}
-use Rattle.re_evidence.specs.GraphRounds.{rounds_above}
+use Rattle.re_laws.specs.Rounds.{rounds_above}
 use Rattle.re_given.proofs.ChainGiven.{SolvableGiven-up}
 use Rattle.re_settings.specs.Settings.{IsSettingOf, SolvableIn}
 use Rattle.re_settings.specs.declared.setting.Setting.{Setting}

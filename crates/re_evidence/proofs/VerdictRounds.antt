@@ -5,7 +5,8 @@ use Rattle.re_check.specs.declared.verdict.Verdict.TheVariants.{Accepted, Refuse
 use Rattle.re_laws.proofs.MoreRounds.{Solvable-more}
 use Rattle.re_laws.specs.Algorithms.{Solvable}
 use Rattle.re_problem.specs.Problems.{Problem}
-use Rattle.re_evidence.specs.GraphRounds.{GraphLaw, GraphSolvable, rounds_above, rounds_below}
+use Rattle.re_evidence.specs.GraphRounds.{GraphLaw}
+use Rattle.re_laws.specs.Rounds.{GraphSolvable, rounds_above, rounds_below}
 
 -- twice the half that is rounded up is the number, or the next one
 same_or_next : (m : ℕ) → (2 * rounds_above m ≡ m) ⊎ (2 * rounds_above m ≡ suc m)

@@ -1,5 +1,5 @@
--- Rounds of the graph whose edges the passive nodes are: two hops are one round.
-use Rattle.std.specs.Prelude.{ℕ, ◌*◌, ◌+◌, ◌/◌, ◌<◌, ◌≤◌}
+-- What verdicts and claims say in rounds of the graph whose edges the passive nodes are.
+use Rattle.std.specs.Prelude.{ℕ, ◌*◌, ◌<◌, ◌≤◌}
 use Rattle.re_cert.specs.declared.certificate.Kind.TheVariants.{Fixed, Lower, Upper}
 use Rattle.re_check.specs.Verdicts.{Means}
 use Rattle.re_check.specs.declared.verdict.Verdict.TheVariants.{Accepted, Refused}
@@ -9,21 +9,8 @@ use Rattle.re_evidence.specs.declared.types.Claim.TheVariants.{AtMost, Between, 
 use Rattle.re_evidence.specs.declared.types.Claim.{Claim}
 use Rattle.re_settings.specs.Settings.{IsSettingOf, SolvableIn}
 use Rattle.re_settings.specs.declared.setting.Setting.{Setting}
-use Rattle.re_laws.specs.Algorithms.{Solvable}
+use Rattle.re_laws.specs.Rounds.{GraphSolvable, rounds_above, rounds_below}
 use Rattle.re_problem.specs.Problems.{Problem}
-
--- ---- hops and rounds
--- some algorithm of so many rounds of the graph solves the problem
-abbrev pub GraphSolvable : Problem → ℕ → Type 0
-GraphSolvable problem rounds = Solvable problem (2 * rounds)
-
--- what isn't solvable in so many or fewer hops isn't in so many or fewer rounds
-abbrev pub rounds_below : ℕ → ℕ
-rounds_below hops = hops / 2
-
--- what is solvable in so many hops is in so many rounds
-abbrev pub rounds_above : ℕ → ℕ
-rounds_above hops = (hops + 1) / 2
 
 -- what a verdict says of the first problem in rounds of the graph
 abbrev pub GraphMeans : Verdict → Problem → Type 0

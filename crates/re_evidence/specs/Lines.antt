@@ -1,7 +1,7 @@
 -- The words for claims and classes.
 use Rattle.std.specs.Prelude.{ℕ, ◌==◌, List, ◌++◌, codes, if◌then◌else◌, Option, None, Some}
 use Rattle.std.specs.Fmt.{decimal}
-use Rattle.re_evidence.specs.GraphRounds.{rounds_above, rounds_below}
+use Rattle.re_laws.specs.Rounds.{rounds_above, rounds_below}
 use Rattle.re_evidence.specs.declared.types.Claim.{Claim}
 use Rattle.re_evidence.specs.declared.types.Claim.TheVariants.{AtMost, Between, Exactly, MoreThan, Never}
 use Rattle.re_evidence.specs.declared.types.Class.{Class}

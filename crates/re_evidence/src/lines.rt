@@ -1,5 +1,5 @@
 //! The words for claims and classes.
-ghost use Rattle.re_evidence.specs.GraphRounds.{rounds_above, rounds_below};
+ghost use Rattle.re_laws.specs.Rounds.{rounds_above, rounds_below};
 ghost use Rattle.re_evidence.specs.Lines.{alone_text, bounds_text, claim_text, class_text, graph_part, least_text, most_text, order_text, rounds_text};
 ghost use Rattle.std.specs.Fmt.{decimal};
 ghost use Rattle.std.specs.Prelude.{◌≡◌, ◌++◌, OnOk, codes};

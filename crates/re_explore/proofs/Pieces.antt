@@ -1,5 +1,5 @@
 -- What is put piece by piece is what may be told together.
-use Rattle.std.proofs.Common.{◌≡◌, ◌≢◌, ◌≤◌, ◌∙◌, ℕ, ◌+◌, true, false, List, [], ◌∷◌, ◌++◌, length, take, min, refl, sym, ap, subst, arith, Option, Some, append_assoc, ◌⊎◌, inl, inr}
+use Rattle.std.proofs.Common.{◌≡◌, ◌≢◌, ◌∙◌, ℕ, ◌+◌, true, false, List, [], ◌∷◌, ◌++◌, length, take, min, sym, ap, subst, arith, Option, Some, ◌⊎◌, inl, inr}
 use Rattle.std.proofs.KnownBytes.{Appends-kept, Appends-trans}
 use Rattle.std.proofs.Math.Nat.{min-le_right}
 use Rattle.std.proofs.Math.Seq.{take-append-add}
@@ -10,11 +10,10 @@ use Rattle.re_frame.specs.Outcomes.{outcome_of, status_of}
 use Rattle.re_frame.specs.Runs.{Answers, MaySay, StopsWithin}
 use Rattle.re_frame.specs.declared.status.Status.{Status}
 use Rattle.re_io.specs.Sink.{AppendsPrefix}
-use Rattle.re_io.specs.declared.read.TheConstants.{MAX_BYTES}
 use Rattle.re_settle.proofs.Saying.{either_says, either_status, either_text}
 use Rattle.re_settle.specs.Answers.{by_claim}
 use Rattle.re_settle.specs.Claims.{claim_of}
-use Rattle.re_settle.specs.Pieces.{IsEnded, MayFollow, MayTell, Says as SaysWhole, front_of, told}
+use Rattle.re_settle.specs.Pieces.{IsEnded, MayFollow, Says as SaysWhole, front_of, told}
 use Rattle.re_settle.specs.declared.claimed.Claimed.{Claimed}
 use Rattle.re_settle.specs.declared.claimed.Telling.{Telling}
 use Rattle.re_settle.specs.declared.claimed.Telling.TheVariants.{Claims, Whole}
@@ -96,11 +95,6 @@ claims_ahead command (word, is) not = absurd (let wrong : true ≡ false = sym (
 pub claimed_by : (words : List (List ℕ)) (word : SettleWord) (bytes : List ℕ) (claimed : Claimed) → Some (Reads (Settles word)) ≡ command_of words → IsClaimedIn word bytes claimed
     → IsClaimedBy words bytes claimed
 claimed_by words word bytes claimed named claim = record { word = word; named = sym named; claim = claim }
-
--- what is told of a text that isn't too long is told of the input
-pub told_input : (word : SettleWord) (bytes : List ℕ) (telling : Telling) → length bytes ≤ MAX_BYTES → MayTell word bytes telling → MayTellInput word bytes telling
-told_input word bytes (Whole output) few may = record { beyond = λ many. absurd (omega (arith, many, few)); within = λ _. may }
-told_input word bytes (Claims claimed) few may = record { few = few; claim = may }
 
 -- and by the words that name `settle`
 pub told_by_words : (words : List (List ℕ)) (word : SettleWord) (bytes : List ℕ) (telling : Telling) → Some (Reads (Settles word)) ≡ command_of words → MayTellInput word bytes telling

@@ -1,6 +1,6 @@
 -- What a run may say, by the words alone.
-use Rattle.std.proofs.Common.{◌≡◌, ◌≢◌, ◌++◌, append_assoc, ℕ, List, Option, Some, None, Result, Ok, Err, refl, sym, ap, ◌∙◌, subst}
-use Rattle.std.specs.Prelude.{IfOk, IsTrue}
+use Rattle.std.proofs.Common.{◌≡◌, ◌≢◌, ◌++◌, append_assoc, ℕ, List, Option, Some, None, refl, sym, ap, ◌∙◌, subst}
+use Rattle.std.specs.Prelude.{IsTrue}
 use Rattle.re_frame.specs.Outcomes.{IsAnswer, Outcome, outcome_of, status_of}
 use Rattle.re_frame.specs.Runs.{MaySay}
 use Rattle.re_frame.specs.declared.output.Output.{Output}
@@ -12,11 +12,6 @@ use Rattle.re_explore.specs.declared.command.Command.{Command}
 
 pub says_none : (words : List (List ℕ)) (output : Output) → None ≡ command_of words → outcome_of output ≡ bad_words words → Says (status_of output.answer) (command_of words)
 says_none words output is bad = subst (Says (status_of output.answer)) is (ap (λ (o : Outcome). o.status) bad)
-
-pub says_of : {E : Type 0} (words : List (List ℕ)) (command : Command) (result : Result Output E) → Some command ≡ command_of words
-    → IfOk result (λ output. MaySay (status_of output.answer) (is_judging (Some command))) → IfOk result (λ output. Says (status_of output.answer) (command_of words))
-says_of words command (Ok output) is says = subst (Says (status_of output.answer)) is says
-says_of words command (Err fault) is says = tt
 
 pub says_by : (words : List (List ℕ)) (command : Command) (status : Status) → Some command ≡ command_of words → MaySay status (is_judging (Some command)) → Says status (command_of words)
 says_by words command status is says = subst (Says status) is says

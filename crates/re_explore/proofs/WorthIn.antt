@@ -17,7 +17,7 @@ use Rattle.re_check.specs.declared.verdict.Verdict.TheVariants.{Accepted}
 use Rattle.re_frame.specs.Check.{verdict_outcome}
 use Rattle.re_frame.specs.Outcomes.{Outcome, done}
 use Rattle.re_frame.specs.declared.status.Status.TheVariants.{Done}
-use Rattle.re_given_bounds.specs.GivenBounds.{MeansGiven}
+use Rattle.re_bounds.specs.GivenBounds.{MeansGiven}
 use Rattle.re_given_words.specs.Extensions.{GoesOnIn}
 use Rattle.re_settings.specs.Settings.{GivesIn, IsTextIn}
 use Rattle.re_settings.specs.Verdicts.{accepted_line, bound_outcome, given_outcome}

@@ -4,7 +4,7 @@ use Rattle.std.specs.Fmt.{decimal}
 use Rattle.re_flexible.specs.declared.levels.Flexibility.{Flexibility}
 use Rattle.re_flexible.specs.declared.levels.Flexibility.TheVariants.{Flexible, Length, NoSolution}
 use Rattle.re_forest_words.specs.Answers.{labels_text}
-use Rattle.re_printing.specs.SetTexts.{named_text}
+use Rattle.re_texts.specs.SetTexts.{named_text}
 use Rattle.re_problem.specs.CanonicalTexts.{canonical}
 use Rattle.re_problem.specs.NamedProblems.{NamedProblem}
 

@@ -9,7 +9,7 @@ use Rattle.re_flexible.specs.declared.levels.Flexibility.TheVariants.{Flexible, 
 use Rattle.re_frame.specs.Outcomes.{Outcome, done, refused}
 use Rattle.re_frame.specs.TextFaults.{fault_outcome}
 use Rattle.re_labels.specs.Lists.{IsRising}
-use Rattle.re_printing.specs.SetTexts.{named_text}
+use Rattle.re_texts.specs.SetTexts.{named_text}
 use Rattle.re_problem.specs.NamedProblems.{NamedProblem, unnamed}
 use Rattle.re_problem.specs.declared.fault.InputFault.{InputFault}
 

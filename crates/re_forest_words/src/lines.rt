@@ -3,7 +3,7 @@ ghost use Rattle.re_forest_words.specs.Answers.{flexibility_outcome, labels_text
 ghost use Rattle.re_frame.specs.Outcomes.{outcome_of};
 ghost use Rattle.re_labels.specs.Sets.{IsLabelSet};
 ghost use Rattle.re_labels.specs.declared.TheConstants.{MAX_LABELS};
-ghost use Rattle.re_printing.specs.SetTexts.{named_text};
+ghost use Rattle.re_texts.specs.SetTexts.{named_text};
 ghost use Rattle.std.specs.Prelude.{◌≡◌, ◌++◌, IfOk, OnOk, codes};
 
 use re_flexible::Flexibility;

@@ -91,10 +91,6 @@ grown_some : (n Q : ℕ) → 0 < Q → 0 < grown n Q
 grown_some zero Q some = some
 grown_some (suc n) Q some = grown_some n (7 * Q) (omega arith)
 
-grown_more : (n Q : ℕ) → Q ≤ grown n Q
-grown_more zero Q = omega arith
-grown_more (suc n) Q = let more = grown_more n (7 * Q) in omega arith
-
 grown_times : (n x Q : ℕ) → grown n (x * Q) ≡ x * grown n Q
 grown_times zero x Q = refl
 grown_times (suc n) x Q = ap (grown n) (let e : 7 * (x * Q) ≡ x * (7 * Q) = grind arith in e) ∙ grown_times n x (7 * Q)

@@ -1,5 +1,5 @@
 -- What chains of steps say about rounds, given an input problem.
-use Rattle.std.proofs.Common.{refl, sym, ◌∙◌, ap, subst, ◌↔◌, ◌≡◌, ℕ, zero, suc, ◌+◌, ◌-◌, ◌≤◌, ◌<◌, List, arith, add-suc, add-zero, zero-add}
+use Rattle.std.proofs.Common.{refl, sym, ◌∙◌, ap, subst, ◌↔◌, ◌≡◌, ℕ, zero, suc, ◌+◌, ◌-◌, ◌/◌, ◌%◌, ◌≤◌, ◌<◌, List, arith, add-suc, add-zero, zero-add}
 use Rattle.re_given.proofs.FastGiven.{IsInput-derived, IsInput-exchanged, SolvableGiven-derived}
 use Rattle.re_given.proofs.MappingGiven.{IsInput-same, SolvableGiven-mapped, SolvableGiven-relaxed}
 use Rattle.re_given.proofs.MoreGiven.{SolvableGiven-more}
@@ -35,6 +35,15 @@ exchanged_by-twice zero problem = refl
 exchanged_by-twice (suc k) problem =
     let more : suc k + suc k ≡ suc (suc (k + k)) = omega arith in
     rw more (ap (λ p. exchanged (exchanged p)) (exchanged_by-twice k problem))
+
+-- so a number of exchanges is none where it is even, and one where it is odd
+pub even_itself : (k : ℕ) (problem : Problem) → k % 2 ≡ 0 → exchanged_by k problem ≡ problem
+even_itself k problem even = let halves : k / 2 + k / 2 ≡ k = omega (arith, even) in subst (λ n. exchanged_by n problem ≡ problem) halves (exchanged_by-twice (k / 2) problem)
+
+pub odd_exchanged : (k : ℕ) (problem : Problem) → (k % 2 ≡ 0 → ⊥) → exchanged_by k problem ≡ exchanged problem
+odd_exchanged k problem odd =
+    let halves : suc (k / 2 + k / 2) ≡ k = omega (arith, odd) in
+    subst (λ n. exchanged_by n problem ≡ exchanged problem) halves (ap exchanged (exchanged_by-twice (k / 2) problem))
 
 -- ---- rounds
 pub SolvableGiven-add : (problem input : Problem) (T more : ℕ) → IsInput problem input → SolvableGiven problem input T → SolvableGiven problem input (T + more)

@@ -7,8 +7,8 @@ use Rattle.re_given_bounds.specs.EdgeBounds.{NoEdgeColouredLaw, UpperBoundEdgeCo
 use Rattle.re_local.proofs.FewColours.{last_hops}
 use Rattle.re_given.specs.InputExamples.{edge_colouring}
 use Rattle.re_given_bounds.proofs.ClassMeaning.{above_log}
-use Rattle.re_given_bounds.proofs.GivenMeaning.{valid_given}
-use Rattle.re_given_bounds.specs.GivenBounds.{MeansGiven}
+use Rattle.re_bounds.proofs.GivenMeaning.{valid_given}
+use Rattle.re_bounds.specs.GivenBounds.{MeansGiven}
 use Rattle.re_problem.specs.NamedProblems.{unnamed}
 use Rattle.re_problem.specs.Problems.{Problem}
 

@@ -2,9 +2,9 @@
 use Rattle.std.proofs.Common.{◌+◌, ◌-◌, ◌*◌, length, subst}
 use Rattle.re_local.proofs.FewColours.{few_colours_local, few_input, last_hops}
 use Rattle.re_given.specs.Unavoidable.{colouring}
-use Rattle.re_given_bounds.proofs.GivenMeaning.{valid_given}
+use Rattle.re_bounds.proofs.GivenMeaning.{valid_given}
 use Rattle.re_given_bounds.specs.FewColoursBounds.{UpperBoundLocalLaw}
-use Rattle.re_given_bounds.specs.GivenBounds.{MeansGiven}
+use Rattle.re_bounds.specs.GivenBounds.{MeansGiven}
 use Rattle.re_problem.specs.NamedProblems.{unnamed}
 use Rattle.re_problem.specs.Problems.{Problem}
 

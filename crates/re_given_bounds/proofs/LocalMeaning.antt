@@ -7,8 +7,8 @@ use Rattle.re_check.specs.declared.verdict.Verdict.{Verdict}
 use Rattle.re_check.specs.declared.verdict.Verdict.TheVariants.{Accepted, Refused}
 use Rattle.re_given.specs.Given.{SolvableGiven}
 use Rattle.re_given.specs.Inputs.{IsInput}
-use Rattle.re_given_bounds.proofs.GivenMeaning.{beside}
-use Rattle.re_given_bounds.specs.GivenBounds.{MeansBeside}
+use Rattle.re_bounds.proofs.GivenMeaning.{beside}
+use Rattle.re_bounds.specs.GivenBounds.{MeansBeside}
 use Rattle.re_local.proofs.IdentifierInputs.{IsInput-identifiers, some_identifier}
 use Rattle.re_local.proofs.LocalGiven.{SolvableGiven-labelled}
 use Rattle.re_local.proofs.UnavoidableIdentifiers.{identifiers_unavoidable}

@@ -4,7 +4,7 @@ use Rattle.re_check.specs.Verdicts.{verdict_of}
 use Rattle.re_check.specs.declared.verdict.Verdict.{Verdict}
 use Rattle.re_check.specs.declared.verdict.Verdict.TheVariants.{Accepted, Refused}
 use Rattle.re_cert.specs.declared.certificate.Kind.TheVariants.{Fixed, Lower, Upper}
-use Rattle.re_given_bounds.proofs.GivenMeaning.{whole_lower_bound}
+use Rattle.re_given_bounds.proofs.WholeMeaning.{whole_lower_bound}
 use Rattle.re_given_bounds.proofs.LocalMeaning.{logarithmic_bound}
 use Rattle.re_given_bounds.specs.LocalBounds.{MeansLogarithmic}
 use Rattle.re_given_bounds.specs.RandomBounds.{MeansIdentified, MeansRandomised, IdentifiedBoundLaw, RandomisedBoundLaw, WholeRandomisedLaw}

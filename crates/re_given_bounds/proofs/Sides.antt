@@ -1,19 +1,11 @@
--- A problem with its sides exchanged an even number of times is itself.
-use Rattle.std.proofs.Common.{◌≡◌, ℕ, suc, ◌+◌, ◌/◌, ◌%◌, Bool, ap, sym, subst, arith}
+-- What the passive side of an input problem tells behind a number of steps.
+use Rattle.std.proofs.Common.{◌≡◌, ℕ, ◌%◌, Bool, ap, sym, subst}
 use Rattle.std.specs.Prelude.{IsTrue, ◌↔◌}
-use Rattle.re_given.proofs.ChainGiven.{exchanged_by-twice}
-use Rattle.re_given.specs.Inputs.{exchanged, exchanged_by}
+use Rattle.re_given.proofs.ChainGiven.{even_itself, odd_exchanged}
+use Rattle.re_given.specs.Inputs.{exchanged_by}
 use Rattle.re_given_bounds.specs.Telling.{TellsConfig, TellsPassive}
 use Rattle.re_problem.specs.Problems.{Problem}
 use Rattle.re_labels.specs.Constraints.{Constraint}
-
-pub even_itself : (k : ℕ) (problem : Problem) → k % 2 ≡ 0 → exchanged_by k problem ≡ problem
-even_itself k problem even = let halves : k / 2 + k / 2 ≡ k = omega (arith, even) in subst (λ n. exchanged_by n problem ≡ problem) halves (exchanged_by-twice (k / 2) problem)
-
-pub odd_exchanged : (k : ℕ) (problem : Problem) → (k % 2 ≡ 0 → ⊥) → exchanged_by k problem ≡ exchanged problem
-odd_exchanged k problem odd =
-    let halves : suc (k / 2 + k / 2) ≡ k = omega (arith, odd) in
-    subst (λ n. exchanged_by n problem ≡ exchanged problem) halves (ap exchanged (exchanged_by-twice (k / 2) problem))
 
 told_as : (told : Bool) (one other : Constraint) → one ≡ other → IsTrue told ↔ TellsConfig one → IsTrue told ↔ TellsConfig other
 told_as told one other same is = subst (λ (c : Constraint). IsTrue told ↔ TellsConfig c) same is

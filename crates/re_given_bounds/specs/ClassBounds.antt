@@ -7,7 +7,7 @@ use Rattle.re_check.specs.declared.verdict.Verdict.{Verdict}
 use Rattle.re_check.specs.declared.verdict.Verdict.TheVariants.{Accepted, Refused}
 use Rattle.re_classes.specs.Classes.{IsAboveLog, IsConstantLocal}
 use Rattle.re_classes.specs.Laws.{IsSolvableColoured}
-use Rattle.re_given_bounds.specs.GivenBounds.{IsOver}
+use Rattle.re_bounds.specs.GivenBounds.{IsOver}
 use Rattle.re_problem.specs.NamedProblems.{unnamed}
 use Rattle.re_problem.specs.Problems.{Problem}
 

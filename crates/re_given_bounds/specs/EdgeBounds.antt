@@ -6,7 +6,7 @@ use Rattle.re_check.specs.Verdicts.{verdict_of}
 use Rattle.re_check.specs.declared.verdict.Verdict.TheVariants.{Accepted}
 use Rattle.re_given_bounds.specs.EdgeClasses.{IsSolvableEdgeColoured}
 use Rattle.re_given.specs.InputExamples.{edge_colouring}
-use Rattle.re_given_bounds.specs.GivenBounds.{IsOver, IsValidGiven}
+use Rattle.re_bounds.specs.GivenBounds.{IsOver, IsValidGiven}
 use Rattle.re_local.specs.LocalAlgorithms.{SolvableLocal}
 use Rattle.re_layers.specs.Towers.{tower}
 use Rattle.re_problem.specs.NamedProblems.{unnamed}

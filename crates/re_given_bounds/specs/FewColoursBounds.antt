@@ -3,7 +3,7 @@ use Rattle.std.specs.Prelude.{◌≡◌, ℕ, ◌+◌, ◌-◌, ◌*◌, ◌≤�
 use Rattle.re_cert.specs.Bounds.{Bound}
 use Rattle.re_cert.specs.declared.certificate.Kind.TheVariants.{Upper}
 use Rattle.re_given.specs.Unavoidable.{colouring}
-use Rattle.re_given_bounds.specs.GivenBounds.{IsOver, IsValidGiven}
+use Rattle.re_bounds.specs.GivenBounds.{IsOver, IsValidGiven}
 use Rattle.re_local.specs.LocalAlgorithms.{SolvableLocal}
 use Rattle.re_layers.specs.Towers.{tower}
 use Rattle.re_problem.specs.NamedProblems.{unnamed}

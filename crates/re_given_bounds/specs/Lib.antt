@@ -2,9 +2,7 @@ pub mod ClassBounds
 pub mod EdgeBounds
 pub mod EdgeClasses
 pub mod FewColoursBounds
-pub mod GivenBounds
 pub mod Laws
 pub mod LocalBounds
-pub mod OnlyUnavoidable
 pub mod RandomBounds
 pub mod Telling

@@ -6,7 +6,7 @@ use Rattle.re_cert.specs.declared.certificate.Kind.TheVariants.{Fixed, Lower, Up
 use Rattle.re_check.specs.Verdicts.{verdict_of}
 use Rattle.re_check.specs.declared.verdict.Verdict.{Verdict}
 use Rattle.re_check.specs.declared.verdict.Verdict.TheVariants.{Accepted, Refused}
-use Rattle.re_given_bounds.specs.GivenBounds.{HasFewLabels, IsOver}
+use Rattle.re_bounds.specs.GivenBounds.{HasFewLabels, IsOver}
 use Rattle.re_problem.specs.NamedProblems.{IsNamedProblem, unnamed}
 use Rattle.re_problem.specs.Problems.{Problem}
 use Rattle.re_classes.specs.RandomLaws.{IsBeyondIdentified, IsBeyondDoublePower, random_base}

@@ -1,5 +1,4 @@
-//! What certificates say where a solution of an input problem is given, and of local algorithms, whose nodes have unique identifiers: laws
-//! alone, no code.
+//! What certificates say of local algorithms, whose nodes have unique identifiers, and of randomised ones: laws alone, no code.
 //!
 //! Laws of what some inputs tell. Few colours of passive nodes, edges where these have two ends, and so bounds above for local algorithms, in order
 //! log* N rounds of N identifiers; the class of what is solvable given so few, and what certificates say of it. Then inputs whose labels tell in which
@@ -11,9 +10,7 @@ mod telling;
 
 ghost use Rattle.re_given_bounds.specs.ClassBounds.{AboveLogLaw, ClassLaw, NoTwoClassesLaw};
 ghost use Rattle.re_given_bounds.specs.FewColoursBounds.{UpperBoundLocalLaw};
-ghost use Rattle.re_given_bounds.specs.GivenBounds.{BesideLaw, ColouredBoundLaw, EvenBoundLaw, FixedBoundLaw, OddBoundLaw, UpperBoundLaw, ValidGivenLaw};
 ghost use Rattle.re_given_bounds.specs.LocalBounds.{LocalBoundLaw, LogarithmicBoundLaw, UniqueIdentifiersLaw, WholeLowerBoundLaw};
-ghost use Rattle.re_given_bounds.specs.OnlyUnavoidable.{OnlyUnavoidableLaw};
 ghost use Rattle.re_given_bounds.specs.RandomBounds.{IdentifiedBoundLaw, RandomisedBoundLaw, WholeRandomisedLaw};
 
 pub use input_laws::{
@@ -22,46 +19,6 @@ pub use input_laws::{
     order_edge_coloured_law, product_input_law, product_local_law, upper_bound_edge_coloured_law,
 };
 pub use telling::{tells_config, tells_passive};
-
-/// A bound that is valid given an input problem of its first problem says what bounds of its kind say, given the input problem.
-pub fn valid_given_law()
-    ensures { ValidGivenLaw }
-{}
-
-/// The verdict on a certificate is right given each input problem that is unavoidable for lists of its problems' labels, at a lower bound with
-/// one round less.
-pub fn beside_law()
-    ensures { BesideLaw }
-{}
-
-/// So it is given a proper colouring with more than (p - 1) n colours, where a and p are the degrees of the first problem, and no problem
-/// has more than n labels.
-pub fn coloured_bound_law()
-    ensures { ColouredBoundLaw }
-{}
-
-/// What is accepted as an upper bound is one given any input problem.
-pub fn upper_bound_law()
-    ensures { UpperBoundLaw }
-{}
-
-/// What is accepted as a lower bound of an even number of steps is one given each input problem that is unavoidable for lists of its last
-/// problem's labels.
-pub fn even_bound_law()
-    ensures { EvenBoundLaw }
-{}
-
-/// And one of an odd number of steps, where passive nodes are edges, given a proper colouring with more than 2^n colours, n being the number of
-/// its last problem's labels.
-pub fn odd_bound_law()
-    ensures { OddBoundLaw }
-{}
-
-/// What is accepted as a fixed point is one given each input problem that is unavoidable for lists of the labels of one problem behind an even
-/// number of steps, from that on to which it goes back.
-pub fn fixed_bound_law()
-    ensures { FixedBoundLaw }
-{}
 
 /// The verdict on a certificate is right of local algorithms of as many rounds as there is a hypergraph of identifiers for, at a lower bound with
 /// one round less.
@@ -116,11 +73,6 @@ pub fn above_log_law()
 /// no problem takes both the order of log N rounds at least and the order of log* N at most.
 pub fn no_two_classes_law()
     ensures { NoTwoClassesLaw }
-{}
-
-/// An input problem helps no problem of n labels in 0 rounds exactly where it is unavoidable for lists of n labels.
-pub fn only_unavoidable_law()
-    ensures { OnlyUnavoidableLaw }
 {}
 
 /// An accepted lower bound of k steps excludes local algorithms of as many rounds too, with `virtual_base a p n ^ (T + 1)` identifiers or more, where

@@ -1,5 +1,5 @@
 -- More clauses, and what values have to meet so that they satisfy these, too.
-use Rattle.std.proofs.Common.{◌≡◌, ℕ, zero, suc, ◌+◌, ◌-◌, ◌<◌, Bool, true, false, not, ◌||◌, ◌⊎◌, inl, inr, List, [], ◌∷◌, ◌++◌, length, map, get_or, refl, sym, ap, ◌∙◌, subst, arith}
+use Rattle.std.proofs.Common.{◌≡◌, ℕ, zero, suc, ◌+◌, ◌-◌, ◌<◌, Bool, true, false, not, ◌⊎◌, inl, inr, List, [], ◌∷◌, ◌++◌, length, map, get_or, refl, sym, ap, ◌∙◌, subst, arith}
 use Rattle.std.proofs.lemmas.List.{get_or_default}
 use Rattle.std.proofs.lemmas.List.Folds.{list_any-append}
 use Rattle.std.specs.List.{AllByRecursion}
@@ -7,22 +7,12 @@ use Rattle.re_clauses.specs.Clauses.{Satisfies, holds, satisfies}
 use Rattle.re_labels.proofs.Membership.{all-push}
 use Rattle.re_labels.proofs.Tests.{or-left, or-right}
 use Rattle.re_labels.specs.Lists.{count_from}
-use Rattle.re_given_words.specs.Asking.{AreIn, AreMore, variable}
+use Rattle.re_given_words.specs.Asking.{AreMore}
 
 pub more-push : (clauses more : List (List ℕ)) (clause : List ℕ) (Condition : (ℕ → Bool) → Type 0) → more ≡ clauses ++ clause ∷ []
     → ((values : ℕ → Bool) → Condition values → satisfies values clause ≡ true) → AreMore clauses more Condition
 more-push clauses more clause Condition same truth = λ values met satisfied.
     subst (Satisfies values) (sym same) (all-push (λ clause. satisfies values clause ≡ true) clauses clause satisfied (truth values met))
-
--- a clause that is satisfied where the labels aren't all in the sets
-pub negations-more : (values : ℕ → Bool) (n set label : ℕ) (sets tuple literals more : List ℕ) (literal : ℕ) → ((AreIn values n sets tuple → ⊥) → satisfies values literals ≡ true)
-    → holds values literal ≡ not (values (variable n set label)) → more ≡ literals ++ literal ∷ [] → (AreIn values n (set ∷ sets) (label ∷ tuple) → ⊥) → satisfies values more ≡ true
-negations-more values n set label sets tuple literals more literal rest told same none =
-    ap (satisfies values) same ∙ list_any-append (holds values) literals (literal ∷ []) ∙ go (values (variable n set label)) refl
-  where
-    go : (b : Bool) → values (variable n set label) ≡ b → (satisfies values literals || satisfies values (literal ∷ [])) ≡ true
-    go true is = or-left (satisfies values literals) (satisfies values (literal ∷ [])) (rest (λ others. none (is, others)))
-    go false is = or-right (satisfies values literals) (satisfies values (literal ∷ [])) (or-left (holds values literal) false (told ∙ ap not is))
 
 -- a clause of two literals: where the one variable holds, so does the other
 pub implied : (values : ℕ → Bool) (one other : ℕ) (a b : Bool) → holds values one ≡ not a → holds values other ≡ b → (a ≡ true → b ≡ true) → satisfies values (one ∷ other ∷ []) ≡ true

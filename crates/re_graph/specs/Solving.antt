@@ -1,8 +1,9 @@
 -- The search for a solution on a graph.
-use Rattle.std.specs.Prelude.{◌≡◌, ℕ, zero, suc, ◌+◌, ◌-◌, ◌*◌, nat_lt, Bool, true, not, ◌&&◌, ◌||◌, List, [], ◌∷◌, length, map, take, drop, if◌then◌else◌, slice_index, Option, None, Some}
+use Rattle.std.specs.Prelude.{◌≡◌, ℕ, zero, suc, ◌+◌, ◌-◌, ◌*◌, ◌≤◌, nat_lt, Bool, true, not, ◌&&◌, ◌||◌, List, [], ◌∷◌, length, map, take, drop, if◌then◌else◌, slice_index, Option, None, Some}
 use Rattle.std.specs.List.{list_all}
 use Rattle.re_cover.specs.declared.ends.GraphEnd.{GraphEnd}
 use Rattle.re_cover.specs.Graphs.{IsGraphOf, IsSolution, PortGraph}
+use Rattle.re_problem.specs.NamedProblems.{NamedProblem, unnamed}
 use Rattle.re_problem.specs.Problems.{IsProblem, Problem}
 use Rattle.re_labels.specs.Constraints.{Constraint, has_config}
 use Rattle.re_walks.specs.Begun.{is_begun}
@@ -62,6 +63,12 @@ IsCover problem graph = IsGraphOf problem graph × ((labels : List (List ℕ)) �
 pub record AreSolution (problem : Problem) (graph : PortGraph) (labels : List ℕ) : Type 0 where
   pub assignment : IsAssignment problem.labels (graph.nodes * problem.active.degree) labels
   pub solution : IsSolution problem graph (labels_of problem.active.degree graph.nodes labels)
+
+-- a graph of at most so many active nodes on which the problem has no solution, and these labels are one of the input problem
+pub record IsGivenCover (problem input : NamedProblem) (most : ℕ) (graph : PortGraph) (labels : List ℕ) : Type 0 where
+  pub cover : IsCover (unnamed problem) graph
+  pub given : AreSolution (unnamed input) graph labels
+  pub few : graph.nodes ≤ most
 
 -- beginnings of what passes do, what passes with all its labels is a solution, and each solution passes
 pub record PassesLaw (problem : Problem) (graph : PortGraph) : Type 0 where

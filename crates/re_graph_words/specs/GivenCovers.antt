@@ -1,5 +1,5 @@
 -- What the word `cover` answers to a problem and an input problem.
-use Rattle.std.specs.Prelude.{◌≡◌, ◌≤◌, ◌<◌, ◌⊎◌, ℕ, List, ◌++◌, codes, length, Option, None, Some}
+use Rattle.std.specs.Prelude.{◌≡◌, ◌<◌, ◌⊎◌, ℕ, List, ◌++◌, codes, length, Option, None, Some}
 use Rattle.re_cover.specs.Graphs.{PortGraph}
 use Rattle.re_settings.specs.InputProblems.{input_fault}
 use Rattle.re_settings.specs.declared.inputs.InputFault.{InputFault as Fault}
@@ -8,7 +8,7 @@ use Rattle.re_frame.specs.TextFaults.{fault_outcome}
 use Rattle.re_given.specs.Given.{SolvableGiven}
 use Rattle.re_settings.specs.InputFaults.{fault_line}
 use Rattle.re_graph.specs.GraphTexts.{graph_text}
-use Rattle.re_graph.specs.Solving.{AreSolution, IsCover, labels_of}
+use Rattle.re_graph.specs.Solving.{IsGivenCover, labels_of}
 use Rattle.re_io.specs.declared.read.TheConstants.{MAX_BYTES}
 use Rattle.re_problem.specs.CanonicalTexts.{canonical}
 use Rattle.re_problem.specs.NamedProblems.{NamedProblem, unnamed}
@@ -22,12 +22,6 @@ use Rattle.re_graph_words.specs.SolveWords.{solve_outcome}
 abbrev pub given_cover_text : NamedProblem → NamedProblem → PortGraph → List ℕ → List ℕ
 given_cover_text problem input graph labels =
     canonical problem ++ codes "== given\n" ++ canonical input ++ codes "== graph\n" ++ graph_text graph ++ codes "== labels\n" ++ node_lines input.names (labels_of input.active.degree graph.nodes labels)
-
--- a graph of at most so many active nodes on which the problem has no solution, and these labels are one of the input problem
-pub record IsGivenCover (problem input : NamedProblem) (most : ℕ) (graph : PortGraph) (labels : List ℕ) : Type 0 where
-  pub cover : IsCover (unnamed problem) graph
-  pub given : AreSolution (unnamed input) graph labels
-  pub few : graph.nodes ≤ most
 
 -- such a graph, so that no number of rounds solves the problem given the input problem; to the text `solve` answers that there is no solution
 pub record IsGivenCovered (problem input : NamedProblem) (most : ℕ) (outcome : Outcome) : Type 0 where

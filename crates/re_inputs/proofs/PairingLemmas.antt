@@ -62,7 +62,8 @@ beside-parts m [] = refl
 beside-parts m (pair ∷ pairs) = let rest = beside-parts m pairs in (λ i. div-add-mod' pair m i ∷ rest i)
 
 -- ---- orders
-all_places : (ys : List ℕ) → map (image_at ys) (count_from 0 (length ys)) ≡ ys
+-- a list is its elements at all places
+pub all_places : (ys : List ℕ) → map (image_at ys) (count_from 0 (length ys)) ≡ ys
 all_places ys =
     sym (same_from_all_zip (λ (x y : ℕ). x ≡ y) (map (image_at ys) (count_from 0 (length ys))) ys
     (AllZip-count (λ (x y : ℕ). x ≡ y) (image_at ys) 0 (length ys) ys refl (λ k d l. let e : 0 + k ≡ k = omega arith in rw e (get_or_default ys k 0 d l))) (λ x y e. sym e))

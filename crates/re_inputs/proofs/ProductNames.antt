@@ -30,13 +30,6 @@ pub second_low : (n m pair : ℕ) → pair < n * m → pair % m < m
 second_low n m pair l = mod-lt pair (parts_there n m pair l)
 
 -- ---- names of their own
--- what is no name
-pub no_name : (text : List ℕ) → name_of text ≡ None → is_name text ≡ false
-no_name text e = go (is_name text) e
-  where
-    go : (b : Bool) → cond b (Some text) None ≡ None → b ≡ false
-    go true e = absurd (cc)
-    go false e = refl
 
 pub a_name : (text name : List ℕ) → name_of text ≡ Some name → (is_name text ≡ true) × (name ≡ text)
 a_name text name e = go (is_name text) e

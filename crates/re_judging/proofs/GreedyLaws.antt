@@ -1,29 +1,27 @@
 -- What multisets behind upper steps mean.
-use Rattle.std.proofs.Common.{◌≡◌, ℕ, true, not, ◌||◌, List, [], ◌∷◌, length, ◌++◌, refl, sym, subst, Option, None, Some}
+use Rattle.std.proofs.Common.{◌≡◌, ℕ, true, not, ◌||◌, List, [], ◌∷◌, length, ◌++◌, refl, subst, None}
 use Rattle.std.specs.List.{AllByRecursion}
-use Rattle.std.specs.Option.{option_map}
 use Rattle.re_cert.specs.Bounds.{Bound, BoundStep, is_bound, is_lower, last_problem, next_problems, steps_fit}
 use Rattle.re_cert.specs.declared.certificate.Kind.{Kind}
 use Rattle.re_cert.specs.declared.certificate.Kind.TheVariants.{Fixed, Lower, Upper}
 use Rattle.re_chains.proofs.WordsGiven.{none_fails}
 use Rattle.re_chains.specs.Chains.{IsOverProblems}
-use Rattle.re_chains.specs.OverChains.{refusal_of, steps_refusal}
+use Rattle.re_chains.specs.OverChains.{steps_refusal}
 use Rattle.re_check.proofs.Meaning.{named-last, upper_chain}
 use Rattle.re_check.specs.Verdicts.{steps_fault}
-use Rattle.re_check.specs.declared.verdict.ClauseFault.{ClauseFault}
 use Rattle.re_classes.specs.Laws.{IsSolvableColoured}
 use Rattle.re_greedy.proofs.GreedyChains.{greedy_coloured}
-use Rattle.re_greedy.specs.Findings.{IsBeyond, IsListVerdict, IsRefusal, RefusedListLaw}
+use Rattle.re_greedy.specs.Findings.{IsListVerdict}
 use Rattle.re_greedy.specs.Greedy.{IsGreedy}
 use Rattle.re_greedy.specs.declared.judging.ListVerdict.{ListVerdict}
-use Rattle.re_greedy.specs.declared.judging.ListVerdict.TheVariants.{Greedy, Limit}
+use Rattle.re_greedy.specs.declared.judging.ListVerdict.TheVariants.{Greedy}
 use Rattle.re_judging.specs.GreedyParts.{IsGreedyFrom, is_upper_chain, seen_from, whole_list}
 use Rattle.re_judging.specs.Turns.{Turns}
-use Rattle.re_labels.proofs.Tests.{and-true}
 use Rattle.re_labels.specs.declared.sides.Side.{Side}
 use Rattle.re_labels.specs.declared.sides.Side.TheVariants.{Active, Passive}
 use Rattle.re_laws.specs.Chains.{IsUpperChain, done}
 use Rattle.re_problem.specs.ItemSteps.{is_nil}
+use Rattle.re_texts.proofs.FittingParts.{bound_fits}
 use Rattle.re_problem.specs.NamedProblems.{IsNamedProblem, NamedProblem, unnamed}
 use Rattle.re_problem.specs.ProblemTexts.{last_or}
 use Rattle.re_problem.specs.Problems.{IsProblem, Problem}
@@ -35,10 +33,6 @@ steps_to_last kind first [] upper fit named sound = done
 steps_to_last Upper first (s ∷ steps) upper fit named sound = upper_chain Upper first 1 (s ∷ steps) refl fit named sound
 steps_to_last Lower first (s ∷ steps) upper fit named sound = absurd cc
 steps_to_last Fixed first (s ∷ steps) upper fit named sound = absurd cc
-
-bound_fits : (chain : Bound) → is_bound chain ≡ true → steps_fit chain.kind chain.first chain.steps ≡ true
-bound_fits chain is =
-    (and-true _ (steps_fit chain.kind chain.first chain.steps) (and-true _ _ (and-true _ _ is).0).0).1
 
 -- so its first problem is solvable given few colours
 by_side : (side : Side) (multisets : List (List ℕ)) (first last : NamedProblem) (k : ℕ) → IsProblem (unnamed first) → IsProblem (unnamed last) → IsUpperChain (unnamed first) k (unnamed last)
@@ -52,7 +46,7 @@ pub greedy_means : (turns : Turns) (chain : Bound) → is_bound chain ≡ true �
     → IsSolvableColoured (unnamed chain.first)
 greedy_means turns chain is over sound upper greedy =
     by_side turns.side turns.multisets chain.first (last_problem chain) (length chain.steps) over.first.problem (named-last chain.first (next_problems chain.steps) over.first over.next).problem
-    (steps_to_last chain.kind chain.first chain.steps upper (bound_fits chain is) over.next (none_fails (steps_fault chain.first 1 chain.steps) sound)) greedy
+    (steps_to_last chain.kind chain.first chain.steps upper (bound_fits chain is).steps over.next (none_fails (steps_fault chain.first 1 chain.steps) sound)) greedy
 
 -- ---- verdicts
 -- what is judged is the problem that is seen, with the whole list
@@ -64,10 +58,3 @@ listed turns last seen members verdict same list is =
 
 pub greedy_is : (problem : Problem) (partial : List (List ℕ)) (verdict : ListVerdict) → verdict ≡ Greedy → IsListVerdict problem partial 1000000 verdict → IsGreedy problem partial
 greedy_is problem partial verdict same is = subst (IsListVerdict problem partial 1000000) same is
-
-pub beyond_is : (problem : Problem) (partial : List (List ℕ)) (verdict : ListVerdict) → verdict ≡ Limit → IsListVerdict problem partial 1000000 verdict → IsBeyond problem partial 1000000
-beyond_is problem partial verdict same is = subst (IsListVerdict problem partial 1000000) same is
-
-pub refused_is : RefusedListLaw → (problem : Problem) (partial : List (List ℕ)) (verdict other : ListVerdict) → verdict ≡ other → IsRefusal other → IsListVerdict problem partial 1000000 verdict
-    → IsGreedy problem partial → ⊥
-refused_is law problem partial verdict other same refuses is greedy = law problem partial 1000000 verdict is (subst IsRefusal (sym same) refuses) greedy

@@ -21,7 +21,7 @@ use Rattle.re_given.proofs.Ungiven.{SolvableGiven-ungiven}
 use Rattle.re_given.specs.Given.{SolvableGiven}
 use Rattle.re_given.specs.Inputs.{IsInput}
 use Rattle.re_given_bounds.proofs.ClassMeaning.{above_log}
-use Rattle.re_given_bounds.specs.GivenBounds.{IsOver, MeansGiven}
+use Rattle.re_bounds.specs.GivenBounds.{IsOver, MeansGiven}
 use Rattle.re_settings.specs.InputFaults.{fault_line, or_input_fault}
 use Rattle.re_graph.specs.Judging.{labels_fault}
 use Rattle.re_graph_words.specs.GivenInputs.{Labelled}

@@ -1,7 +1,7 @@
 -- Rows by the numbers of their sets: all of them are there, in order.
 use Rattle.std.specs.Ordering.{nat_cmp, ordering_then}
 use Rattle.std.specs.Cmp.Lexicographic.{slice_cmp}
-use Rattle.std.proofs.Common.{List, [], ap, arith, length, ltb, map, refl, subst, suc, sym, true, zero, ℕ, ◌*◌, ◌++◌, ◌+◌, ◌-◌, ◌<◌, ◌^◌, ◌∙◌, ◌∷◌, ◌≡◌, ◌≤◌}
+use Rattle.std.proofs.Common.{List, [], ap, arith, length, ltb, map, refl, subst, suc, sym, true, zero, ℕ, ◌*◌, ◌+◌, ◌-◌, ◌<◌, ◌^◌, ◌∙◌, ◌∷◌, ◌≡◌, ◌≤◌}
 use Rattle.std.specs.List.{AllByRecursion}
 use Rattle.std.specs.declared.cmp.Ordering.TheVariants.{Less}
 use Rattle.std.proofs.lemmas.Nat.{pow_pos}
@@ -21,7 +21,6 @@ use Rattle.re_labels.proofs.Tests.{and-true}
 use Rattle.re_labels.specs.Inverse.{number-set_of}
 use Rattle.re_labels.specs.Lists.{IsBefore, IsRising}
 use Rattle.re_labels.specs.Sets.{IsLabelSet, number, set_of}
-use Rattle.re_labels.specs.declared.TheConstants.{MAX_LABELS}
 
 abbrev pub AreSets : ℕ → List (List ℕ) → Type 0
 AreSets n r = AllByRecursion (λ s. IsLabelSet n s × (0 < length s)) r
@@ -217,10 +216,6 @@ IsRow-of_numbers n sets numbers items row full e below i r two six =
     let whole : row ≡ map (set_of n) (sorted numbers) = r ∙ ap (map (set_of n)) i in
     let same : length (sorted numbers) ≡ length row = sym (ap length whole ∙ length-map' (set_of n) (sorted numbers)) in
     (omega arith, omega arith, subst (λ w. IsRow (length row) n w) (sym whole) (subst (λ d. IsRow d n (map (set_of n) (sorted numbers))) same is))
-
-pub below_push : (numbers : List ℕ) (x : ℕ) → x < 2 ^ MAX_LABELS → AllByRecursion (λ x. x < 2 ^ MAX_LABELS) numbers → AllByRecursion (λ x. x < 2 ^ MAX_LABELS) (numbers ++ x ∷ [])
-below_push [] x h k = (h, tt)
-below_push (y ∷ numbers) x h k = (k.0, below_push numbers x h k.1)
 
 pub numbers_cmp : (row other : List (List ℕ)) → slice_cmp (λ s t. nat_cmp (number s) (number t)) row other ≡ row_cmp row other
 numbers_cmp [] [] = refl

@@ -1,4 +1,3 @@
-mod Accepted
 mod Behind
 mod RelaxedSaying
 mod RelaxedWordCounts

@@ -1,5 +1,3 @@
-pub mod Answers
-pub mod Library
 pub mod Lines
 pub mod MayGive
 pub mod RelaxedWords

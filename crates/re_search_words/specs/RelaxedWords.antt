@@ -6,11 +6,11 @@ use Rattle.re_chains.specs.ChainTexts.{chain_fault, text_chain}
 use Rattle.re_frame.specs.Outcomes.{Outcome}
 use Rattle.re_settings.specs.declared.setting.Setting.TheVariants.{Alone}
 use Rattle.re_problem.specs.Numerals.{number_of}
-use Rattle.re_search_words.specs.Library.{member_named}
-use Rattle.re_search_words.specs.declared.library.Member.{Member}
+use Rattle.re_relaxed.specs.Library.{member_named}
+use Rattle.re_relaxed.specs.declared.library.Member.{Member}
 use Rattle.re_search_words.specs.declared.relaxed_words.RelaxedWord.{RelaxedWord}
 use Rattle.re_search_words.specs.declared.relaxed_words.RelaxedWord.TheVariants.{Relaxed, Through}
-use Rattle.re_search_words.specs.declared.relaxed_words.TheConstants.{MAX_RELAXATIONS}
+use Rattle.re_relaxed.specs.declared.types.TheConstants.{MAX_RELAXATIONS}
 use Rattle.re_search_words.specs.MayGive.{MayGiveRead}
 use Rattle.re_search_words.specs.declared.words.SearchWord.TheVariants.{Cycle}
 

@@ -14,15 +14,14 @@ ghost use Rattle.std.specs.Prelude.{◌≡◌, ◌≤◌, IfOk, length};
 use crate::fitting::{fitting_lower, fitting_upper, three_quarters};
 use crate::lines::{searched_limit, searched_output};
 use crate::words::SearchWord;
-use re_beams::{Shortest, find_shortest};
 use re_cert::{Certificate, Kind};
 use re_chains::{Chain, LowerChain, UpperChain, is_certificate_text, judged_chain};
-use re_cycle::{Cycle, find_cycle};
 use re_frame::{
     Answer, Finding, Output, fault_output, not_found_output, not_lower_output, not_upper_output,
     verdict_output,
 };
 use re_given_words::repeated_in;
+use re_going_on::{Cycle, Shortest, find_cycle, find_shortest};
 use re_labels::NoMemory;
 use re_problem::TextFault;
 use re_settings::{

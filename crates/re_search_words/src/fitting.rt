@@ -7,9 +7,9 @@ ghost use Rattle.re_problem.specs.NamedProblems.{unnamed};
 ghost use Rattle.re_search_words.specs.MayGive.{IsFound};
 ghost use Rattle.std.specs.Prelude.{◌≡◌, ◌≤◌, ◌<◌, IfOk, IfSome};
 
-use re_beams::{Shortest, find_longest, find_shortest};
 use re_chains::{LowerChain, UpperChain};
 use re_frame::Output;
+use re_going_on::{Shortest, find_longest, find_shortest};
 use re_labels::NoMemory;
 use re_settings::{Setting, has_text_in, is_done, print_in};
 use std::alloc::Global;

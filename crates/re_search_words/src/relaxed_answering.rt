@@ -6,22 +6,20 @@ ghost use Rattle.re_chains.specs.OverChains.{steps_refusal};
 ghost use Rattle.re_frame.specs.Outcomes.{outcome_of};
 ghost use Rattle.re_settings.specs.declared.setting.Setting.TheVariants.{Alone};
 ghost use Rattle.re_io.specs.declared.read.TheConstants.{MAX_BYTES};
-ghost use Rattle.re_search_words.specs.Answers.{Answers};
+ghost use Rattle.re_relaxed.specs.Answers.{Answers};
 ghost use Rattle.re_search_words.specs.RelaxedWords.{MayGive, looked_at};
 ghost use Rattle.re_search_words.specs.MayGive.{MayFindBy, MayGiveAt, MayGiveSound};
 ghost use Rattle.re_search_words.specs.declared.words.SearchWord.TheVariants.{Cycle};
 ghost use Rattle.std.specs.Prelude.{◌≡◌, ◌≤◌, IfOk, length};
 
-use crate::finding::find_relaxed;
 use crate::relaxed_words::{RelaxedWord, looked_at};
-use crate::through::{MAX_TRIES, find_through};
-use crate::types::Relaxed;
 use crate::{searched_limit, searched_output};
 use re_cert::Certificate;
 use re_chains::{Chain, LowerChain, certificate_output, judged_chain, read_chain};
 use re_frame::{Finding, Output, fault_output, not_lower_output, solvable_output, verdict_output};
 use re_labels::NoMemory;
 use re_problem::TextFault;
+use re_relaxed::{MAX_TRIES, Relaxed, find_relaxed, find_through};
 use re_settings::taken_alone_law;
 use std::alloc::Global;
 

@@ -2,11 +2,8 @@
 ghost use Rattle.re_search_words.specs.RelaxedWords.{looked_at, relaxed_help, relaxed_with, relaxed_word_of, through_with};
 ghost use Rattle.std.specs.Prelude.{◌≡◌, map, string_bytes};
 
-use crate::library::{Member, member_named};
 use re_problem::read_number;
-
-/// The most relaxations that may be looked at.
-pub const MAX_RELAXATIONS: u32 = 1_000_000;
+use re_relaxed::{MAX_RELAXATIONS, Member, member_named};
 
 /// A fixed point behind another problem.
 #[derive(Clone, Copy, Debug, PartialEq, Eq)]

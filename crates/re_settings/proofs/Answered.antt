@@ -1,29 +1,17 @@
 -- What the walks come to, and the outcomes.
-use Rattle.std.proofs.Common.{◌≡◌, ℕ, zero, suc, ◌<◌, false, List, length, refl, sym, ap, ◌∙◌, subst, Option, None, Some, Result, Ok, Err}
+use Rattle.std.proofs.Common.{◌≡◌, ℕ, zero, suc, ◌<◌, false, List, length, refl, sym, ap, ◌∙◌, subst, Result, Ok, Err}
 use Rattle.std.specs.List.{AllByRecursion}
-use Rattle.std.specs.Prelude.{◌++◌, IfOk, option_map}
+use Rattle.std.specs.Prelude.{◌++◌, IfOk}
 use Rattle.re_cert.specs.Bounds.{Bound, problem_at}
-use Rattle.re_settings.specs.Fits.{IsFound, fit_walk, sets_for}
-use Rattle.re_settings.specs.Laws.{IsAnswer}
+use Rattle.re_settings.specs.Fits.{sets_for}
 use Rattle.re_frame.specs.Outcomes.{done, refused}
 use Rattle.re_given.specs.Inputs.{exchanged_by}
 use Rattle.re_problem.specs.NamedProblems.{NamedProblem, unnamed}
 use Rattle.re_problem.specs.Problems.{Problem}
-use Rattle.re_walks.specs.Walking.{nowhere}
 use Rattle.re_settings.specs.Verdicts.{end_line, fit_with, fixed_at, fixed_with, is_cut, is_nowhere, kept_line, kept_steps, lower_with}
 use Rattle.re_settings.specs.Walks.{AreFirst, fit_text, input_at, walk_at}
-use Rattle.re_settings.specs.declared.fitting.TheConstants.{MAX_TRIES}
 
 -- ---- the finder's answer
-pub are_first : {V : Type 0} (items : V → List (List ℕ)) (problem input : Problem) (o : Option V) (v : V) → o ≡ Some v → IsFound problem input MAX_TRIES (option_map items o) → IsAnswer problem input (option_map items o)
-    → AreFirst problem input (items v)
-are_first items problem input o v is came answers =
-    let (labels, walked, are) = subst (λ o. IsFound problem input MAX_TRIES (option_map items o)) is came in
-    let fits = subst (λ o. IsAnswer problem input (option_map items o)) is answers in
-    record { labels = labels; came = walked; sets_are = are; count = fits.count; below = fits.below }
-
-pub none_found : {V : Type 0} (items : V → List (List ℕ)) (problem input : Problem) (o : Option V) → o ≡ None → IsFound problem input MAX_TRIES (option_map items o) → fit_walk problem input MAX_TRIES ≡ nowhere
-none_found items problem input o is came = subst (λ o. IsFound problem input MAX_TRIES (option_map items o)) is came
 
 -- exchanged problems have the same labels
 exchanged-labels : (k : ℕ) (input : Problem) → (exchanged_by k input).labels ≡ input.labels

@@ -1,12 +1,10 @@
 -- Input problems that are exchanged, and what few tries tell.
-use Rattle.std.proofs.Common.{◌≡◌, ℕ, zero, suc, Bool, true, false, not, refl, sym, ◌∙◌, subst, List, Option, Some, None}
+use Rattle.std.proofs.Common.{◌≡◌, ℕ, zero, suc, Bool, true, false, not, refl, sym, ◌∙◌, subst, Option, Some, None}
 use Rattle.std.specs.Prelude.{is_some}
 use Rattle.re_settings.specs.InputProblems.{IsJudged}
 use Rattle.re_settings.specs.declared.inputs.InputFault.{InputFault}
-use Rattle.re_settings.specs.Laws.{IsAnswer}
 use Rattle.re_given.proofs.ChainGiven.{exchanged_by-add, exchanged_by-twice}
 use Rattle.re_given.proofs.FastGiven.{IsInput-exchanged}
-use Rattle.re_given.specs.Given.{ZeroGiven}
 use Rattle.re_given.specs.Inputs.{IsInput, exchanged, exchanged_by}
 use Rattle.re_problem.specs.NamedProblems.{NamedProblem, unnamed}
 use Rattle.re_problem.specs.Problems.{Problem}
@@ -49,5 +47,3 @@ no_fault input (Some fault) true judged same = absurd (cc)
 no_fault input (Some fault) false judged same = (λ e. absurd (cc), λ is. absurd (judged.1 is))
 
 -- ---- what is told
-pub zero_found : (problem input : Problem) (sets : List (List ℕ)) → IsAnswer problem input (Some sets) → ZeroGiven problem input
-zero_found problem input sets fits = (_, fits.upper)

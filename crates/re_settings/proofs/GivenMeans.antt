@@ -29,8 +29,8 @@ use Rattle.re_given.proofs.ChainGiven.{SolvableGiven-none}
 use Rattle.re_given.proofs.SlowGiven.{SolvableGiven-zero}
 use Rattle.re_given.specs.Given.{SolvableGiven, ZeroGiven}
 use Rattle.re_given.specs.Inputs.{IsInput}
-use Rattle.re_given_bounds.proofs.BoundChains.{behind-last}
-use Rattle.re_given_bounds.specs.GivenBounds.{EndsGiven, IsOver, MeansGiven}
+use Rattle.re_bounds.proofs.BoundChains.{behind-last}
+use Rattle.re_bounds.specs.GivenBounds.{EndsGiven, IsOver, MeansGiven}
 use Rattle.re_chains.specs.TwoTexts.{back_problem, front_bound, two_fault}
 use Rattle.re_walks.specs.Walking.{Walk, cut, found, nowhere}
 use Rattle.re_settings.proofs.EndNumbers.{end-high, end-low, kept}
@@ -70,7 +70,7 @@ fault_line_isnt input (OneSide label) e = apart _ _ (ap (λ (o : Outcome). slice
 begins_otherwise : (a b : ℕ) → a ≡ b → a ≡ 114 → b ≡ 110 → ⊥
 begins_otherwise a b e f g = omega (arith, e, f, g)
 
-verdict_isnt : (verdict : Verdict) → verdict_outcome verdict ≡ refused (codes "no\n") → ⊥
+pub verdict_isnt : (verdict : Verdict) → verdict_outcome verdict ≡ refused (codes "no\n") → ⊥
 verdict_isnt (Accepted kind steps) e = done_isnt_no (ap (λ (o : Outcome). o.status) e)
 verdict_isnt (Refused step clause) e = begins_otherwise _ _ (ap (λ (o : Outcome). slice_index_or o.text 0 0) e) (go (is_final clause)) refl
   where

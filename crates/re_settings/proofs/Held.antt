@@ -27,8 +27,8 @@ use Rattle.re_given.proofs.SlowGiven.{SolvableGiven-zero}
 use Rattle.re_given.proofs.Ungiven.{SolvableGiven-ungiven}
 use Rattle.re_given.specs.Given.{ZeroGiven}
 use Rattle.re_given.specs.Inputs.{IsInput, exchanged_by}
-use Rattle.re_given_bounds.proofs.BoundChains.{behind-last, lower_between, lower_to, upper_to}
-use Rattle.re_given_bounds.specs.GivenBounds.{IsOver, MeansGiven}
+use Rattle.re_bounds.proofs.BoundChains.{behind-last, lower_between, lower_to, upper_to}
+use Rattle.re_bounds.specs.GivenBounds.{IsOver, MeansGiven}
 use Rattle.re_laws.proofs.Relaxing.{Solvable-relaxed}
 use Rattle.re_laws.proofs.ZeroRounds.{Solvable-zero}
 use Rattle.re_laws.specs.Algorithms.{Solvable}

@@ -3,7 +3,7 @@ use Rattle.std.specs.Prelude.{List, ℕ, ◌++◌, codes, Option, None, Some}
 use Rattle.re_settings.specs.declared.inputs.InputFault.{InputFault}
 use Rattle.re_settings.specs.declared.inputs.InputFault.TheVariants.{Degrees, Empty, OneSide}
 use Rattle.re_frame.specs.Outcomes.{Outcome, refused}
-use Rattle.re_printing.specs.SetTexts.{named_text}
+use Rattle.re_texts.specs.SetTexts.{named_text}
 use Rattle.re_problem.specs.NamedProblems.{NamedProblem}
 
 -- the line where the text behind `== given` writes no input problem

@@ -8,7 +8,7 @@ use Rattle.re_settings.specs.Laws.{IsFitting}
 use Rattle.re_frame.specs.Outcomes.{Outcome, done, refused}
 use Rattle.re_frame.specs.declared.status.Status.TheVariants.{Done, No}
 use Rattle.re_given.specs.Given.{SolvableGiven}
-use Rattle.re_given_bounds.specs.GivenBounds.{IsOver, IsValidGiven, MeansGiven}
+use Rattle.re_bounds.specs.GivenBounds.{IsOver, IsValidGiven, MeansGiven}
 use Rattle.re_problem.specs.NamedProblems.{IsNamedProblem, NamedProblem, unnamed}
 use Rattle.re_chains.specs.TwoTexts.{back_problem, front_bound}
 use Rattle.re_settings.specs.Verdicts.{bound_outcome, given_outcome, kept_steps}

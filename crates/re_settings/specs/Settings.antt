@@ -14,7 +14,7 @@ use Rattle.re_frame.specs.SearchLines.{solvable_line}
 use Rattle.re_frame.specs.declared.output.Output.{Output}
 use Rattle.re_given.specs.Given.{SolvableGiven}
 use Rattle.re_given.specs.Inputs.{IsInput}
-use Rattle.re_given_bounds.specs.GivenBounds.{MeansGiven}
+use Rattle.re_bounds.specs.GivenBounds.{MeansGiven}
 use Rattle.re_settings.specs.Taken.{IsTaken}
 use Rattle.re_settings.specs.InputFaults.{fault_line}
 use Rattle.re_settings.specs.Verdicts.{given_outcome}

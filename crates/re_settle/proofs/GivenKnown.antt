@@ -10,7 +10,7 @@ use Rattle.re_closure.specs.Closures.{IsClosed}
 use Rattle.re_settings.specs.InputProblems.{input_fault}
 use Rattle.re_frame.specs.Outcomes.{Outcome}
 use Rattle.re_given.specs.Inputs.{IsInput}
-use Rattle.re_given_bounds.specs.GivenBounds.{MeansGiven}
+use Rattle.re_bounds.specs.GivenBounds.{MeansGiven}
 use Rattle.re_given_words.proofs.CountingMeans.{count_means}
 use Rattle.re_given_words.proofs.GoingOn.{taken_law}
 use Rattle.re_given_words.specs.Counting.{CountMeans, IsBeside, IsCounted, MayTell, walk_after}

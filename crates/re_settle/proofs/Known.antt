@@ -9,8 +9,8 @@ use Rattle.re_shaping.specs.Stepped.{stepped, stepping_fault}
 use Rattle.re_chains.specs.ChainTexts.{problem_chain}
 use Rattle.re_closure.specs.Closures.{IsClosed, IsSolvableBy}
 use Rattle.re_closure.specs.RaisedClosures.{IsRaisedClosed}
-use Rattle.re_cycle.specs.Answers as cycle
-use Rattle.re_cycle.specs.declared.finding.Cycle.TheVariants as cycle_answer
+use Rattle.re_going_on.specs.CycleAnswers as cycle
+use Rattle.re_going_on.specs.declared.cycle.Cycle.TheVariants as cycle_answer
 use Rattle.re_shaping.specs.Extensions.{GoesOn}
 use Rattle.re_given_words.proofs.CountingMeans.{told_means}
 use Rattle.re_given_words.specs.Counting.{CountMeans, MayTell}
@@ -18,16 +18,16 @@ use Rattle.re_given_words.specs.declared.counting.Counted.{Counted}
 use Rattle.re_given_words.specs.declared.counting.Counted.TheVariants as counted
 use Rattle.re_labels.specs.declared.TheConstants.{MAX_LABELS}
 use Rattle.re_settings.specs.declared.setting.Setting.TheVariants as setting
-use Rattle.re_beams.specs.ShortestAnswers as shortest
-use Rattle.re_beams.specs.declared.shortening.Shortest.TheVariants as shortest_answer
+use Rattle.re_going_on.specs.ShortestAnswers as shortest
+use Rattle.re_going_on.specs.declared.shortening.Shortest.TheVariants as shortest_answer
 use Rattle.re_laws.proofs.ZeroRounds.{Solvable-zero}
 use Rattle.re_laws.specs.Algorithms.{Solvable}
 use Rattle.re_problem.proofs.ZeroPlaces.{no-place}
 use Rattle.re_problem.specs.NamedProblems.{NamedProblem, unnamed}
 use Rattle.re_problem.specs.Problems.{IsProblem}
 use Rattle.re_problem.specs.Zero.{zero_place}
-use Rattle.re_search_words.specs.Answers as relaxed
-use Rattle.re_search_words.specs.declared.types.Relaxed.TheVariants as relaxed_answer
+use Rattle.re_relaxed.specs.Answers as relaxed
+use Rattle.re_relaxed.specs.declared.types.Relaxed.TheVariants as relaxed_answer
 use Rattle.re_search.specs.Searches.{Answers, FindsTrue, FindsValid}
 use Rattle.re_search.specs.declared.types.Search.{Search}
 use Rattle.re_search.specs.declared.types.Search.TheVariants.{Found}

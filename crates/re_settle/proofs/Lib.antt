@@ -2,7 +2,6 @@ mod Counts
 mod Fixed
 mod Forests
 mod GivenKnown
-mod GivenSaying
 mod GivenTogether
 mod Known
 mod Local

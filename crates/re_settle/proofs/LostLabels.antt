@@ -3,7 +3,7 @@ use Rattle.std.proofs.Common.{◌≡◌, ℕ, zero, suc, ◌+◌, ◌-◌, Bool,
 use Rattle.std.specs.Prelude.{codes, not, if◌then◌else◌}
 use Rattle.re_forest_words.specs.Answers.{labels_text}
 use Rattle.re_labels.specs.Sets.{has}
-use Rattle.re_printing.specs.SetTexts.{named_text}
+use Rattle.re_texts.specs.SetTexts.{named_text}
 use Rattle.re_settle.specs.Lines.{lost_from}
 
 -- what is written of one label

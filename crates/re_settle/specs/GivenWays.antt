@@ -10,7 +10,7 @@ use Rattle.re_given_words.specs.Counting.{IsCounted}
 use Rattle.re_given_words.specs.Extensions.{GoesOnGiven}
 use Rattle.re_settings.specs.Taken.{IsTaken}
 use Rattle.re_given_words.specs.declared.counting.Counted.{Counted}
-use Rattle.re_graph_words.specs.GivenCovers.{IsGivenCover}
+use Rattle.re_graph.specs.Solving.{IsGivenCover}
 use Rattle.re_given_bounds.specs.Telling.{TellsPassive}
 use Rattle.re_labels.specs.declared.TheConstants.{MAX_LABELS}
 use Rattle.re_problem.specs.NamedProblems.{NamedProblem, unnamed}

@@ -14,8 +14,8 @@ use Rattle.re_closure.specs.Closures.{IsClosed, IsSolvableBy, LimitIs}
 use Rattle.re_closure.specs.RaisedClosures.{IsRaisedClosed}
 use Rattle.re_closure.specs.declared.types.ClosureLimit.{ClosureLimit}
 use Rattle.re_cover.specs.Graphs.{PortGraph}
-use Rattle.re_cycle.specs.Answers as cycle
-use Rattle.re_cycle.specs.declared.finding.Cycle.TheVariants as cycle_answer
+use Rattle.re_going_on.specs.CycleAnswers as cycle
+use Rattle.re_going_on.specs.declared.cycle.Cycle.TheVariants as cycle_answer
 use Rattle.re_graph.specs.Solving.{IsCover}
 use Rattle.re_forest_words.specs.Showings as greedy
 use Rattle.re_forest_words.specs.declared.showing.Shown.{Shown as GreedyShown}
@@ -26,14 +26,14 @@ use Rattle.re_given_words.specs.Counting.{IsCounted, MayTell}
 use Rattle.re_given_words.specs.declared.counting.Counted.{Counted}
 use Rattle.re_given_words.specs.declared.counting.Counted.TheVariants as counted
 use Rattle.re_settings.specs.declared.setting.Setting.TheVariants as setting
-use Rattle.re_beams.specs.ShortestAnswers as shortest
+use Rattle.re_going_on.specs.ShortestAnswers as shortest
 use Rattle.re_shaping.specs.Extensions.{GoesOn}
-use Rattle.re_beams.specs.declared.shortening.Shortest.TheVariants as shortest_answer
+use Rattle.re_going_on.specs.declared.shortening.Shortest.TheVariants as shortest_answer
 use Rattle.re_problem.specs.NamedProblems.{NamedProblem, unnamed}
 use Rattle.re_problem.specs.Zero.{zero_place}
 use Rattle.re_laws.specs.Algorithms.{Solvable}
-use Rattle.re_search_words.specs.Answers as relaxed
-use Rattle.re_search_words.specs.declared.types.Relaxed.TheVariants as relaxed_answer
+use Rattle.re_relaxed.specs.Answers as relaxed
+use Rattle.re_relaxed.specs.declared.types.Relaxed.TheVariants as relaxed_answer
 use Rattle.re_search.specs.Searches.{search_of}
 use Rattle.re_search.specs.declared.types.Search.TheVariants.{Found}
 use Rattle.re_evidence.specs.Claims.{Holds}

@@ -15,10 +15,10 @@ use crate::measures::{
 };
 use crate::texts::has_text;
 use crate::types::{Shown, Way};
-use re_beams::{Shortest, find_shortest};
 use re_cert::{Certificate, Kind};
 use re_chains::{LowerChain, UpperChain};
 use re_evidence::Claim;
+use re_going_on::{Shortest, find_shortest};
 use re_labels::NoMemory;
 use re_problem::Problem;
 use re_search::{FindFault, Search, find_lower, find_upper};
@@ -219,7 +219,7 @@ fn brief_way(
 }
 
 /// Whether patterns may lead to an upper bound: in degrees 5 and 2, where the problem has few configurations.
-pub fn has_patterns(problem: &Problem, times: u8) -> bool
+pub(crate) fn has_patterns(problem: &Problem, times: u8) -> bool
     ensures { IsTrue result ↔ (problem.now.active.degree ≡ 5) × (problem.now.passive.degree ≡ 2) × IsSmall (unnamed problem.now) 8 times }
 {
     problem.active().degree() == 5

@@ -15,9 +15,9 @@ use crate::measures::{
 use crate::never::grows_little;
 use crate::texts::has_given_text;
 use crate::types::{Shown, Way};
-use re_beams::Shortest;
 use re_chains::LowerChain;
 use re_evidence::Claim;
+use re_going_on::Shortest;
 use re_graph::find_cover;
 use re_labels::NoMemory;
 use re_problem::Problem;

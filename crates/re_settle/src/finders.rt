@@ -1,7 +1,7 @@
 //! The searches that go on from a chain, alone and where a solution of an input problem is given.
 ghost use Rattle.re_cert.specs.Bounds.{last_problem};
 ghost use Rattle.re_cert.specs.declared.certificate.Kind.TheVariants.{Lower};
-ghost use Rattle.re_cycle.specs.Answers.{Answers as CycleAnswers};
+ghost use Rattle.re_going_on.specs.CycleAnswers.{Answers as CycleAnswers};
 ghost use Rattle.re_given.specs.Inputs.{IsInput};
 ghost use Rattle.re_given_words.specs.Extensions.{GoesOnGiven};
 ghost use Rattle.re_settings.specs.Taken.{IsTaken};
@@ -9,13 +9,12 @@ ghost use Rattle.re_settings.specs.declared.setting.Setting.TheVariants.{Given};
 ghost use Rattle.re_problem.specs.NamedProblems.{unnamed};
 ghost use Rattle.re_problem.specs.Zero.{zero_place};
 ghost use Rattle.re_shaping.specs.Extensions.{GoesOn};
-ghost use Rattle.re_beams.specs.ShortestAnswers.{MayAnswer};
+ghost use Rattle.re_going_on.specs.ShortestAnswers.{MayAnswer};
 ghost use Rattle.std.specs.Prelude.{◌≡◌, ◌↔◌, IfOk, IsTrue, None};
 
-use re_beams::{Shortest, find_longest, find_shortest};
 use re_cert::Certificate;
 use re_chains::{LowerChain, UpperChain};
-use re_cycle::{Cycle, find_cycle};
+use re_going_on::{Cycle, Shortest, find_cycle, find_longest, find_shortest};
 use re_labels::NoMemory;
 use re_problem::Problem;
 use re_settings::{Setting, is_taken, taken_alone_law};

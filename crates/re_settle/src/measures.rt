@@ -15,7 +15,7 @@ fn size_of(problem: &Problem) -> usize
 }
 
 /// Whether the problem has at most so many configurations, so many times.
-pub fn is_small(problem: &Problem, most: usize, times: u8) -> bool
+pub(crate) fn is_small(problem: &Problem, most: usize, times: u8) -> bool
     ensures { IsTrue result ↔ IsSmall (unnamed problem.now) most times }
 {
     size_of(problem) <= most.saturating_mul(usize::from(times))

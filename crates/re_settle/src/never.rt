@@ -11,13 +11,13 @@ use crate::texts::has_text;
 use crate::types::Way;
 use re_chains::{LowerChain, over_problems};
 use re_closure::{Closing, ClosureFault, find_closure, find_raised, one_outcome_law};
-use re_cycle::{Cycle, find_cycle};
 use re_evidence::Claim;
+use re_going_on::{Cycle, find_cycle};
 use re_graph::{MAX_STEPS, find_cover, find_gadgets};
 use re_labels::NoMemory;
 use re_problem::Problem;
+use re_relaxed::{Relaxed, find_relaxed, find_through};
 use re_search::{FindFault, Search, find_fixed};
-use re_search_words::{Relaxed, find_relaxed, find_through};
 use re_settings::Setting;
 use re_shaping::{ChainStepFault, MergeFault, merge_lower, step_lower};
 use re_step::{StepFault, step as derive};
@@ -36,13 +36,13 @@ const CLOSED_SIZE: usize = 64;
 const RAISED_SIZE: usize = 32;
 
 /// Up to how many configurations the first derived problems have of a problem that may come back by merges.
-pub const CYCLE_SIZE: usize = 40;
+pub(crate) const CYCLE_SIZE: usize = 40;
 
 /// How many these are.
-pub const CYCLE_STEPS: usize = 4;
+pub(crate) const CYCLE_STEPS: usize = 4;
 
 /// Of how many problems it is asked whether they come back.
-pub const CYCLE_NODES: u32 = 300;
+pub(crate) const CYCLE_NODES: u32 = 300;
 
 /// How many relaxations are looked at before dearer ways.
 const NEAR_RELAXED: u32 = 16;
@@ -57,7 +57,7 @@ const FAR_RELAXED: u32 = 200;
 const THROUGH_TRIES: u32 = 200_000;
 
 /// How many steps gadgets are joined in, and no more than `cover` takes.
-pub const GADGET_STEPS: usize = 1_000_000;
+pub(crate) const GADGET_STEPS: usize = 1_000_000;
 
 // A fixed point of at most 4 steps without merges; none only where there is none that has a text.
 fn fixed_way(alloc: Global, problem: &Problem, times: u8) -> Result<Option<Way>, NoMemory>
@@ -394,7 +394,7 @@ fn cover_way(alloc: Global, problem: &Problem, times: u8) -> Result<Option<Way>,
 
 /// Whether the first derived problems, so many, have at most so many configurations each, so many times, so that a search is worth its time. Nothing
 /// rests on it.
-pub fn grows_little(
+pub(crate) fn grows_little(
     alloc: Global,
     problem: &Problem,
     steps: usize,

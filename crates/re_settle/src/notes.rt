@@ -3,7 +3,7 @@ ghost use Rattle.re_forest_words.specs.Answers.{labels_text};
 ghost use Rattle.re_forests.specs.TrimmedSets.{trimmed_set};
 ghost use Rattle.re_labels.specs.Sets.{has};
 ghost use Rattle.re_problem.specs.NamedProblems.{unnamed};
-ghost use Rattle.re_printing.specs.SetTexts.{named_text};
+ghost use Rattle.re_texts.specs.SetTexts.{named_text};
 ghost use Rattle.re_settle.specs.Lines.{lost_from, note_line, note_of};
 ghost use Rattle.std.specs.Prelude.{◌≡◌, ◌+◌, ◌++◌, ◌≤◌, ◌<◌, ◌==◌, ◌||◌, OnOk, codes, length, if◌then◌else◌};
 

@@ -1,10 +1,10 @@
 -- The derived problem, its sets and its limits.
 use Rattle.re_problem.proofs.ZeroPlaces.{get-Contains}
 use Rattle.re_labels.proofs.Rows.{number_filled}
-use Rattle.std.proofs.Common.{◌≡◌, ℕ, zero, suc, ◌<◌, ◌≤◌, Bool, false, cond, ltb, List, [], ◌∷◌, length, map, flat_map, get_or, Contains, Option, None, Some, is_some, inl, refl, sym, ap, ◌∙◌, subst, arith}
+use Rattle.std.proofs.Common.{◌≡◌, ℕ, zero, suc, ◌<◌, ◌≤◌, false, cond, List, [], ◌∷◌, length, map, flat_map, get_or, Contains, Option, None, Some, is_some, inl, refl, sym, ap, ◌∙◌, subst, arith}
 use Rattle.std.specs.List.{AllByRecursion}
 use Rattle.std.specs.Prelude.{◌*◌, MatchOption}
-use Rattle.std.proofs.lemmas.Bool.{false≢true, le-ltb}
+use Rattle.std.proofs.lemmas.Bool.{false≢true}
 use Rattle.re_labels.proofs.Sorting.{sorted_again}
 use Rattle.re_labels.specs.Configs.{IsConfig, sorted}
 use Rattle.re_labels.proofs.ListSets.{In-list_set, list_set-In, one_set, rising-list_set}
@@ -23,12 +23,9 @@ use Rattle.re_labels.specs.Constraints.{Constraint, IsConstraint}
 use Rattle.re_labels.specs.GoodRows.{max_rows, max_sets}
 use Rattle.re_step.proofs.NameLemmas.{IsNames-label_names, length-label_names}
 use Rattle.re_step.proofs.SetLemmas.{few_in_rows, least_first, rest_rises, same_sets}
-use Rattle.re_step.specs.Derivations.{named_derived, step_limit}
+use Rattle.re_step.specs.Derivations.{named_derived}
 use Rattle.re_step.specs.LabelNames.{label_names}
-use Rattle.re_step.specs.declared.derivation.StepLimit.{StepLimit}
-use Rattle.re_step.specs.declared.derivation.StepLimit.TheVariants.{Configurations, Labels, Rows}
 use Rattle.re_labels.proofs.Numbers.{not_same}
-use Rattle.re_labels.specs.declared.constraint_table.TheConstants.{MAX_CONFIGURATIONS}
 use Rattle.re_labels.specs.declared.TheConstants.{MAX_LABELS}
 use Rattle.re_labels.specs.declared.TheConstants.{MAX_ROWS}
 
@@ -135,16 +132,3 @@ built_is P names active passive result is few n a p e =
 
 pub some_apart : {X : Type 0} (x : X) → None ≡ Some x → ⊥
 some_apart x e = false≢true (ap is_some e)
-
--- ---- limits
--- the limit, by its three tests
-abbrev limit_by : Bool → Bool → Bool → ℕ → Option StepLimit
-limit_by rows labels configs count = cond rows (Some Rows) (cond labels (Some (Labels count)) (cond configs (Some Configurations) None))
-
-tests : (P : Problem) (a b c : Bool) → ltb MAX_ROWS (length (max_rows P.passive P.labels)) ≡ a → ltb MAX_LABELS (length (max_sets P.passive P.labels)) ≡ b → ltb MAX_CONFIGURATIONS (length (derived P).passive.configs) ≡ c
-    → step_limit P ≡ limit_by a b c (length (max_sets P.passive P.labels))
-tests P a b c e f g = λ i. limit_by (e i) (f i) (g i) (length (max_sets P.passive P.labels))
-
-pub no_limit : (P : Problem) → length (max_rows P.passive P.labels) ≤ MAX_ROWS → length (max_sets P.passive P.labels) ≤ MAX_LABELS → length (derived P).passive.configs ≤ MAX_CONFIGURATIONS → step_limit P ≡ None
-no_limit P rows labels configs =
-    tests P false false false (le-ltb MAX_ROWS (length (max_rows P.passive P.labels)) rows) (le-ltb MAX_LABELS (length (max_sets P.passive P.labels)) labels) (le-ltb MAX_CONFIGURATIONS (length (derived P).passive.configs) configs)

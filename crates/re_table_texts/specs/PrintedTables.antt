@@ -4,7 +4,7 @@ use Rattle.std.specs.Fmt.{decimal}
 use Rattle.std.specs.List.{AllByRecursion}
 use Rattle.re_algo.specs.Tables.{AnswerTable, IsTable}
 use Rattle.re_texts.specs.CanonicalLines.{IsWithinLimits}
-use Rattle.re_printing.specs.SetTexts.{named_text}
+use Rattle.re_texts.specs.SetTexts.{named_text}
 use Rattle.re_problem.specs.CanonicalTexts.{canonical, spaced}
 use Rattle.re_problem.specs.NamedProblems.{IsNamedProblem, NamedProblem}
 use Rattle.re_table_texts.specs.TableTexts.{may_stand, table_input}

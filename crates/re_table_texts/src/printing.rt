@@ -11,9 +11,8 @@ use crate::table_texts::TableForm;
 use re_algo::Table;
 use re_cert::RowImage;
 use re_labels::{Names, NoMemory, PortLabels};
-use re_printing::push_all;
 use re_problem::{Problem, push_problem};
-use re_texts::{limits, push_image};
+use re_texts::{limits, push_all, push_image};
 use std::alloc::{AllocError, Global};
 
 // Appends an answer: its labels with one space between.

@@ -17,7 +17,7 @@ use Rattle.re_texts.specs.CertificateLines.{EntryLineLaw, ImageLineLaw, IsEntryR
 use Rattle.re_problem.specs.Items.{ItemText, item_of, items_of_words, with_item}
 use Rattle.re_labels.specs.Names.{IsNames}
 use Rattle.re_labels.specs.Sets.{IsLabelSet, first_of}
-use Rattle.re_printing.specs.SetTexts.{named_text, set_text}
+use Rattle.re_texts.specs.SetTexts.{named_text, set_text}
 use Rattle.re_problem.specs.CanonicalTexts.{spaced}
 use Rattle.re_problem.specs.Steps.{SetEntry}
 

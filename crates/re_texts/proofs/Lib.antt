@@ -1,3 +1,4 @@
+pub mod Appending
 pub mod BlocksWritten
 pub mod ConfigLines
 pub mod EntryLines
@@ -7,6 +8,7 @@ pub mod HeaderLines
 pub mod JudgedLines
 pub mod Leading
 pub mod LineWords
+pub mod PrintLemmas
 pub mod ReadBack
 pub mod ReadTexts
 pub mod ReadingBack

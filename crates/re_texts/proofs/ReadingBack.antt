@@ -11,7 +11,7 @@ use Rattle.re_problem.specs.Bytes.{is_empty_line}
 use Rattle.re_problem.specs.ItemSteps.{is_nil}
 use Rattle.re_texts.proofs.ReadBack.{canonical_lines_law}
 use Rattle.re_texts.specs.CanonicalLines.{canonical_lines}
-use Rattle.re_printing.specs.SetTexts.{row_text}
+use Rattle.re_texts.specs.SetTexts.{row_text}
 use Rattle.re_problem.specs.CanonicalTexts.{canonical}
 use Rattle.re_problem.specs.NamedProblems.{NamedProblem}
 use Rattle.re_problem.specs.Steps.LowerMap.{by_row, by_set}

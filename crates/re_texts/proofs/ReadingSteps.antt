@@ -10,7 +10,7 @@ use Rattle.re_labels.specs.Rows.{IsRow}
 use Rattle.re_problem.specs.Bytes.{bad_byte, is_empty_line}
 use Rattle.re_problem.specs.Items.{ItemText}
 use Rattle.re_texts.specs.CanonicalLines.{canonical_lines}
-use Rattle.re_printing.specs.SetTexts.{row_text}
+use Rattle.re_texts.specs.SetTexts.{row_text}
 use Rattle.re_problem.specs.NamedProblems.{NamedProblem}
 use Rattle.re_problem.specs.ProblemTexts.{byte_fault, fault_or, last_or, line_items, problem_of}
 use Rattle.re_problem.specs.Steps.LowerMap.{by_row, by_set}

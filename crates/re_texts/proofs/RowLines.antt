@@ -29,7 +29,7 @@ use Rattle.re_labels.proofs.Tests.{eqb-same, eqb-true, true-and}
 use Rattle.re_labels.specs.Lists.{same_list}
 use Rattle.re_labels.specs.Names.{IsNames}
 use Rattle.re_labels.specs.Sets.{IsLabelSet, number, set_of}
-use Rattle.re_printing.specs.SetTexts.{row_text, set_run_text}
+use Rattle.re_texts.specs.SetTexts.{row_text, set_run_text}
 use Rattle.re_problem.specs.CanonicalTexts.{Run, runs, spaced}
 use Rattle.re_problem.specs.ProblemTexts.{expanded, filled_items, labels_named, line_expanded, line_items, names_in, power_or_one}
 use Rattle.re_labels.specs.declared.TheConstants.{MAX_LABELS}

@@ -22,7 +22,7 @@ use Rattle.re_labels.proofs.Tests.{and-true, true-and}
 use Rattle.re_labels.specs.Lists.{IsBefore, IsRising, place_of, same_list}
 use Rattle.re_labels.specs.Names.{is_name, is_name_byte}
 use Rattle.re_labels.specs.Sets.{IsLabelSet, with_label}
-use Rattle.re_printing.specs.SetTexts.{named_text, set_text}
+use Rattle.re_texts.specs.SetTexts.{named_text, set_text}
 use Rattle.re_problem.specs.CanonicalTexts.{is_bare, label_text, power_text}
 use Rattle.re_problem.specs.ProblemTexts.{labels_named}
 

@@ -11,7 +11,7 @@ use Rattle.re_problem.specs.CanonicalTexts.{spaced}
 use Rattle.re_problem.specs.NamedProblems.{NamedProblem}
 use Rattle.re_problem.specs.ProblemTexts.{line_items}
 use Rattle.re_problem.specs.Steps.{SetEntry}
-use Rattle.re_printing.specs.SetTexts.{named_text, row_text, set_text}
+use Rattle.re_texts.specs.SetTexts.{named_text, row_text, set_text}
 use Rattle.re_cert.specs.Bounds.{is_fixed}
 use Rattle.re_cert.specs.Entries.{entry_on, image_on, label_items, labels_on, row_on}
 use Rattle.re_problem.specs.Pairs.{ItemPair, pair_on}

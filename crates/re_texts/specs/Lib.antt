@@ -5,3 +5,4 @@ pub mod MapTexts
 pub mod PrintedCertificates
 pub mod Reading
 pub mod SectionLines
+pub mod SetTexts

@@ -9,7 +9,7 @@ use Rattle.re_problem.specs.CanonicalTexts.{canonical}
 use Rattle.re_problem.specs.NamedProblems.{IsNamedProblem, NamedProblem}
 use Rattle.re_problem.specs.Steps.LowerMap.{by_row, by_set}
 use Rattle.re_problem.specs.Steps.{LowerMap, SetEntry}
-use Rattle.re_printing.specs.SetTexts.{rows_text}
+use Rattle.re_texts.specs.SetTexts.{rows_text}
 use Rattle.re_cert.specs.Bounds.{Bound, BoundStep, entries_in, has_row_maps, is_bound, is_fixed, last_problem, problem_at, step_fits, steps_fit}
 use Rattle.re_cert.specs.declared.certificate.Kind.{Kind}
 use Rattle.re_cert.specs.CertificateTexts.{certificate_fault, certificate_of, text_lines}

@@ -1,13 +1,13 @@
 // The lines of the sections of a certificate that no other text has: entries of maps, pairs of renamings, and the header.
 ghost use Rattle.re_texts.specs.CertificateLines.{entry_text, header_text, image_text, pair_text};
-ghost use Rattle.re_printing.specs.SetTexts.{named_text};
+ghost use Rattle.re_texts.specs.SetTexts.{named_text};
 ghost use Rattle.std.specs.Io.{StartsWith};
 ghost use Rattle.std.specs.List.{AllByRecursion};
 ghost use Rattle.std.specs.Prelude.{◌≡◌, ◌<◌, ◌++◌, OnOk, codes, false, flat_map, length, true};
 
+use crate::sets::push_set;
 use re_cert::{Kind, RowImage, SetEntry};
 use re_labels::{Names, NoMemory};
-use re_printing::push_set;
 use re_problem::push_label;
 
 fn push_all(text: &mut Vec<u8>, more: &str) -> Result<(), NoMemory>

@@ -2,15 +2,16 @@
 ghost use Rattle.re_cert.specs.Bounds.{entries_in, has_row_maps, is_by_row as is_map_by_row, is_fixed, map_fits, map_of, problem_at};
 ghost use Rattle.re_cert.specs.CertificateTexts.{certificate_fault, certificate_of, text_lines};
 ghost use Rattle.re_texts.specs.PrintedCertificates.{FitBehind, IsAnyRow, IsHeld, IsHeldStep, IsLabelled, StepsFitBehind, back_section, certificate_text, entries_text, images_text, map_text, pairs_text, rows_section, step_text, steps_text};
-ghost use Rattle.re_printing.specs.SetTexts.{rows_text};
+ghost use Rattle.re_texts.specs.SetTexts.{rows_text};
 ghost use Rattle.re_problem.specs.CanonicalTexts.{canonical};
 ghost use Rattle.std.specs.List.{AllByRecursion, list_any};
 ghost use Rattle.std.specs.Prelude.{◌≡◌, ◌<◌, ◌++◌, [], IfOk, None, OnOk, false, length, map, true};
 
+use crate::diagrams::push_all;
+use crate::rows::push_row;
 use crate::{certificate_text_law, push_entry, push_header, push_image, push_pair};
 use re_cert::{Certificate, Kind, LowerMap, RowImage, SetEntry, Step, StepParts, is_by_row};
 use re_labels::{Names, NoMemory, Row};
-use re_printing::{push_all, push_row};
 use re_problem::{Problem, push_problem};
 use std::alloc::Global;
 

@@ -1,9 +1,8 @@
 -- Certificates that are refused: something shows it.
-use Rattle.std.proofs.Common.{◌≡◌, ℕ, zero, suc, ◌≤◌, arith, Bool, true, false, not, ◌&&◌, List, [], ◌∷◌, length, refl, sym, ap, ◌∙◌, subst, ◌⊎◌, inl, inr, Some, None, Option, true≢false}
-use Rattle.std.specs.Prelude.{Contains, Err, IfOk, IfSome, Ok, Result, ◌==◌, find, if◌then◌else◌, nat_le, nat_lt}
+use Rattle.std.proofs.Common.{◌≡◌, ℕ, suc, ◌≤◌, arith, Bool, true, false, not, ◌&&◌, List, [], ◌∷◌, length, refl, sym, ap, ◌∙◌, subst, inl, inr, Some, None, Option, true≢false}
+use Rattle.std.specs.Prelude.{Contains, Err, IfOk, IfSome, Ok, Result, ◌==◌, if◌then◌else◌, nat_lt}
 use Rattle.std.proofs.lemmas.Bool.Decides.{nat_tests}
 use Rattle.re_problem.specs.ItemSteps.{is_nil}
-use Rattle.re_cert.specs.declared.certificate.TheConstants.{MAX_STEPS}
 use Rattle.std.specs.List.{AllByRecursion, list_all}
 use Rattle.std.specs.Option.{option_and_then, option_map, option_or}
 use Rattle.re_labels.proofs.Membership.{AllByRecursion-contains}
@@ -11,7 +10,8 @@ use Rattle.re_labels.proofs.Tests.{and-true, eqb-true}
 use Rattle.re_labels.specs.declared.TheConstants.{MAX_LABELS}
 use Rattle.re_labels.specs.Rows.{IsRow}
 use Rattle.re_problem.specs.NamedProblems.{IsNamedProblem, NamedProblem, unnamed}
-use Rattle.re_cert.specs.Bounds.{Bound, BoundStep, is_bound, is_fixed, last_problem, one_form, pair_fits, problem_at, renaming_fits, step_fits, steps_fit}
+use Rattle.re_texts.proofs.FittingParts.{bound_fits}
+use Rattle.re_cert.specs.Bounds.{Bound, BoundStep, is_bound, is_fixed, last_problem, pair_fits, problem_at, renaming_fits, step_fits, steps_fit}
 use Rattle.re_cert.specs.declared.certificate.Kind.{Kind}
 use Rattle.re_check.specs.Clauses.{step_clauses, step_fault}
 use Rattle.re_check.specs.declared.clause.Clause.{Clause}
@@ -19,7 +19,7 @@ use Rattle.re_check.specs.declared.clause.Clause.TheVariants.{Back, End, L1, L2,
 use Rattle.re_check.specs.Verdicts.{bound_fault, verdict_of, verdict_with, end_fault, ends_well, fault_at, fault_or, goes_back, meets_back, meets_end, steps_fault}
 use Rattle.re_check.specs.declared.verdict.ClauseFault.{ClauseFault}
 use Rattle.re_check.specs.declared.verdict.Verdict.{Verdict}
-use Rattle.re_check.specs.declared.verdict.Verdict.TheVariants.{Accepted, Refused}
+use Rattle.re_check.specs.declared.verdict.Verdict.TheVariants.{Refused}
 use Rattle.re_why.proofs.Dispatch.{fault-among, fault-fails, step-shown}
 use Rattle.re_why.proofs.Ends.{back_witness_law, end_witness_law}
 use Rattle.re_why.proofs.Giving.{gives-also}
@@ -104,12 +104,6 @@ fits_target bound is = go (is_fixed bound.kind) (and-true _ (renaming_fits bound
     go true e = let l : nat_lt bound.back (length bound.steps) ≡ true = (and-true (nat_lt bound.back (length bound.steps)) _ e).0 in grind (arith, nat_tests)
     go false e = let z : bound.back ≡ 0 = eqb-true bound.back 0 (and-true (bound.back == 0) (is_nil bound.renaming) e).0 in omega (arith, z)
 
-pub fits_steps : (bound : Bound) → is_bound bound ≡ true → steps_fit bound.kind bound.first bound.steps ≡ true
-fits_steps bound is =
-    (and-true (nat_le (length bound.steps) MAX_STEPS) (steps_fit bound.kind bound.first bound.steps)
-    (and-true (nat_le (length bound.steps) MAX_STEPS && steps_fit bound.kind bound.first bound.steps) (one_form bound.steps)
-    (and-true (nat_le (length bound.steps) MAX_STEPS && steps_fit bound.kind bound.first bound.steps && one_form bound.steps) (renaming_fits bound) is).0).0).1
-
 -- a clause of steps is sought at the steps
 pub at_steps : (bound : Bound) (n : ℕ) (c : Clause) → (c ≡ End → ⊥) → (c ≡ Back → ⊥) → refutation_at bound n c ≡ steps_refutation bound.first 1 bound.steps
 at_steps bound n L1 h k = refl
@@ -150,7 +144,7 @@ found_end bound n c (Some w) h = (refl, h)
 
 pub bound_shown : (bound : Bound) → is_bound bound ≡ true → IsNamedProblem bound.first → AllByRecursion IsSoundStep bound.steps
     → (option_map fault_named (bound_refutation bound) ≡ bound_fault bound) × IfSome (bound_refutation bound) (λ (r : Refutation). IsShown bound r.step r.clause r.witness)
-bound_shown bound is named sound = whole (go (steps_fault bound.first 1 bound.steps) refl (steps_find bound.kind bound.first 1 bound.steps named sound (fits_steps bound is)))
+bound_shown bound is named sound = whole (go (steps_fault bound.first 1 bound.steps) refl (steps_find bound.kind bound.first 1 bound.steps named sound (bound_fits bound is).steps))
   where
     whole : Finds (IsShown bound) (bound_fault bound) (bound_refutation bound) → (option_map fault_named (bound_refutation bound) ≡ bound_fault bound) × IfSome (bound_refutation bound) (λ (r : Refutation). IsShown bound r.step r.clause r.witness)
     whole h = h

@@ -32,7 +32,8 @@ use Rattle.re_check.specs.declared.clause.Clause.{Clause}
 use Rattle.re_check.specs.declared.clause.Clause.TheVariants.{Back, End, L1, L2, L3, L4, L5, U1, U2, U3, U4}
 use Rattle.re_check.specs.Verdicts.{bound_fault, end_fault, ends_well, fault_at, fault_or, meets_back, meets_end, steps_fault}
 use Rattle.re_check.specs.declared.verdict.ClauseFault.{ClauseFault}
-use Rattle.re_why.proofs.Bounds.{at_steps, final, fits_back, fits_steps, steps_clause}
+use Rattle.re_texts.proofs.FittingParts.{bound_fits}
+use Rattle.re_why.proofs.Bounds.{at_steps, final, fits_back, steps_clause}
 use Rattle.re_why.proofs.Dispatch.{labels-below, map-fits, row-sets, rows-fit, sets-at, step-shown}
 use Rattle.re_why.proofs.Ends.{end_witness_law, in_order}
 use Rattle.re_why.proofs.Found.{found_passes}
@@ -397,7 +398,7 @@ bound_named bound is named sound = go (steps_fault bound.first 1 bound.steps) re
     go (Some fault) e =
         let neither = steps_clause bound.first 1 bound.steps fault e in
         subst (λ (o : Option Refutation). IfSome o Named) (sym (at_steps bound fault.step fault.clause neither.0 neither.1))
-        (stands (steps_refutation bound.first 1 bound.steps) (steps_stand bound.first bound.kind bound.first 1 bound.steps named sound (fits_steps bound is)))
+        (stands (steps_refutation bound.first 1 bound.steps) (steps_stand bound.first bound.kind bound.first 1 bound.steps named sound (bound_fits bound is).steps))
 
 pub named_of_all : {E : Type 0} (bound : Bound) (r : Result (Option Refutation) E) → is_bound bound ≡ true → IsNamedProblem bound.first → AllByRecursion IsSoundStep bound.steps
     → IfOk r (λ (found : Option Refutation). found ≡ bound_refutation bound) → IfOk r (λ (found : Option Refutation). IfSome found (λ (r : Refutation). IsNamed (standing bound r.step r.clause) r.witness))

@@ -44,7 +44,7 @@ use Rattle.re_problem.specs.Verdicts.{renaming_verdict}
 use Rattle.re_problem.specs.declared.verdict.MapVerdict.{MapVerdict}
 use Rattle.re_problem.specs.declared.verdict.MapVerdict.TheVariants.{Yes}
 use Rattle.re_laws.proofs.Preorder.{rising-count_from}
-use Rattle.re_why.proofs.Bounds.{fits_steps}
+use Rattle.re_texts.proofs.FittingParts.{bound_fits}
 use Rattle.re_why.proofs.Dispatch.{next-labels, rows-few}
 use Rattle.re_why.proofs.Giving.{at-held}
 use Rattle.re_why.specs.Finding.{firsts, map_entries, seconds}
@@ -299,7 +299,7 @@ refutes_law bound number clause w is first nexts shown none = by_clause clause s
     parts = neither (steps_fault bound.first 1 bound.steps) (end_fault bound) none
 
     at_steps : ShowsInSteps bound.first 1 bound.steps number clause w → ⊥
-    at_steps h = steps-refuted bound.kind bound.first 1 bound.steps number clause w first nexts (fits_steps bound is) parts.0 h
+    at_steps h = steps-refuted bound.kind bound.first 1 bound.steps number clause w first nexts (bound_fits bound is).steps parts.0 h
 
     behind : Option ClauseFault
     behind = if is_fixed bound.kind && not (meets_back bound) then Some (fault_at n Back) else None
@@ -318,4 +318,4 @@ refutes_law bound number clause w is first nexts shown none = by_clause clause s
     by_clause : (c : Clause) → IsShown bound number c w → ⊥
     by_clause End h = end-refuted bound.kind (last_problem bound) w ends.0 h.1
     by_clause Back h = back-refuted (last_problem bound) (problem_at bound bound.back) bound.renaming w (back h.1) h.2
-    by_clause c h = steps-refuted bound.kind bound.first 1 bound.steps number c w first nexts (fits_steps bound is) parts.0 h
+    by_clause c h = steps-refuted bound.kind bound.first 1 bound.steps number c w first nexts (bound_fits bound is).steps parts.0 h

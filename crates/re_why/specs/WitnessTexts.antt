@@ -7,7 +7,7 @@ use Rattle.re_labels.specs.Rows.{row_of}
 use Rattle.re_labels.specs.declared.TheConstants.{MAX_LABELS}
 use Rattle.re_labels.specs.declared.sides.Side.TheVariants.{Active as ActiveSide, Passive as PassiveSide}
 use Rattle.re_problem.specs.CanonicalTexts.{config_text}
-use Rattle.re_printing.specs.SetTexts.{named_text, row_text, set_text}
+use Rattle.re_texts.specs.SetTexts.{named_text, row_text, set_text}
 use Rattle.re_problem.specs.declared.verdict.MapVerdict.{MapVerdict}
 use Rattle.re_problem.specs.declared.verdict.MapVerdict.TheVariants.{Active, Count, Degrees as OtherDegrees, Empty, Passive, Twice, Yes}
 use Rattle.re_cert.specs.Bounds.{Bound, last_problem, problem_at}

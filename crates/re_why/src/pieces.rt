@@ -6,8 +6,8 @@ ghost use Rattle.std.specs.Prelude.{◌≡◌, ◌≤◌, ◌+◌, ◌++◌, IfO
 use re_cert::set_fits;
 use re_frame::push_words;
 use re_labels::{Config, LabelSet, Names, NoMemory, Row};
-use re_printing::{push_config, push_row, push_set};
 use re_problem::push_label;
+use re_texts::{push_config, push_row, push_set};
 use std::alloc::{AllocError, Global};
 
 fn digits(alloc: Global, number: u128) -> Result<String, AllocError>

@@ -13,7 +13,7 @@ use Rattle.re_texts.specs.Entries.{source}
 use Rattle.re_texts.specs.MapTexts.{MapText, map_text}
 use Rattle.re_problem.specs.declared.verdict.MapVerdict.{MapVerdict}
 use Rattle.re_problem.specs.declared.verdict.MapVerdict.TheVariants as verdict
-use Rattle.re_printing.specs.SetTexts.{rows_text}
+use Rattle.re_texts.specs.SetTexts.{rows_text}
 use Rattle.re_problem.specs.NamedProblems.{NamedProblem, unnamed}
 use Rattle.re_problem.specs.ProblemTexts.{first_fault, lines_of, problem_of}
 use Rattle.re_problem.specs.Zero.{zero_place}

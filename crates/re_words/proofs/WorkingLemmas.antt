@@ -6,7 +6,7 @@ use Rattle.re_labels.specs.Lists.{count_from}
 use Rattle.re_labels.specs.Sets.{IsLabelSet}
 use Rattle.re_changes.specs.Classes.{are_equal, class_of, is_next, least_labels}
 use Rattle.re_changes.specs.Diagrams.{classes_of, edges_by, edges_from, edges_of}
-use Rattle.re_printing.specs.SetTexts.{least_at}
+use Rattle.re_texts.specs.SetTexts.{least_at}
 use Rattle.re_labels.proofs.MaxSets.{max_sets-from, maximal}
 use Rattle.re_labels.specs.Constraints.{Constraint}
 use Rattle.re_labels.specs.Strength.{is_at_least_as_strong}

@@ -9,7 +9,7 @@ use Rattle.re_texts.specs.declared.entries.MapKind.TheVariants.{Labels, Sets}
 use Rattle.re_problem.specs.Verdicts.{relaxation_verdict, renaming_verdict, restriction_verdict}
 use Rattle.re_problem.specs.declared.verdict.MapVerdict.{MapVerdict}
 use Rattle.re_problem.specs.declared.verdict.MapVerdict.TheVariants.{Active, Count, Degrees, Empty, Passive, Twice, Yes}
-use Rattle.re_printing.specs.SetTexts.{named_text}
+use Rattle.re_texts.specs.SetTexts.{named_text}
 use Rattle.re_problem.specs.CanonicalTexts.{config_text}
 use Rattle.re_problem.specs.NamedProblems.{unnamed}
 use Rattle.re_problem.specs.declared.fault.InputFault.{InputFault}

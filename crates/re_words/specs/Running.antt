@@ -15,7 +15,7 @@ use Rattle.re_laws.specs.Extracted.{extracted}
 use Rattle.re_net.specs.FiniteTrees.{neighbour, node_count, side_of}
 use Rattle.re_net.specs.FullTrees.{has_all_ports}
 use Rattle.re_net.specs.declared.joins.Neighbour.{Neighbour}
-use Rattle.re_printing.specs.SetTexts.{named_text}
+use Rattle.re_texts.specs.SetTexts.{named_text}
 use Rattle.re_problem.specs.CanonicalTexts.{spaced}
 use Rattle.re_problem.specs.NamedProblems.{unnamed}
 use Rattle.re_problem.specs.declared.fault.InputFault.{InputFault}

@@ -6,7 +6,7 @@ use Rattle.re_changes.specs.Merging.{merged_of}
 use Rattle.re_changes.specs.Trimming.{trimmed_of}
 use Rattle.re_labels.specs.declared.sides.Side.{Side}
 use Rattle.re_labels.specs.declared.sides.Side.TheVariants.{Active, Passive}
-use Rattle.re_printing.specs.SetTexts.{diagram_text, meanings_text, rows_text}
+use Rattle.re_texts.specs.SetTexts.{diagram_text, meanings_text, rows_text}
 use Rattle.re_problem.specs.CanonicalTexts.{canonical}
 use Rattle.re_problem.specs.NamedProblems.{NamedProblem, unnamed}
 use Rattle.re_step.specs.Derivations.{named_derived, step_limit}

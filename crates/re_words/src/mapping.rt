@@ -2,7 +2,7 @@
 ghost use Rattle.re_words.specs.Mapping.{IsNamedVerdict, map_outcome, mapping_outcome};
 ghost use Rattle.re_words.specs.Command.{judges};
 ghost use Rattle.re_frame.specs.Outcomes.{outcome_of, refused as refused_with};
-ghost use Rattle.re_printing.specs.SetTexts.{named_text};
+ghost use Rattle.re_texts.specs.SetTexts.{named_text};
 ghost use Rattle.re_problem.specs.CanonicalTexts.{config_text};
 ghost use Rattle.std.specs.List.{AllByRecursion};
 ghost use Rattle.std.specs.Prelude.{◌≡◌, ◌≤◌, ◌<◌, ◌++◌, ℕ, List, [], Some, codes, length, IfOk, IsErrOf, true};
@@ -11,9 +11,8 @@ use crate::command::{Command, Mapping};
 use re_frame::{Answer, Answering, Output, begun, fault_output, refused};
 use re_io::MAX_BYTES;
 use re_labels::{Config, Names, NoMemory, Side};
-use re_printing::push_config;
 use re_problem::{MapVerdict, TextFault, push_label, relaxes, renames, restricts};
-use re_texts::{read_label_map, read_set_map};
+use re_texts::{push_config, read_label_map, read_set_map};
 use std::alloc::Global;
 
 // The refusal that names a label.

@@ -5,7 +5,7 @@ ghost use Rattle.re_check.specs.declared.verdict.Verdict.TheVariants.{Accepted};
 ghost use Rattle.re_words.specs.Command.{judges};
 ghost use Rattle.re_frame.specs.Outcomes.{done as finished, outcome_of, refused as refused_with};
 ghost use Rattle.re_words.specs.Running.{AreNamed, PassiveNodesGet, delivered, node_line, nodes_from, running_outcome, verified};
-ghost use Rattle.re_printing.specs.SetTexts.{named_text};
+ghost use Rattle.re_texts.specs.SetTexts.{named_text};
 ghost use Rattle.re_problem.specs.CanonicalTexts.{spaced};
 ghost use Rattle.re_net.specs.RunReading.{AreMessages};
 ghost use Rattle.re_net.specs.FiniteTrees.{IsNumbered};

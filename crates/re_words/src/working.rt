@@ -9,9 +9,9 @@ use re_changes::{diagram, merge, trim};
 use re_frame::{Output, done, limit_of};
 use re_labels::{Constraint, MAX_ROWS, NoMemory, Side};
 use re_limits::limit_output;
-use re_printing::{print_diagram, print_meanings, print_rows};
 use re_problem::{Problem, print_problem, push_problem};
 use re_step::{Derived, RowsFault, StepFault, maximal_rows, step};
+use re_texts::{print_diagram, print_meanings, print_rows};
 use std::alloc::Global;
 
 fn constraint_at(problem: &Problem, side: Side) -> &Constraint

@@ -1,6 +1,6 @@
 use Rattle.std.proofs.Common.{subst}
 use Rattle.std.proofs.lemmas.Result.{IfOk-weaker}
-use Rattle.re_bridge_words.specs.Bridged.{IsBridged}
+use Rattle.re_bridge.specs.Bridged.{IsBridged}
 use Rattle.re_bridge_words.specs.declared.answering.TheConstants.{MAX_TRIES}
 use Rattle.re_bridge_words.proofs.answering.found_output.Goals as goal
 

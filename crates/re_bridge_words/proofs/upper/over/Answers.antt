@@ -1,6 +1,6 @@
 use Rattle.std.proofs.Common.{refl, ◌∙◌}
 use Rattle.re_cert.specs.Bounds.{last_problem}
-use Rattle.re_bridge_words.proofs.MoreSteps.{upper-form}
+use Rattle.re_bridge.proofs.MoreSteps.{upper-form}
 use Rattle.re_bridge_words.proofs.UpperSteps.{held-chain, held-fits, held-meets}
 use Rattle.re_bridge_words.proofs.upper.over.Goals as goal
 

@@ -1,5 +1,5 @@
-use Rattle.re_printing.proofs.PrintLemmas.{set_there}
-use Rattle.re_printing.specs.SetTexts.{set_text}
+use Rattle.re_texts.proofs.PrintLemmas.{set_there}
+use Rattle.re_texts.specs.SetTexts.{set_text}
 use Rattle.re_problem.specs.CanonicalTexts.{power_text}
 use Rattle.std.proofs.Common.{◌++◌, ap, append_assoc, sym, ◌∙◌}
 use Rattle.re_closure.proofs.said_sets.push_run.Goals as goal

@@ -1,6 +1,6 @@
 use Rattle.std.proofs.Common.{◌≡◌, ◌≤◌, ◌-◌, ◌++◌, codes, length, drop, map}
 use Rattle.std.specs.List.{flat_map}
-use Rattle.re_printing.specs.SetTexts.{row_text, set_run_text}
+use Rattle.re_texts.specs.SetTexts.{row_text, set_run_text}
 use Rattle.re_problem.specs.CanonicalTexts.{runs}
 use Rattle.re_closure.proofs.said_sets.push_sets.Given as goal
 

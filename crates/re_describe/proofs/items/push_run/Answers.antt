@@ -1,4 +1,4 @@
-use Rattle.re_printing.proofs.PrintLemmas.{set_there}
+use Rattle.re_texts.proofs.PrintLemmas.{set_there}
 use Rattle.re_problem.specs.CanonicalTexts.{power_text}
 use Rattle.std.proofs.Common.{◌++◌, [], ap, append_assoc, sym, ◌∙◌}
 use Rattle.re_describe.specs.Pieces.{item_text}

@@ -1,4 +1,4 @@
-use Rattle.re_printing.proofs.PrintLemmas.{label_then_rest, rest_is}
+use Rattle.re_texts.proofs.PrintLemmas.{label_then_rest, rest_is}
 use Rattle.re_labels.proofs.Strengths.{rest-smaller}
 use Rattle.std.proofs.Common.{◌++◌, sym, arith}
 use Rattle.std.proofs.lemmas.Result.{on_ok_weaker}

@@ -1,4 +1,4 @@
-use Rattle.re_printing.proofs.PrintLemmas.{rest_is}
+use Rattle.re_texts.proofs.PrintLemmas.{rest_is}
 use Rattle.std.proofs.Common.{sym}
 use Rattle.std.proofs.lemmas.Result.{on_ok_weaker}
 use Rattle.re_describe.proofs.Growing.{listed_made}

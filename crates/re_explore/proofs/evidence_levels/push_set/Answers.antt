@@ -1,6 +1,6 @@
 use Rattle.re_forest_words.specs.Answers.{labels_text}
-use Rattle.re_printing.proofs.PrintLemmas.{rest_is}
-use Rattle.re_printing.specs.SetTexts.{named_text}
+use Rattle.re_texts.proofs.PrintLemmas.{rest_is}
+use Rattle.re_texts.specs.SetTexts.{named_text}
 use Rattle.re_explore.proofs.evidence_levels.push_set.Goals as goal
 use Rattle.re_explore.specs.EvidenceLevels.{set_text}
 use Rattle.re_labels.proofs.LeastLabels.{first-is}

@@ -1,6 +1,6 @@
 use Rattle.re_forest_words.proofs.lines.+push_labels.Goals as goal
-use Rattle.re_printing.proofs.PrintLemmas.{label_then_rest, rest_is}
-use Rattle.re_printing.specs.SetTexts.{named_text}
+use Rattle.re_texts.proofs.PrintLemmas.{label_then_rest, rest_is}
+use Rattle.re_texts.specs.SetTexts.{named_text}
 use Rattle.re_labels.proofs.Strengths.{rest-smaller}
 use Rattle.std.proofs.Common.{◌++◌, sym, arith}
 use Rattle.std.proofs.lemmas.Result.{on_ok_weaker}

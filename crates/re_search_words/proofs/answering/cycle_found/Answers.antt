@@ -1,7 +1,7 @@
 use Rattle.std.proofs.Common.{inl, subst}
 use Rattle.re_chains.proofs.WordsGiven.{both_ok}
 use Rattle.re_cert.specs.declared.certificate.Kind.TheVariants.{Fixed}
-use Rattle.re_cycle.specs.Answers.{Answers}
+use Rattle.re_going_on.specs.CycleAnswers.{Answers}
 use Rattle.re_frame.specs.Outcomes.{outcome_of}
 use Rattle.re_labels.specs.declared.TheConstants.{MAX_LABELS}
 use Rattle.re_search_words.proofs.ShorterTexts.{text_on}

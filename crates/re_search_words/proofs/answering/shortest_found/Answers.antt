@@ -2,7 +2,7 @@ use Rattle.std.proofs.Common.{inl, subst}
 use Rattle.re_chains.proofs.WordsGiven.{both_ok}
 use Rattle.re_cert.specs.declared.certificate.Kind.TheVariants.{Upper}
 use Rattle.re_frame.specs.Outcomes.{outcome_of}
-use Rattle.re_beams.specs.ShortestAnswers.{MayAnswer}
+use Rattle.re_going_on.specs.ShortestAnswers.{MayAnswer}
 use Rattle.re_search_words.proofs.ShorterTexts.{text_on}
 use Rattle.re_search_words.proofs.answering.shortest_found.Goals as goal
 

@@ -4,7 +4,7 @@ use Rattle.re_chains.proofs.WordsGiven.{both_ok}
 use Rattle.re_frame.specs.Outcomes.{outcome_of, refused}
 use Rattle.re_frame.specs.SearchLines.{solvable_line}
 use Rattle.re_problem.specs.NamedProblems.{NamedProblem}
-use Rattle.re_search_words.specs.Answers.{Answers}
+use Rattle.re_relaxed.specs.Answers.{Answers}
 use Rattle.re_search_words.proofs.Behind.{counted, found, full, solvable}
 use Rattle.re_search_words.specs.RelaxedWords.{looked_at}
 use Rattle.re_settings.specs.declared.setting.Setting.TheVariants.{Alone}

@@ -1,7 +1,7 @@
 use Rattle.std.proofs.Common.{arith, rules}
 use Rattle.re_problem.specs.NamedProblems.{unnamed}
 use Rattle.re_settings.proofs.ends.has_degrees.Goals as goal
-use Rattle.re_given_bounds.proofs.Sides.{even_itself, odd_exchanged}
+use Rattle.re_given.proofs.ChainGiven.{even_itself, odd_exchanged}
 
 pub returns-then-steps-eq0 : goal.returns-then-steps-eq0
 returns-then-steps-eq0 c = rw (even_itself c.args.steps (unnamed c.args.input.now) (omega (arith, c.if-steps-eq0.true))) (search rules)

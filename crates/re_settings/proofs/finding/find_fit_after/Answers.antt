@@ -1,7 +1,7 @@
 use Rattle.std.proofs.Common.{arith, subst}
 use Rattle.re_given.specs.Inputs.{IsInput}
 use Rattle.re_problem.specs.NamedProblems.{unnamed}
-use Rattle.re_given_bounds.proofs.Sides.{even_itself, odd_exchanged}
+use Rattle.re_given.proofs.ChainGiven.{even_itself, odd_exchanged}
 use Rattle.re_settings.proofs.finding.find_fit_after.Goals as goal
 
 pub find_fit-requires : goal.find_fit-requires

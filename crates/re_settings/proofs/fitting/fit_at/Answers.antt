@@ -1,7 +1,7 @@
 use Rattle.std.proofs.Common.{subst, sym}
 use Rattle.re_chains.proofs.WordsGiven.{none_fails}
 use Rattle.re_given.specs.Inputs.{IsInput}
-use Rattle.re_given_bounds.specs.GivenBounds.{IsOver}
+use Rattle.re_bounds.specs.GivenBounds.{IsOver}
 use Rattle.re_problem.specs.NamedProblems.{NamedProblem, unnamed}
 use Rattle.re_settings.proofs.Held.{input_there}
 use Rattle.re_settings.specs.Walks.{input_at}

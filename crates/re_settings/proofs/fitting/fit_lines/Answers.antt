@@ -1,5 +1,5 @@
 use Rattle.std.proofs.Common.{ap, arith, length}
-use Rattle.re_printing.proofs.PrintLemmas.{meanings_done, meanings_step}
+use Rattle.re_texts.proofs.PrintLemmas.{meanings_done, meanings_step}
 use Rattle.re_settings.specs.Walks.{fit_line}
 use Rattle.re_settings.proofs.fitting.fit_lines.Goals as goal
 

@@ -1,7 +1,7 @@
 use Rattle.std.proofs.Common.{subst, sym}
 use Rattle.std.proofs.lemmas.Result.{IfOk-weaker}
 use Rattle.re_frame.specs.Outcomes.{Outcome}
-use Rattle.re_given_bounds.specs.GivenBounds.{IsOver}
+use Rattle.re_bounds.specs.GivenBounds.{IsOver}
 use Rattle.re_settings.proofs.GivenMeans.{answer_means}
 use Rattle.re_settings.specs.Meanings.{AnswerMeans}
 use Rattle.re_settings.proofs.judging.meant_output.Goals as goal

@@ -1,7 +1,7 @@
 use Rattle.std.proofs.Common.{subst}
 use Rattle.re_cert.specs.Bounds.{problem_at}
 use Rattle.re_chains.proofs.WordsGiven.{none_fails}
-use Rattle.re_given_bounds.specs.GivenBounds.{IsOver}
+use Rattle.re_bounds.specs.GivenBounds.{IsOver}
 use Rattle.re_problem.specs.NamedProblems.{unnamed}
 use Rattle.re_settings.proofs.GivenMeans.{none_there}
 use Rattle.re_settings.specs.Walks.{IsFitAnswer, input_at}

@@ -1,6 +1,6 @@
 use Rattle.std.proofs.Common.{ap, sym}
 use Rattle.re_chains.proofs.WordsGiven.{none_fails}
-use Rattle.re_given_bounds.specs.GivenBounds.{IsOver}
+use Rattle.re_bounds.specs.GivenBounds.{IsOver}
 use Rattle.re_settings.proofs.Held.{accepted_back, refused_back}
 use Rattle.re_settings.specs.Verdicts.{or_back}
 use Rattle.re_settings.proofs.verdicts.back_verdict.Goals as goal

@@ -3,7 +3,7 @@ use Rattle.re_cert.specs.declared.certificate.Kind.TheVariants.{Upper}
 use Rattle.re_chains.specs.Chains.{chain_with}
 use Rattle.re_settings.specs.declared.setting.Setting.TheVariants.{Alone}
 use Rattle.re_problem.specs.NamedProblems.{NamedProblem}
-use Rattle.re_beams.specs.ShortestAnswers.{Answers}
+use Rattle.re_going_on.specs.ShortestAnswers.{Answers}
 use Rattle.re_settle.proofs.Known.{shortest_known}
 use Rattle.re_settle.proofs.bounds.shortest_way.Goals as goal
 

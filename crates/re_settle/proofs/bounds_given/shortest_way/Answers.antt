@@ -2,7 +2,7 @@ use Rattle.std.proofs.Common.{◌∙◌, [], ap, subst}
 use Rattle.re_cert.specs.declared.certificate.Kind.TheVariants.{Upper}
 use Rattle.re_chains.specs.Chains.{chain_with}
 use Rattle.re_settings.specs.declared.setting.Setting.TheVariants.{Given}
-use Rattle.re_beams.specs.ShortestAnswers.{MayAnswer}
+use Rattle.re_going_on.specs.ShortestAnswers.{MayAnswer}
 use Rattle.re_problem.specs.NamedProblems.{NamedProblem}
 use Rattle.re_settle.proofs.GivenKnown.{shortest_known}
 use Rattle.re_settle.proofs.bounds_given.shortest_way.Goals as goal

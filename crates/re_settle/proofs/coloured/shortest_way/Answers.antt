@@ -4,7 +4,7 @@ use Rattle.re_cert.specs.declared.certificate.Kind.TheVariants.{Upper}
 use Rattle.re_chains.specs.Chains.{chain_with}
 use Rattle.re_given.specs.Inputs.{IsInput}
 use Rattle.re_settings.specs.declared.setting.Setting.TheVariants.{Given}
-use Rattle.re_beams.specs.ShortestAnswers.{MayAnswer}
+use Rattle.re_going_on.specs.ShortestAnswers.{MayAnswer}
 use Rattle.re_problem.specs.NamedProblems.{NamedProblem, unnamed}
 use Rattle.re_settle.proofs.Local.{shortened_coloured}
 use Rattle.re_settle.specs.Measures.{coloured_steps, greatest_degree, shortest_labels}

@@ -1,5 +1,5 @@
 use Rattle.std.proofs.Common.{◌≡◌, ◌++◌, OnOk, subst, sym}
-use Rattle.re_printing.proofs.Appending.{then, then_ok}
+use Rattle.re_texts.proofs.Appending.{then, then_ok}
 use Rattle.re_settle.specs.Lines.{way_rest}
 use Rattle.re_settle.specs.declared.types.Way.{Way}
 use Rattle.re_settle.proofs.lines.push_rest.Goals as goal

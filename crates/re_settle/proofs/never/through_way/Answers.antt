@@ -1,5 +1,5 @@
 use Rattle.std.proofs.Common.{subst}
-use Rattle.re_search_words.specs.Answers.{Answers}
+use Rattle.re_relaxed.specs.Answers.{Answers}
 use Rattle.re_settle.proofs.Known.{through_known}
 use Rattle.re_settle.proofs.never.through_way.Goals as goal
 

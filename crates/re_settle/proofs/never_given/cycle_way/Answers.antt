@@ -1,5 +1,5 @@
 use Rattle.std.proofs.Common.{◌*◌, ap, subst}
-use Rattle.re_cycle.specs.Answers.{Answers}
+use Rattle.re_going_on.specs.CycleAnswers.{Answers}
 use Rattle.re_settings.specs.declared.setting.Setting.TheVariants.{Given}
 use Rattle.re_settle.proofs.GivenKnown.{cycle_known}
 use Rattle.re_settle.proofs.never_given.cycle_way.Goals as goal

@@ -1,7 +1,7 @@
 use Rattle.std.proofs.Common.{◌-◌, ◌∙◌, ◌++◌, ◌≤◌, ap, append_assoc, arith, codes, drop, flat_map, get_or, length, take}
 use Rattle.std.proofs.lemmas.List.{get_or_default}
 use Rattle.re_labels.proofs.Patterns.{others-are, parted}
-use Rattle.re_printing.specs.SetTexts.{named_text}
+use Rattle.re_texts.specs.SetTexts.{named_text}
 use Rattle.re_texts.proofs.EntryLines.{image_printed, on_ok}
 use Rattle.re_texts.specs.CertificateLines.{image_text}
 use Rattle.re_texts.proofs.lines.push_image.Goals as goal

@@ -1,6 +1,6 @@
 use Rattle.std.proofs.Common.{◌≡◌, ◌++◌, codes, flat_map, take}
 use Rattle.std.specs.Io.{StartsWith}
-use Rattle.re_printing.specs.SetTexts.{named_text}
+use Rattle.re_texts.specs.SetTexts.{named_text}
 use Rattle.re_texts.proofs.lines.push_others.Given as goal
 
 abbrev pub invariant-loop-label : goal.invariant-loop-label

@@ -1,6 +1,6 @@
 use Rattle.std.proofs.Common.{◌≡◌, ◌++◌, take}
 use Rattle.std.specs.List.{AllByRecursion}
-use Rattle.re_printing.specs.SetTexts.{rows_text}
+use Rattle.re_texts.specs.SetTexts.{rows_text}
 use Rattle.re_texts.specs.PrintedCertificates.{IsAnyRow}
 use Rattle.re_texts.proofs.printed_certificate.push_rows.Given as goal
 

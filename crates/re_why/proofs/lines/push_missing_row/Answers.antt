@@ -1,5 +1,5 @@
 use Rattle.std.proofs.Common.{◌≡◌, ◌++◌, ◌∙◌, ap}
-use Rattle.re_printing.proofs.Appending.{then_ok}
+use Rattle.re_texts.proofs.Appending.{then_ok}
 use Rattle.std.specs.Prelude.{codes}
 use Rattle.re_why.proofs.lines.push_missing_row.Goals as goal
 

@@ -1,5 +1,5 @@
 use Rattle.std.proofs.Common.{◌≡◌, ◌++◌, ◌∙◌, ap}
-use Rattle.re_printing.proofs.Appending.{then, then_ok}
+use Rattle.re_texts.proofs.Appending.{then, then_ok}
 use Rattle.re_why.specs.WitnessTexts.{choice_text, config_text_of}
 use Rattle.std.specs.Prelude.{codes}
 use Rattle.re_why.proofs.lines.push_no_fit.Goals as goal

@@ -1,5 +1,5 @@
 use Rattle.std.proofs.Common.{◌≡◌, ◌++◌, ◌∙◌, ap}
-use Rattle.re_printing.proofs.Appending.{first2, then, then_ok}
+use Rattle.re_texts.proofs.Appending.{first2, then, then_ok}
 use Rattle.re_why.specs.WitnessTexts.{choice_text, config_text_of, sets_text}
 use Rattle.re_why.proofs.lines.push_shut_sets.Goals as goal
 

@@ -1,6 +1,6 @@
 use Rattle.std.proofs.Common.{◌≡◌, ◌++◌, ◌∷◌, map, take}
 use Rattle.std.specs.Prelude.{flat_map}
-use Rattle.re_printing.specs.SetTexts.{named_text}
+use Rattle.re_texts.specs.SetTexts.{named_text}
 use Rattle.re_words.proofs.running.push_labels.Given as goal
 
 abbrev pub invariant-loop-label : goal.invariant-loop-label

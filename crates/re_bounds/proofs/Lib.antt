@@ -1,0 +1,3 @@
+pub mod BoundChains
+pub mod GivenMeaning
+pub mod OnlyUnavoidable

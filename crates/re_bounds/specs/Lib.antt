@@ -1,0 +1,2 @@
+pub mod GivenBounds
+pub mod OnlyUnavoidable

@@ -1,5 +1,0 @@
-use Rattle.re_given_bounds.proofs.GivenMeaning.{beside}
-use Rattle.re_given_bounds.proofs.beside_law.Goals as goal
-
-pub returns : goal.returns
-returns c = beside

@@ -1,5 +1,0 @@
-use Rattle.re_given_bounds.proofs.GivenMeaning.{coloured_bound}
-use Rattle.re_given_bounds.proofs.coloured_bound_law.Goals as goal
-
-pub returns : goal.returns
-returns c = coloured_bound

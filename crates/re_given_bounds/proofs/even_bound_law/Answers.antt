@@ -1,5 +1,0 @@
-use Rattle.re_given_bounds.proofs.GivenMeaning.{even_bound_means}
-use Rattle.re_given_bounds.proofs.even_bound_law.Goals as goal
-
-pub returns : goal.returns
-returns c = even_bound_means

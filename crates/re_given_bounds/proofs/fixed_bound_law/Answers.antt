@@ -1,5 +1,0 @@
-use Rattle.re_given_bounds.proofs.GivenMeaning.{fixed_bound_means}
-use Rattle.re_given_bounds.proofs.fixed_bound_law.Goals as goal
-
-pub returns : goal.returns
-returns c = fixed_bound_means

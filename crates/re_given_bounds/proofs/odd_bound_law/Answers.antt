@@ -1,5 +1,0 @@
-use Rattle.re_given_bounds.proofs.GivenMeaning.{odd_bound_means}
-use Rattle.re_given_bounds.proofs.odd_bound_law.Goals as goal
-
-pub returns : goal.returns
-returns c = odd_bound_means

@@ -1,5 +1,0 @@
-use Rattle.re_given_bounds.proofs.OnlyUnavoidable.{only_unavoidable}
-use Rattle.re_given_bounds.proofs.only_unavoidable_law.Goals as goal
-
-pub returns : goal.returns
-returns c = only_unavoidable

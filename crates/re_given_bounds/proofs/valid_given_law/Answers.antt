@@ -1,5 +1,0 @@
-use Rattle.re_given_bounds.proofs.GivenMeaning.{valid_given}
-use Rattle.re_given_bounds.proofs.valid_given_law.Goals as goal
-
-pub returns : goal.returns
-returns c = valid_given

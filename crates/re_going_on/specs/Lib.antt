@@ -1,0 +1,2 @@
+pub mod CycleAnswers
+pub mod ShortestAnswers

@@ -1,4 +1,0 @@
-use Rattle.re_search_words.proofs.through.+through_behind.Given as goal
-
-abbrev pub decreases-through_behind : goal.decreases-through_behind
-decreases-through_behind l = l.more

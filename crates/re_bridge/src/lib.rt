@@ -3,9 +3,9 @@
 #![tactic(auto)]
 
 mod appending;
-mod bridging;
 mod by_row;
 mod by_set;
+mod chains;
 mod finding;
 mod mapping;
 mod reducing;
@@ -16,7 +16,7 @@ ghost use Rattle.re_bridge.specs.Laws.{BridgeLaw};
 ghost use Rattle.re_bridge.specs.Reductions.{LeastLabelsLaw, ReducedRoundsLaw, ReductionLaw};
 
 pub use appending::appended;
-pub use bridging::bridge;
+pub use chains::bridge;
 pub use finding::{BridgeFault, find_bridge};
 pub use reducing::{ReduceFault, reduce};
 

@@ -4,7 +4,7 @@ use Rattle.re_bridge.specs.Laws.{IsAnswer}
 use Rattle.re_cert.specs.Bounds.{step_fits, step_with}
 use Rattle.re_cert.specs.declared.certificate.Kind.TheVariants.{Lower}
 use Rattle.re_bridge.proofs.Fitting.{found-bridged, found-fits}
-use Rattle.re_bridge.proofs.bridging.bridge.Goals as goal
+use Rattle.re_bridge.proofs.chains.bridge.Goals as goal
 
 pub over-requires-clause-fits : goal.over-requires-clause-fits
 over-requires-clause-fits c =

@@ -5,7 +5,6 @@ ghost use Rattle.re_describe.specs.ClassReports.{is_evidence as has_evidence};
 ghost use Rattle.re_describe.specs.DescribeWords.{IsReport, MayDescribe, OrFault, ReportsBy, ReportsText, written};
 ghost use Rattle.re_describe.specs.Reports.{IsMarkdown};
 ghost use Rattle.re_frame.specs.Outcomes.{outcome_of};
-ghost use Rattle.re_io.specs.declared.read.TheConstants.{MAX_BYTES};
 ghost use Rattle.std.specs.Prelude.{◌≡◌, ◌≤◌, IfOk, codes, length};
 
 use crate::class_answering::{evidence_output, is_evidence};
@@ -19,6 +18,7 @@ use crate::words::{DescribeWord, ReportForm};
 use re_cert::Certificate;
 use re_chains::{has_line, read_bound};
 use re_frame::{Finding, Output, done, fault_output};
+use re_io::MAX_BYTES;
 use re_labels::NoMemory;
 use re_problem::TextFault;
 use re_settings::GIVEN;

@@ -1,7 +1,7 @@
 //! The blocks of a report: what it says, of which problem or step of a certificate.
 ghost use Rattle.re_check.specs.Verdicts.{verdict_of};
 ghost use Rattle.re_describe.specs.Blocks.{back_blocks, back_mark, blocks_with, body_blocks, end_mark, front_blocks, graph_blocks, identifier_blocks, problem_blocks, report_of, step_blocks, step_mark};
-ghost use Rattle.std.specs.Prelude.{◌≡◌, ◌≤◌, ◌++◌, ◌∷◌, [], IfOk, OnOk};
+ghost use Rattle.std.specs.Prelude.{◌≡◌, ◌≤◌, ◌++◌, IfOk, OnOk};
 
 use re_cert::{Certificate, Kind};
 use re_check::{Clause, Verdict};

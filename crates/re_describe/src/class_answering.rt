@@ -3,7 +3,6 @@ ghost use Rattle.re_describe.specs.ClassReports.{IsClassMarkdown, is_evidence, i
 ghost use Rattle.re_describe.specs.DescribeWords.{IsReport, ReportsEvidence, ReportsHeld};
 ghost use Rattle.re_describe.specs.GivenReports.{is_done};
 ghost use Rattle.re_frame.specs.Outcomes.{outcome_of, status_of};
-ghost use Rattle.re_io.specs.declared.read.TheConstants.{MAX_BYTES};
 ghost use Rattle.re_judging.specs.Judging.{IsJudgedFirst};
 ghost use Rattle.std.specs.Prelude.{◌≡◌, ◌≤◌, IfOk, length, true};
 
@@ -12,6 +11,7 @@ use crate::class_reporting::class_report;
 use crate::given_reporting::is_done;
 use crate::words::ReportForm;
 use re_frame::{Output, done};
+use re_io::MAX_BYTES;
 use re_judging::{Judged, PartKind, first_part, joint_at, judge_behind, judge_part, kind_of};
 use re_labels::NoMemory;
 use re_problem::Problem;

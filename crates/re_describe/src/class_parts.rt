@@ -1,12 +1,12 @@
 //! What the parts of evidence show, one after another.
 ghost use Rattle.re_describe.specs.ClassReports.{SaysPart, SaysParts, fact_text, judged_text, kind_text};
-ghost use Rattle.re_io.specs.declared.read.TheConstants.{MAX_BYTES};
 ghost use Rattle.re_judging.specs.declared.types.Fact.TheVariants.{FewColours};
 ghost use Rattle.std.specs.Prelude.{◌≡◌, ◌≤◌, ◌+◌, ◌++◌, IfOk, OnOk, length};
 
 use crate::heads::{push_fewer, push_rounds};
 use crate::pieces::push_between;
 use re_frame::push_words;
+use re_io::MAX_BYTES;
 use re_judging::{Fact, Judged, PartKind, behind_joint, first_part, joint_at, judge_part, kind_of};
 use re_labels::{NoMemory, Side};
 use std::alloc::Global;

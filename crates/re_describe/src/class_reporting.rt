@@ -3,7 +3,6 @@ ghost use Rattle.re_describe.specs.ClassReports.{IsClassMarkdown, SaysClass, cla
 ghost use Rattle.re_describe.specs.GivenHeads.{lines_block};
 ghost use Rattle.re_describe.specs.Writing.{WritesBy};
 ghost use Rattle.re_frame.specs.Outcomes.{outcome_of};
-ghost use Rattle.re_io.specs.declared.read.TheConstants.{MAX_BYTES};
 ghost use Rattle.std.specs.Prelude.{◌≡◌, ◌≤◌, IfOk, length};
 
 use crate::class_blocks::{ClassBlock, class_blocks};
@@ -12,6 +11,7 @@ use crate::given_heads::push_lines_block;
 use crate::graph_reporting::{active_block, graph_notation_text, passive_block, problem_block};
 use crate::reporting::model_text;
 use re_frame::{Output, begun};
+use re_io::MAX_BYTES;
 use re_labels::NoMemory;
 use re_problem::Problem;
 use std::alloc::Global;

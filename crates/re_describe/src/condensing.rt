@@ -1,13 +1,11 @@
 //! A constraint in few rows.
-ghost use Rattle.re_labels.specs.Rows.{singles};
 ghost use Rattle.re_describe.specs.Spelling.{AreAlone, AreApart, AreSources, AreTaken, Condenses, Spells, TakesIn};
-ghost use Rattle.re_labels.specs.declared.TheConstants.{MAX_LABELS};
 ghost use Rattle.re_labels.specs.Constraints.{IsConstraint};
 ghost use Rattle.re_labels.specs.GoodRows.{IsDominated, is_dominated};
 ghost use Rattle.std.specs.Prelude.{◌≡◌, ◌≤◌, ◌∷◌, [], ℕ, Contains, IfOk, List, OnOk, length, option_map};
 
 use re_boxes::{dominates, row_order};
-use re_labels::{Constraint, NoMemory, Row};
+use re_labels::{Constraint, MAX_LABELS, NoMemory, Row};
 use re_step::{RowsFault, maximal_rows};
 use std::alloc::Global;
 use std::cmp::Ordering;

@@ -3,7 +3,6 @@ ghost use Rattle.re_chains.specs.TwoTexts.{back_problem, front_bound, two_fault}
 ghost use Rattle.re_describe.specs.DescribeWords.{IsReport, OrFault, ReportsGiven, is_judged};
 ghost use Rattle.re_describe.specs.GivenReports.{IsGivenMarkdown, judged};
 ghost use Rattle.re_frame.specs.Outcomes.{outcome_of, status_of};
-ghost use Rattle.re_io.specs.declared.read.TheConstants.{MAX_BYTES};
 ghost use Rattle.std.specs.Prelude.{◌≡◌, ◌≤◌, IfOk, codes, length};
 
 use crate::answering::in_form;
@@ -12,6 +11,7 @@ use crate::words::ReportForm;
 use re_cert::Certificate;
 use re_chains::read_two;
 use re_frame::{Answer, Output, done, fault_output};
+use re_io::MAX_BYTES;
 use re_labels::NoMemory;
 use re_problem::{Problem, TextFault};
 use re_settings::{GIVEN, InputFault, given_verdict, given_verdict_output, input_fault};

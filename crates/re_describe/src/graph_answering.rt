@@ -1,12 +1,11 @@
 //! What `describe` answers to a problem and a graph.
 ghost use Rattle.re_chains.specs.TwoTexts.{has_line};
-ghost use Rattle.re_describe.specs.DescribeWords.{IsGraphReport, ReportsGraph, drawing, drawn, is_no, withheld, withheld_status};
+ghost use Rattle.re_describe.specs.DescribeWords.{IsGraphReport, ReportsGraph, drawing, drawn, is_no, withheld};
 ghost use Rattle.re_frame.specs.Outcomes.{outcome_of, status_of};
 ghost use Rattle.re_graph_words.specs.GraphInputs.{graph_input};
 ghost use Rattle.re_graph_words.specs.GraphWords.{MayGive};
 ghost use Rattle.re_graph_words.specs.SolveWords.{ReadMeans, read_outcome};
 ghost use Rattle.re_graph_words.specs.declared.words.GraphWord.TheVariants.{Solve};
-ghost use Rattle.re_io.specs.declared.read.TheConstants.{MAX_BYTES};
 ghost use Rattle.re_laws.specs.Algorithms.{Solvable};
 ghost use Rattle.re_problem.specs.NamedProblems.{unnamed};
 ghost use Rattle.std.specs.Prelude.{◌≡◌, ◌≤◌, ℕ, IfOk, codes, false, length};
@@ -19,6 +18,7 @@ use crate::words::ReportForm;
 use re_frame::{Answer, Finding, Output, done};
 use re_graph::Graph;
 use re_graph_words::{GraphWord, ReadFault, read_graph_text};
+use re_io::MAX_BYTES;
 use re_labels::NoMemory;
 use re_problem::Problem;
 use std::alloc::Global;

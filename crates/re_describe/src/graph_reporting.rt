@@ -3,7 +3,7 @@ ghost use Rattle.re_cert.specs.declared.certificate.Kind.TheVariants.{Fixed};
 ghost use Rattle.re_check.specs.declared.verdict.Verdict.TheVariants.{Accepted};
 ghost use Rattle.re_describe.specs.GivenHeads.{lines_block};
 ghost use Rattle.re_describe.specs.GraphReports.{SaysGraph, WritesGraph, graph_back_blocks, graph_check_text, graph_front_blocks, graph_notation_text, why_text};
-ghost use Rattle.re_describe.specs.Heads.{claim, graph_claim, model, problem_text};
+ghost use Rattle.re_describe.specs.Heads.{problem_text};
 ghost use Rattle.re_describe.specs.Reports.{SaysRows};
 ghost use Rattle.re_graph.specs.GraphTexts.{graph_text};
 ghost use Rattle.std.specs.Prelude.{◌≡◌, ◌++◌, IfOk, codes};

@@ -7,7 +7,6 @@ ghost use Rattle.re_describe.specs.GroupTexts.{WritesBoth, WritesGraph, WritesLa
 ghost use Rattle.re_frame.specs.Outcomes.{outcome_of};
 ghost use Rattle.re_graph_words.specs.GivenInputs.{labelled_input};
 ghost use Rattle.re_graph_words.specs.GraphInputs.{graph_input};
-ghost use Rattle.re_io.specs.declared.read.TheConstants.{MAX_BYTES};
 ghost use Rattle.std.specs.Prelude.{◌≡◌, ◌≤◌, IfOk, codes, false, length, true};
 
 use crate::answering::GRAPH;
@@ -21,6 +20,7 @@ use crate::labelled_answering::solved_given;
 use re_chains::{has_line, read_bound, read_two};
 use re_frame::{Output, done, fault_output};
 use re_graph_words::{ReadFault, read_graph_text, read_labelled};
+use re_io::MAX_BYTES;
 use re_labels::NoMemory;
 use re_problem::TextFault;
 use re_settings::GIVEN;

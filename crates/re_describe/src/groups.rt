@@ -1,8 +1,6 @@
 //! A certificate or a problem, written with its configurations in groups.
 ghost use Rattle.re_chains.specs.ChainTexts.{chain_fault, is_certificate_text, text_bound};
 ghost use Rattle.re_describe.specs.GroupTexts.{WritesSame};
-ghost use Rattle.re_io.specs.declared.read.TheConstants.{MAX_BYTES};
-ghost use Rattle.re_labels.specs.declared.TheConstants.{MAX_LABELS};
 ghost use Rattle.re_labels.specs.Constraints.{IsConstraint};
 ghost use Rattle.std.specs.Prelude.{◌≡◌, ◌≤◌, IfOk, IsTrue, None, length};
 
@@ -15,7 +13,7 @@ use re_cert::Certificate;
 use re_chains::{is_certificate_text, read_bound};
 use re_frame::push_words;
 use re_io::MAX_BYTES;
-use re_labels::{Constraint, Names, NoMemory, Row};
+use re_labels::{Constraint, MAX_LABELS, Names, NoMemory, Row};
 use re_problem::{Problem, TextFault};
 use re_texts::print_certificate;
 use std::alloc::Global;

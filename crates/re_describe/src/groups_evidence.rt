@@ -2,7 +2,6 @@
 ghost use Rattle.re_describe.specs.DescribeWords.{IsSame, OrOutcome};
 ghost use Rattle.re_describe.specs.GroupTexts.{WritesEvidence};
 ghost use Rattle.re_frame.specs.Outcomes.{outcome_of};
-ghost use Rattle.re_io.specs.declared.read.TheConstants.{MAX_BYTES};
 ghost use Rattle.re_judging.specs.PartFaults.{parts_fault as fault_of_parts};
 ghost use Rattle.std.specs.Prelude.{◌≡◌, ◌≤◌, IfOk, IsTrue, None, length};
 

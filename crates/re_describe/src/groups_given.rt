@@ -1,7 +1,6 @@
 //! A certificate or a problem with an input problem behind it, written with its configurations in groups.
 ghost use Rattle.re_chains.specs.TwoTexts.{back_problem, front_bound, two_fault};
 ghost use Rattle.re_describe.specs.GroupTexts.{WritesBoth};
-ghost use Rattle.re_io.specs.declared.read.TheConstants.{MAX_BYTES};
 ghost use Rattle.std.specs.Prelude.{◌≡◌, ◌≤◌, IfOk, IsTrue, None, codes, length};
 
 use crate::groups::{copied, grouped, push_grouped};

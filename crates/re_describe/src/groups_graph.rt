@@ -4,7 +4,6 @@ ghost use Rattle.re_describe.specs.GroupTexts.{WritesGraph, WritesGraphBy, Write
 ghost use Rattle.re_graph_words.specs.GivenInputs.{labelled_input};
 ghost use Rattle.re_graph_words.specs.GivenReading.{labelled_with};
 ghost use Rattle.re_graph_words.specs.GraphInputs.{graph_input};
-ghost use Rattle.re_io.specs.declared.read.TheConstants.{MAX_BYTES};
 ghost use Rattle.std.specs.Prelude.{◌≡◌, ◌≤◌, IfOk, IsTrue, Ok, codes, length};
 
 use crate::answering::GRAPH;

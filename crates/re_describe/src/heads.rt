@@ -1,6 +1,5 @@
 //! What a report says of the first problem, in rounds of the tree and of a graph, and where nodes have identifiers or random strings.
 ghost use Rattle.re_describe.specs.Heads.{at_most, claim, fewer_claim, graph_claim, identifiers_claim, in_all, model, up_to};
-ghost use Rattle.std.specs.Fmt.{decimal};
 ghost use Rattle.std.specs.Prelude.{◌≡◌, ◌==◌, ◌≤◌, ◌++◌, [], OnOk, if◌then◌else◌};
 
 use crate::pieces::{push_between, push_count};

@@ -1,5 +1,5 @@
 //! Rows as lines: runs of equal sets once, with their power.
-ghost use Rattle.re_describe.specs.Pieces.{item_text, items_text};
+ghost use Rattle.re_describe.specs.Pieces.{items_text};
 ghost use Rattle.re_describe.specs.SetRuns.{PushesRun};
 ghost use Rattle.re_labels.specs.Sets.{number};
 ghost use Rattle.std.specs.Prelude.{◌≡◌, ◌<◌, ◌≤◌, ◌++◌, IfOk, OnOk, length, map};

@@ -6,7 +6,6 @@ ghost use Rattle.re_given.specs.Given.{SolvableGiven};
 ghost use Rattle.re_graph_words.specs.GivenInputs.{labelled_input};
 ghost use Rattle.re_graph_words.specs.GivenSolutions.{labelled_outcome};
 ghost use Rattle.re_graph_words.specs.SolveWords.{ReadLabelledMeans, read_labelled_outcome};
-ghost use Rattle.re_io.specs.declared.read.TheConstants.{MAX_BYTES};
 ghost use Rattle.re_problem.specs.NamedProblems.{unnamed};
 ghost use Rattle.std.specs.Prelude.{◌≡◌, ◌≤◌, ℕ, IfOk, codes, length, true};
 
@@ -16,6 +15,7 @@ use crate::words::ReportForm;
 use re_frame::{Answer, Output, done};
 use re_graph::{LabelsFault, labels_fault};
 use re_graph_words::{GivenGraph, ReadFault, read_labelled};
+use re_io::MAX_BYTES;
 use re_labels::{NoMemory, PortLabels};
 use re_settings::{InputFault, input_fault};
 use std::alloc::Global;

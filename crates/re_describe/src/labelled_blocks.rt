@@ -1,5 +1,4 @@
 //! The blocks of a report on a graph with a solution of an input problem on which a problem has none.
-ghost use Rattle.re_describe.specs.GraphReports.{subject_blocks};
 ghost use Rattle.re_describe.specs.LabelledReports.{labelled_back_blocks, labelled_edge_blocks, labelled_front_blocks};
 ghost use Rattle.re_describe.specs.declared.labelled_blocks.LabelledBlock.TheVariants as labelled;
 ghost use Rattle.std.specs.Prelude.{◌≡◌, ◌++◌, IfOk, OnOk, map};

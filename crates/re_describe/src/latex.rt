@@ -1,5 +1,5 @@
 //! A report in LaTeX, made of its Markdown line by line.
-ghost use Rattle.re_describe.specs.Latex.{change, closing, ending, escaped, form_of, goes_on, latex_line, latex_lines, latex_of, latex_words, mark, mode_behind, opening, written};
+ghost use Rattle.re_describe.specs.Latex.{change, closing, ending, escaped, form_of, goes_on, latex_line, latex_of, latex_words, mark, mode_behind, opening, written};
 ghost use Rattle.re_describe.specs.declared.latex.Mode.TheVariants as plain;
 ghost use Rattle.std.specs.Prelude.{◌≡◌, ◌≤◌, ◌++◌, IfOk, OnOk, drop, length, map, ◌==◌};
 ghost use Rattle.std.specs.List.{slice_split};

@@ -1,6 +1,6 @@
 //! Marks where the check of a certificate fails.
 ghost use Rattle.re_describe.specs.Reports.{asked, fails_text};
-ghost use Rattle.std.specs.Prelude.{◌≡◌, ◌++◌, IfOk};
+ghost use Rattle.std.specs.Prelude.{◌≡◌, IfOk};
 
 use re_check::Clause;
 use re_frame::{begun, push_words};

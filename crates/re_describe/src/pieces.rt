@@ -1,10 +1,9 @@
 //! What reports are put together from. A label without a name is written as empty parentheses; in a certificate each has one.
 ghost use Rattle.re_describe.specs.Pieces.{gap, group_text, image_text, index_of, item_text, listed, places_text, shown};
 ghost use Rattle.re_labels.specs.Sets.{IsLabelSet};
-ghost use Rattle.re_labels.specs.declared.TheConstants.{MAX_LABELS};
 ghost use Rattle.re_texts.specs.SetTexts.{named_text};
 ghost use Rattle.std.specs.Fmt.{decimal};
-ghost use Rattle.std.specs.Prelude.{◌≡◌, ◌++◌, IfOk, OnOk, codes, flat_map};
+ghost use Rattle.std.specs.Prelude.{◌≡◌, ◌++◌, IfOk, OnOk, flat_map};
 
 use re_frame::{begun, push_number, push_words};
 use re_labels::{LabelSet, MAX_LABELS, Names, NoMemory};

@@ -2,7 +2,6 @@
 ghost use Rattle.re_cert.specs.Bounds.{problem_at};
 ghost use Rattle.re_describe.specs.Heads.{counts, problem_text, side_counts};
 ghost use Rattle.re_describe.specs.Reports.{SaysRows, row_line, rows_text};
-ghost use Rattle.re_labels.specs.declared.TheConstants.{MAX_LABELS};
 ghost use Rattle.re_labels.specs.Constraints.{IsConstraint};
 ghost use Rattle.std.specs.Fmt.{decimal};
 ghost use Rattle.std.specs.Prelude.{◌≡◌, ◌≤◌, ◌++◌, None, Some, codes, IfOk, OnOk, flat_map, length};
@@ -12,7 +11,7 @@ use crate::items::push_items;
 use crate::pieces::{push_between, push_count};
 use re_cert::Certificate;
 use re_frame::{begun, push_number, push_words};
-use re_labels::{Constraint, Names, NoMemory, Row};
+use re_labels::{Constraint, MAX_LABELS, Names, NoMemory, Row};
 use re_problem::Problem;
 use std::alloc::Global;
 

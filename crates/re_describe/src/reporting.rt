@@ -3,8 +3,7 @@ ghost use Rattle.re_check.specs.Verdicts.{verdict_of};
 ghost use Rattle.re_describe.specs.Reports.{IsMarkdown, Says, Writes};
 ghost use Rattle.re_describe.specs.declared.blocks.Block.TheVariants as block;
 ghost use Rattle.re_frame.specs.Check.{verdict_line};
-ghost use Rattle.std.specs.Prelude.{◌≡◌, ◌++◌, ◌-◌, IfOk, MatchOption, codes, slice_get};
-ghost use Rattle.re_describe.specs.Steps.{SaysStep};
+ghost use Rattle.std.specs.Prelude.{◌≡◌, ◌++◌, ◌-◌, IfOk, codes};
 ghost use Rattle.re_cert.specs.Bounds.{problem_at};
 ghost use Rattle.re_describe.specs.Heads.{claim, graph_claim, identifiers_claim, model, problem_text};
 

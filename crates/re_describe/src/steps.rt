@@ -7,7 +7,7 @@ ghost use Rattle.re_describe.specs.Steps.{AreMeant, SaysMap, SaysSets, SaysStep,
 ghost use Rattle.re_labels.specs.Lists.{count_from};
 ghost use Rattle.re_labels.specs.Sets.{IsIn, IsLabelSet};
 ghost use Rattle.std.specs.Fmt.{decimal};
-ghost use Rattle.std.specs.Prelude.{◌≡◌, ◌==◌, codes, ◌<◌, ◌≤◌, ◌+◌, ◌^◌, ◌++◌, ℕ, true, IfOk, OnOk, count_by, flat_map, length};
+ghost use Rattle.std.specs.Prelude.{◌≡◌, ◌==◌, codes, ◌<◌, ◌+◌, ◌^◌, ◌++◌, ℕ, true, IfOk, OnOk, count_by, flat_map, length};
 
 use crate::meanings::{Meaning, meaning_of};
 use crate::pieces::{

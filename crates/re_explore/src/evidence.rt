@@ -1,6 +1,5 @@
 //! What the word answers: parts of evidence, one behind another as long as `judge` takes all of them.
 ghost use Rattle.re_frame.specs.Outcomes.{outcome_of};
-ghost use Rattle.re_io.specs.declared.read.TheConstants.{MAX_BYTES};
 ghost use Rattle.re_explore.specs.Evidence.{GoesOn, IsEvidence, IsOfFirst, IsShowing, IsUnjudged, Joins, MayShow, found_part, with_joint};
 ghost use Rattle.re_explore.specs.EvidenceWords.{IsEvidenceWord};
 ghost use Rattle.std.specs.Prelude.{◌≡◌, ◌≤◌, IfOk, false, length, option_map, true};

@@ -1,6 +1,5 @@
 //! The bounds that words find, found anew by the searches behind these words, with their numbers. What they are worth `judge` says.
-ghost use Rattle.re_problem.specs.NamedProblems.{unnamed};
-ghost use Rattle.std.specs.Prelude.{◌≤◌, ◌<◌, length};
+ghost use Rattle.std.specs.Prelude.{◌<◌};
 
 use re_cert::{Certificate, MAX_STEPS};
 use re_chains::{LowerChain, problem_chain};

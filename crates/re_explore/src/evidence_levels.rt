@@ -1,13 +1,12 @@
 //! The part of a problem's levels of labels.
 ghost use Rattle.re_labels.specs.Sets.{IsLabelSet};
-ghost use Rattle.re_labels.specs.declared.TheConstants.{MAX_LABELS};
 ghost use Rattle.re_explore.specs.EvidenceLevels.{levels_part, levels_text, set_text};
 ghost use Rattle.std.specs.Prelude.{◌≡◌, ◌++◌, IfOk, OnOk};
 
 use re_flexible::Flexibility;
 use re_forest_words::{push_labels, push_name};
 use re_frame::{push_number, push_words};
-use re_labels::{LabelSet, Names, NoMemory};
+use re_labels::{LabelSet, MAX_LABELS, Names, NoMemory};
 use re_problem::{Problem, print_problem};
 use std::alloc::Global;
 

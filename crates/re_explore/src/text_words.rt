@@ -1,7 +1,5 @@
 // Words of families some of whose words read an input problem behind a line `== given`.
 ghost use Rattle.re_explore.specs.TextWords.{IsTextWord, MayGiveWord, front_of};
-ghost use Rattle.re_frame.specs.Outcomes.{outcome_of, status_of};
-ghost use Rattle.re_frame.specs.Runs.{MaySay};
 ghost use Rattle.std.specs.Prelude.{◌≡◌, true};
 
 use re_asking::FrontText;

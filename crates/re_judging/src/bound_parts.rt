@@ -1,15 +1,12 @@
 //! Parts of evidence that hold a bound, alone or given an input problem.
-ghost use Rattle.re_cert.specs.Bounds.{Bound};
 ghost use Rattle.re_cert.specs.CertificateTexts.{certificate_fault, certificate_of, text_lines};
 ghost use Rattle.re_chains.specs.TwoTexts.{back_problem, front_bound, two_fault};
 ghost use Rattle.re_check.specs.Verdicts.{verdict_of};
 ghost use Rattle.re_evidence.specs.Colours.{IsNamedColouring};
 ghost use Rattle.re_judging.specs.PartAnswers.{PartMeans};
 ghost use Rattle.re_judging.specs.PartVerdicts.{IsCertificate, IsChecked, IsGiven, IsGivenBy, IsGivenFact, IsUpperFact, bound_fact};
-ghost use Rattle.re_frame.specs.Outcomes.{outcome_of};
 ghost use Rattle.re_settings.specs.Verdicts.{given_outcome};
 ghost use Rattle.re_settings.specs.declared.bound_words.BoundWord.TheVariants.{Given};
-ghost use Rattle.re_io.specs.declared.read.TheConstants.{MAX_BYTES};
 ghost use Rattle.std.specs.Prelude.{◌≡◌, ◌≤◌, ◌↔◌, IfOk, IsTrue, codes, length};
 
 use crate::same::are_same;
@@ -19,6 +16,7 @@ use re_chains::{TwoTexts, over_problems, read_two};
 use re_check::{Verdict, check};
 use re_evidence::{colouring_of, few_colours};
 use re_frame::{Answer, fault_output, verdict_output};
+use re_io::MAX_BYTES;
 use re_labels::{NoMemory, Side};
 use re_problem::{Problem, TextFault};
 use re_settings::{GIVEN, answer_law, given_verdict, given_verdict_output, input_fault};

@@ -1,18 +1,16 @@
 //! Parts of evidence that hold a flexible set of labels.
 ghost use Rattle.re_chains.specs.TwoTexts.{has_line};
-ghost use Rattle.re_flexible.specs.Lengths.{IsFlexibleSet};
 ghost use Rattle.re_frame.specs.Outcomes.{outcome_of};
-ghost use Rattle.re_io.specs.declared.read.TheConstants.{MAX_BYTES};
-ghost use Rattle.re_judging.specs.LabelLines.{one_set as one_set_of};
 ghost use Rattle.re_judging.specs.PartAnswers.{PartMeans};
 ghost use Rattle.re_judging.specs.PartVerdicts.{IsFlexibleBy, IsFlexiblePart, IsSetBy, front_fault, not_flexible};
-ghost use Rattle.std.specs.Prelude.{◌≡◌, ◌≤◌, ◌+◌, IfOk, codes, length, true};
+ghost use Rattle.std.specs.Prelude.{◌≡◌, ◌≤◌, IfOk, codes, length, true};
 
 use crate::label_lines::one_set;
 use crate::types::{Fact, Judged, Part};
 use re_chains::{cut_at, read_problem_at};
 use re_flexible::is_flexible;
 use re_frame::{Output, begun, fault_output, refused};
+use re_io::MAX_BYTES;
 use re_labels::{LabelSet, NoMemory};
 use re_problem::{InputFault, Problem, TextFault};
 use std::alloc::Global;

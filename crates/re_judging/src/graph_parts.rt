@@ -4,14 +4,11 @@ ghost use Rattle.re_judging.specs.PartAnswers.{PartMeans};
 ghost use Rattle.re_judging.specs.PartVerdicts.{IsGraphBy, IsLabelledGraph, IsOnGraph, IsPlainGraph};
 ghost use Rattle.re_frame.specs.Outcomes.{outcome_of, refused};
 ghost use Rattle.re_graph_words.specs.GivenInputs.{labelled_input};
-ghost use Rattle.re_graph_words.specs.GivenSolutions.{given_none_line};
 ghost use Rattle.re_graph_words.specs.GraphInputs.{graph_input};
-ghost use Rattle.re_graph_words.specs.SolveWords.{IsSolved, ReadLabelledMeans, ReadMeans, none_line, read_labelled_outcome, solve_outcome};
-ghost use Rattle.re_io.specs.declared.read.TheConstants.{MAX_BYTES};
+ghost use Rattle.re_graph_words.specs.SolveWords.{IsSolved, ReadLabelledMeans, ReadMeans, read_labelled_outcome};
 ghost use Rattle.re_laws.specs.Algorithms.{Solvable};
 ghost use Rattle.re_problem.specs.NamedProblems.{unnamed};
-ghost use Rattle.re_problem.specs.Problems.{IsProblem};
-ghost use Rattle.std.specs.Prelude.{◌≡◌, ◌↔◌, ◌≤◌, ℕ, IfOk, IsTrue, codes, false, length, true};
+ghost use Rattle.std.specs.Prelude.{◌≡◌, ◌↔◌, ◌≤◌, ℕ, IfOk, IsTrue, codes, length};
 
 use crate::types::{Fact, Judged, Part};
 use re_chains::has_line;
@@ -19,6 +16,7 @@ use re_frame::{Answer, Finding, Output};
 use re_graph_words::{
     GraphText, GraphWord, LabelledGraph, ReadFault, read_graph_text, read_labelled,
 };
+use re_io::MAX_BYTES;
 use re_labels::NoMemory;
 use re_problem::Problem;
 use re_settings::{GIVEN, input_fault};

@@ -1,8 +1,8 @@
 //! Texts of several parts, joined by lines `=====`.
 ghost use Rattle.re_judging.specs.Joints.{behind_joint, first_part, is_joint, joint_at};
-ghost use Rattle.re_io.specs.declared.read.TheConstants.{MAX_BYTES};
-ghost use Rattle.std.specs.Prelude.{◌≡◌, ◌≤◌, IfSome, drop, length, take};
+ghost use Rattle.std.specs.Prelude.{◌≡◌, ◌≤◌, IfSome, length, take};
 
+use re_io::MAX_BYTES;
 use re_problem::cut_line;
 
 // Whether the line stands between two parts.

@@ -1,11 +1,7 @@
 //! What `judge` answers to a text of evidence.
-ghost use Rattle.re_judging.specs.Facts.{KnownHolds};
 ghost use Rattle.re_judging.specs.Joints.{joint_at};
 ghost use Rattle.re_judging.specs.Judging.{GoesOn, IsJudgedBy, IsJudgedFirst, JudgeLaw, MayJudge, claim_line, class_line, in_part, other_problem, refused_status, told};
 ghost use Rattle.re_frame.specs.Outcomes.{outcome_of, status_of};
-ghost use Rattle.re_io.specs.declared.read.TheConstants.{MAX_BYTES};
-ghost use Rattle.re_problem.specs.NamedProblems.{unnamed};
-ghost use Rattle.re_problem.specs.Problems.{IsProblem};
 ghost use Rattle.std.specs.Prelude.{◌≡◌, ◌≤◌, ◌+◌, ◌++◌, IfOk, OnOk, length};
 
 use crate::facts::{claim_from, class_from, nothing_known, with_fact};
@@ -17,6 +13,7 @@ use crate::words::Judge;
 use re_evidence::{Claim, Class, alone_text, push_claim, push_class};
 use re_frame::{Answer, Finding, Output, begun, done, limit_of, push_number, push_words, refused};
 use re_gap::{above_log_on_views_law, not_flexible_law};
+use re_io::MAX_BYTES;
 use re_labels::NoMemory;
 use re_problem::Problem;
 use std::alloc::Global;

@@ -1,13 +1,13 @@
 //! Lines of labels: the set of a line, and the multisets of some lines.
-ghost use Rattle.re_cert.specs.Entries.{label_items, labels_in};
-ghost use Rattle.re_judging.specs.LabelLines.{Gives, alone, fewer_than, labels_or, multiset_in, multisets_on, one_set, set_in, side_of, side_on};
-ghost use Rattle.re_io.specs.declared.read.TheConstants.{MAX_BYTES};
+ghost use Rattle.re_cert.specs.Entries.{label_items};
+ghost use Rattle.re_judging.specs.LabelLines.{Gives, alone, labels_or, multiset_in, multisets_on, one_set, set_in, side_of, side_on};
 ghost use Rattle.re_problem.specs.ProblemTexts.{lines_of};
-ghost use Rattle.std.specs.Option.{option_and_then, option_map};
+ghost use Rattle.std.specs.Option.{option_and_then};
 ghost use Rattle.std.specs.Prelude.{◌≡◌, ◌≤◌, ◌<◌, ◌+◌, IsSome, Some, length};
 
 use re_cert::{has_labels, line_labels};
 use re_greedy::Partial;
+use re_io::MAX_BYTES;
 use re_labels::{LabelSet, Names, NoMemory, Side};
 use re_problem::{
     InputFault, ItemStep, TextFault, begins_section, cut_line, next_item, read_label,

@@ -1,10 +1,8 @@
 //! Parts of evidence that hold a number of levels of labels.
-ghost use Rattle.re_chains.specs.TwoTexts.{lines_behind, lines_to};
 ghost use Rattle.re_judging.specs.PartAnswers.{PartMeans};
-ghost use Rattle.re_judging.specs.PartVerdicts.{IsLength, IsLengthOf, IsLevelled, front_fault, front_problem, levels_fact, levels_line, levels_of, number_in};
+ghost use Rattle.re_judging.specs.PartVerdicts.{IsLength, IsLengthOf, IsLevelled, front_fault, levels_fact, levels_line, levels_of, number_in};
 ghost use Rattle.re_flexible.specs.Lengths.{IsFlexibility};
 ghost use Rattle.re_frame.specs.Outcomes.{outcome_of, refused as refused_with};
-ghost use Rattle.re_io.specs.declared.read.TheConstants.{MAX_BYTES};
 ghost use Rattle.re_problem.specs.NamedProblems.{unnamed};
 ghost use Rattle.re_problem.specs.ProblemTexts.{lines_of};
 ghost use Rattle.re_chains.specs.TwoTexts.{has_line};
@@ -14,6 +12,7 @@ use crate::types::{Fact, Judged, Part};
 use re_chains::{cut_at, read_problem_at};
 use re_flexible::{Flexibility, flexibility_of};
 use re_frame::{Output, begun, fault_output, push_number, push_words, refused};
+use re_io::MAX_BYTES;
 use re_labels::NoMemory;
 use re_problem::{InputFault, Problem, TextFault, cut_line, read_number};
 use std::alloc::Global;

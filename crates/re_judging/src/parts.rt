@@ -1,6 +1,5 @@
 //! What comes of a part of evidence, by what it holds.
 ghost use Rattle.re_judging.specs.PartVerdicts.{IsPart, kind_of};
-ghost use Rattle.re_io.specs.declared.read.TheConstants.{MAX_BYTES};
 ghost use Rattle.std.specs.Prelude.{◌≡◌, ◌≤◌, IfOk, length};
 
 use crate::bound_parts::{certificate_part, given_part};
@@ -10,6 +9,7 @@ use crate::greedy_parts::{GREEDY, greedy_part};
 use crate::level_parts::{LENGTH, length_part};
 use crate::types::{Judged, PartKind};
 use re_chains::has_line;
+use re_io::MAX_BYTES;
 use re_labels::NoMemory;
 use re_settings::GIVEN;
 use std::alloc::Global;

@@ -1,14 +1,14 @@
 //! What the word answers.
 ghost use Rattle.re_frame.specs.Outcomes.{outcome_of};
-ghost use Rattle.re_io.specs.declared.read.TheConstants.{MAX_BYTES};
 ghost use Rattle.re_settle.specs.Answers.{IsAnswer, MayGive};
 ghost use Rattle.re_settle.specs.Words.{IsSettleWord};
-ghost use Rattle.std.specs.Prelude.{◌≡◌, ◌≤◌, IfOk, length};
+ghost use Rattle.std.specs.Prelude.{◌≤◌, IfOk, length};
 
 use crate::classifying::settle;
 use crate::lines::settled_output;
 use crate::words::SettleWord;
 use re_frame::{Finding, Output, fault_output};
+use re_io::MAX_BYTES;
 use re_labels::NoMemory;
 use re_problem::{Problem, TextFault, read_problem};
 use std::alloc::Global;

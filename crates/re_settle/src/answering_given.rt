@@ -4,7 +4,6 @@ ghost use Rattle.re_frame.specs.Outcomes.{outcome_of, status_of};
 ghost use Rattle.re_frame.specs.Runs.{MaySay};
 ghost use Rattle.re_given.specs.Inputs.{IsInput};
 ghost use Rattle.re_given_words.specs.Counting.{walk_after};
-ghost use Rattle.re_io.specs.declared.read.TheConstants.{MAX_BYTES};
 ghost use Rattle.re_problem.specs.NamedProblems.{unnamed};
 ghost use Rattle.re_settle.specs.Words.{IsSettleWord};
 ghost use Rattle.re_settle.specs.GivenAnswers.{IsGivenAnswer, IsUntold, MayGiveBeside, MayGiveGiven, MaySettle};
@@ -16,6 +15,7 @@ use crate::settling_given::settle_given;
 use crate::words::SettleWord;
 use re_chains::{has_line, problem_chain};
 use re_frame::{Finding, Output, fault_output};
+use re_io::MAX_BYTES;
 use re_labels::NoMemory;
 use re_problem::{Problem, TextFault};
 use re_settings::{

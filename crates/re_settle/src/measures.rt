@@ -1,9 +1,9 @@
 //! How far the searches go, and how large the problems are from which they begin.
 ghost use Rattle.re_problem.specs.NamedProblems.{unnamed};
 ghost use Rattle.re_settle.specs.Measures.{IsSmall, coloured_steps, doublings, greatest_degree, longest_labels, longest_steps, shortest_labels, shortest_steps, size_of};
-ghost use Rattle.re_labels.specs.declared.constraint_table.TheConstants.{MAX_CONFIGURATIONS};
 ghost use Rattle.std.specs.Prelude.{◌≡◌, ◌↔◌, ◌*◌, ◌≤◌, IsTrue};
 
+use re_labels::MAX_CONFIGURATIONS;
 use re_problem::Problem;
 
 // How many configurations a problem has, active and passive ones together.

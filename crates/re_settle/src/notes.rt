@@ -1,8 +1,6 @@
 //! The last line of an answer: which labels trimming takes away.
 ghost use Rattle.re_forest_words.specs.Answers.{labels_text};
-ghost use Rattle.re_forests.specs.TrimmedSets.{trimmed_set};
 ghost use Rattle.re_labels.specs.Sets.{has};
-ghost use Rattle.re_problem.specs.NamedProblems.{unnamed};
 ghost use Rattle.re_texts.specs.SetTexts.{named_text};
 ghost use Rattle.re_settle.specs.Lines.{lost_from, note_line, note_of};
 ghost use Rattle.std.specs.Prelude.{◌≡◌, ◌+◌, ◌++◌, ◌≤◌, ◌<◌, ◌==◌, ◌||◌, OnOk, codes, length, if◌then◌else◌};

@@ -1,7 +1,6 @@
 //! What the word tells of a text piece by piece: what is claimed, as soon as nothing changes it, and then the rest.
 ghost use Rattle.re_chains.specs.TwoTexts.{has_line};
 ghost use Rattle.re_frame.specs.Outcomes.{outcome_of};
-ghost use Rattle.re_io.specs.declared.read.TheConstants.{MAX_BYTES};
 ghost use Rattle.re_settle.specs.Answers.{by_claim};
 ghost use Rattle.re_settle.specs.Pieces.{IsClaim, IsEnded, IsSure, MayFollow, MayTell, Says, front_of};
 ghost use Rattle.re_settle.specs.Words.{IsSettleWord};
@@ -14,6 +13,7 @@ use crate::lines::{by_claim, claim_text, rest_text};
 use crate::words::SettleWord;
 use re_chains::has_line;
 use re_frame::{Finding, Output, fault_output};
+use re_io::MAX_BYTES;
 use re_labels::NoMemory;
 use re_problem::{Problem, TextFault, read_problem};
 use re_settings::GIVEN;
